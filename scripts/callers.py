@@ -14,6 +14,7 @@ CRATES = (
     "example_lines",
     "example_dns_query",
     "example_tree",
+    "example_nodes",
     "example_records",
     "example_script",
 )
@@ -44,10 +45,10 @@ class Caller:
         for found in CALLED.finditer(body):
             of = self.type_of(body[receiver_start(body, found.start()) : found.start()])
             if of:
-                yield f"{of}::{found[1]}", found.start()
+                yield f"{self.known.owner(of, found[1])}::{found[1]}", found.start()
         for found in NAMED.finditer(body):
             of = self.known.type_named(found[1].removesuffix("::").split("::")[-1])
-            yield f"{of}::{found[2]}" if found[1] and of in self.known.types else found[2], found.start()
+            yield f"{self.known.owner(of, found[2])}::{found[2]}" if found[1] and of in self.known.types else found[2], found.start()
 
     def around(self, call):
         """The line that makes a call, between its neighbours in the body, or all of a shorter function but its clauses."""
@@ -88,11 +89,11 @@ class Known:
     """What the libraries' calls return, by type and name."""
 
     def __init__(self, crates):
-        self.returns, self.types, self.functions, self.aliases = {}, set(), {}, {}
+        self.returns, self.types, self.functions, self.aliases, self.forms = {}, set(), {}, {}, {}
         for crate in crates:
-            # A type is known by the alias that its crate gives it, and one of another crate by its own name.
-            pairs = ((of, alias) if of in crate.declared else (alias, of) for alias, of in crate.aliases.items() if alias in crate.names)
-            self.aliases.update(pairs)
+            # A form of a type is known by its alias, and a type of another crate by its own name.
+            for alias, of in ((alias, of) for alias, of in crate.aliases.items() if alias in crate.names):
+                (self.forms if of in crate.declared else self.aliases)[alias] = of
         for crate in crates:
             for it in crate.exports():
                 self.add(it)
@@ -119,7 +120,11 @@ class Known:
         return of if text == "Self" else self.type_named(text)
 
     def answers(self, of, name):
-        return of if name in ("by_ref", "unwrap", "expect", "ok") else self.returns.get((of, name))
+        return of if name in ("by_ref", "unwrap", "expect", "ok") else self.returns.get((self.owner(of, name), name))
+
+    def owner(self, of, name):
+        """The type that has a call: this, or what it is a form of."""
+        return of if (of, name) in self.returns else self.forms.get(of, of)
 
     def type_named(self, text):
         head = exports.head_of(text or "")

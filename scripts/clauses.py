@@ -4,12 +4,15 @@
 usage: scripts/clauses.py
 
 A clause that cites a relation has the fields of that too, as proofs cite them: `room.place`. The fields of a clause without a
-name stand alone. An impl and a trait have the names of their methods' clauses and of their ghost items.
+name stand alone. An impl and a trait have the names of their methods' clauses and of their ghost items. What each `ArrayVec` has
+stands there once more as of a `SliceVec`.
 
 `tests/docs` compares the lock with the sources. It names what the lock lacks, which this writes. It also names each clause that
-the sources lack, unless a line of the first part of CHANGELOG.md has it and its call in backticks, and each edit that is gone
-while its function is there. This keeps the names of both: where an edit is replaced, its name is removed by hand.
+the sources lack, unless a line of the first part of CHANGELOG.md has it and its call in backticks (of a call that is gone, the
+call alone), and each edit that is gone while its function is there. This keeps the names of both: where an edit is replaced, its
+name is removed by hand.
 """
+import copy
 import functools
 import re
 import sys
@@ -62,7 +65,8 @@ def kept(locked, current):
     gone = {line: [it for it in names if it not in current.get(line, ())] for line, names in locked.items()}
     for line, names in gone.items():
         if line.startswith("clauses "):
-            gone[line] = [it for it in names if not any({call_of(line), it.split(".")[-1]} <= row for row in told)]
+            needed = {it: {call_of(line), *[it.split(".")[-1]] * (line in current)} for it in names}
+            gone[line] = [it for it in names if not any(needed[it] <= row for row in told)]
         elif line not in there:
             gone[line] = []
     return {line: names for line, names in gone.items() if names}
@@ -89,7 +93,7 @@ def written(names):
 
 def found():
     """The names by call, as the sources have them, and the edits by function."""
-    names = {f"clauses {crate} {key}": sorted(set(it)) for crate in exports.LIBRARIES for key, it in stated(crate)}
+    names = {f"clauses {key}": sorted(set(it)) for crate in exports.LIBRARIES for key, it in stated(crate)}
     for line, edit in edited():
         names.setdefault(line, [])
         names[line] += [edit.name] if edit else []
@@ -99,14 +103,26 @@ def found():
 def stated(crate):
     """The public calls of a crate, each with the names of its clauses."""
     for export in exports.Crate(crate).exports():
-        scope = Scope.of(export.source.file)
-        if export.item.kind == "fn":
-            yield export.key(), clauses_of(export.item, scope)
-        members = list(exports.item_members(export.item))
-        for it in (it for it in members if it.kind == "fn"):
-            yield f"{export.key()}::{it.name}", clauses_of(it, scope)
-        ghosts = [GHOST.match(it.lines[0])[1] for it in members if it.kind == "ghost" and not reference.PROOFS.match(it.lines[0])]
-        yield from [(f"{export.key()}::ghost", ghosts)] * bool(ghosts)
+        found = [(key, list(names)) for key, names in stated_by(export)]
+        yield from found
+        for alias in export.also:
+            it = copy.copy(export)
+            it.of = re.sub(r"\w+$", alias, export.of)
+            yield from ((key.replace(export.key(), it.key(), 1), names) for key, names in found)
+
+
+def stated_by(export):
+    """The calls of one export, each with the names of its clauses."""
+    scope = Scope.of(export.source.file)
+    if export.item.kind == "fn":
+        yield export.key(), clauses_of(export.item, scope)
+    members = list(exports.item_members(export.item))
+    for it in (it for it in members if it.kind == "fn"):
+        yield f"{export.key()}::{it.name}", clauses_of(it, scope)
+    # The laws of a trait are promises, and those of an impl proofs.
+    is_proof = lambda line: line.startswith("ghost use") or export.kind == "impl" and reference.PROOFS.match(line)
+    ghosts = [GHOST.match(it.lines[0])[1] for it in members if it.kind == "ghost" and not is_proof(it.lines[0])]
+    yield from [(f"{export.key()}::ghost", ghosts)] * bool(ghosts)
 
 
 def clauses_of(item, scope):

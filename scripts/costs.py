@@ -10,6 +10,8 @@ class Cost:
         self.names = names.split()
 
     def said(self):
+        if self.allocates.startswith("only "):
+            return f"{self.time}. {self.allocates.capitalize()} allocate."
         return f"{self.time}. It {'never allocates' if self.allocates == 'never' else f'allocates {self.allocates}'}."
 
 

@@ -6,7 +6,6 @@ TOP = pathlib.Path(__file__).resolve().parent.parent
 LIBRARIES = (
     "tinyvec_slots",
     "tinyvec_array",
-    "tinyvec_slice",
     "tinyvec",
     "tinyvec_text",
     "tinyvec_io",
@@ -116,10 +115,11 @@ def item_members(item):
 
 
 class Export:
-    """What a caller can name: where it is, what it is called, and what is shown of it."""
+    """What a caller can name: where it is, what it is called, and what is shown of it. `also` are the aliases of a form of its type
+    that has it too, as `SliceVec` has what each `ArrayVec` has."""
 
-    def __init__(self, source, item, name, of=None, trait=None):
-        self.source, self.item, self.name, self.of, self.trait = source, item, name, of, trait
+    def __init__(self, source, item, name, of=None, trait=None, also=()):
+        self.source, self.item, self.name, self.of, self.trait, self.also = source, item, name, of, trait, also
         self.kind = "impl" if trait else "method" if of else item.kind
 
     def key(self):
@@ -140,9 +140,10 @@ class Crate:
         self.names, self.passed_on = {}, []
         self.export(())
         self.declared = {it.name: it for source in self.sources.values() for it in source.items if it.kind in TYPES}
-        self.aliases = {
-            it.name: head_of(re.search(r"= (.*);", it.signature())[1]) for it in self.declared.values() if it.kind == "type"
-        }
+        named = {it.name: re.search(r"= (.*);", it.signature())[1] for it in self.declared.values() if it.kind == "type"}
+        self.aliases = {alias: head_of(of) for alias, of in named.items()}
+        # The aliases that name a form of a type of this crate: `ArrayVec<&mut [T]>` is a `SliceVec`.
+        self.forms = {plain(of): alias for alias, of in named.items() if head_of(of) in self.declared}
 
     def export(self, module):
         """Exports what a module makes public."""
@@ -182,17 +183,25 @@ class Crate:
                     yield Export(source, item, item.name)
 
     def exports_of_impl(self, source, item):
-        trait, of, _ = impl_of(item)
+        trait, of, parameters = impl_of(item)
         names = [it for it in (trait and head_of(trait), head_of(of)) if it in self.declared]
         if all(it in self.names for it in names):
+            spoken, also = shortened(of, self.forms), tuple(self.also(of, parameters))
             if trait:
-                yield Export(source, item, head_of(trait), shortened(of, self.aliases), shortened(trait, self.aliases))
+                yield Export(source, item, head_of(trait), spoken, shortened(trait, self.forms), also)
             else:
-                yield from (
-                    Export(source, it, it.name, self.spoken(head_of(of)))
-                    for it in item.members()
-                    if it.kind == "fn" and it.is_public
-                )
+                yield from (Export(source, it, it.name, spoken, also=also) for it in item.members() if it.kind == "fn" and it.is_public)
+
+    def also(self, of, parameters):
+        """The aliases whose form has what an impl of a generic type has: its parameter is that of the form, whose traits suffice."""
+        bounds = {name: {head_of(it) for it in bound.split(" + ")} for name, bound in bounds_of(parameters)}
+        for form, alias in self.forms.items():
+            argument = re.search(r"<(.*)>$", form)[1]
+            impls = (impl_of(it) for source in self.sources.values() for it in source.items if it.kind == "impl")
+            traits = {"Drop"} | {head_of(trait) for trait, its, _ in impls if trait and plain(its) == argument}
+            parameter = re.fullmatch(rf"{head_of(form)}<(\w+)>", plain(of).lstrip("&").removeprefix("mut "))
+            if parameter and bounds.get(parameter[1], {""}) <= traits:
+                yield alias
 
     def lost(self):
         """What the sources export as far as a look at single lines tells, and what this did not find."""
@@ -210,10 +219,6 @@ class Crate:
         text = (TOP / "crates" / self.name / "src/lib.rt").read_text(encoding="utf-8")
         listed = {name for path, names in USED.findall(text) for name in re.findall(r"\w+", names)}
         yield from (f"crates/{self.name}/src/lib.rt: {it} is exported, and not found" for it in listed - self.names.keys() - {it for _, it in self.passed_on})
-
-    def spoken(self, name):
-        """The name of a type that callers use, where it is an alias."""
-        return next((alias for alias, it in self.aliases.items() if it == name), name)
 
 
 TYPES = ("struct", "enum", "trait", "type")
@@ -258,16 +263,27 @@ def head_of(type_):
 SHOWN_ARGUMENTS = ("From", "TryFrom", "PartialEq", "PartialOrd", "Extend", "FromIterator", "Index", "Borrow", "AsRef", "ItemText")
 
 
-def shortened(type_, aliases=()):
+def plain(type_):
+    """A type without its lifetimes."""
+    return re.sub(r"'\w+(?:, | ?)", "", type_)
+
+
+def bounds_of(parameters):
+    """The type parameters of an impl, each with its bound."""
+    while parameters:
+        one, _, parameters = split_top(parameters, ",")
+        name, _, bound = one.strip().partition(": ")
+        yield name, plain(bound).strip(" +")
+
+
+def shortened(type_, forms):
     """A type or trait as a heading names it: without lifetimes, and without the parameters of a library's own type."""
-    plain = re.sub(r"'\w+ ?", "", type_)
-    reference = re.match(r"(?:&(?:mut )?)*", plain)[0]
-    bare = plain.removeprefix(reference)
+    shown = plain(type_)
+    reference = re.match(r"(?:&(?:mut )?)*", shown)[0]
+    bare = shown.removeprefix(reference)
     if bare.startswith("["):
-        return plain
-    head = head_of(bare)
-    for alias, of in dict(aliases).items():
-        head = alias if head == of else head
+        return shown
+    head = forms.get(bare, head_of(bare))
     arguments = re.search(r"<(.*)>$", bare)
     # The arguments of `From` and the like tell impls of one type apart; those of a type do not.
     shows = arguments and head in SHOWN_ARGUMENTS

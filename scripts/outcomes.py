@@ -17,18 +17,33 @@ AFTER = re.compile(r"\.new\b|\.exit\b|^λ (?!_\.)")
 # A statement of more letters is left to its clause.
 LONGEST = 130
 
+# The words of generic code as a caller writes them that names the vector's type.
+BY_NAME = [
+    (re.compile(pattern), word)
+    for pattern, word in (
+        (r"view_capacity (\S+) \(tiny_view_of (?:\w+\.Slots )?([^()\s]+)\)", r"tiny_capacity \1 \2"),
+        (r"view_len \(tiny_view_of (?:\w+\.Slots )?([^()\s]+)\)", r"tiny_len \1"),
+        (r"view_inline \(tiny_view_of (?:\w+\.Slots )?([^()\s]+)\)", r"is_inline \1"),
+        (r"ViewInline \(tiny_view_of (?:\w+\.Slots )?([^()\s]+)\)", r"IsInline \1"),
+        (r"\b(tiny_(?:items|spare|len|view)|items|spare|view)_of (?:\w+\.Slots )?", r"\1 "),
+        (r"\blen_of (?:\w+\.Slots )?([^()\s]+)", r"length (items \1)"),
+        (r"\bslots_of A\.Slots ", "all_slots "),
+        (r"\bslots_of (?:S\.Slots )?", "slots "),
+    )
+]
+
 # Facts as English says them.
 PHRASES = [
     (re.compile(pattern), english)
     for pattern, english in (
-        (r"(?:self|vec)\.new ≡ (?:self|vec)\.old|Unchanged self\.old self\.new", "nothing changes"),
+        (r"(?:self|vec)\.new ≡ (?:self|vec)\.old|Unchanged \(tiny_view self\.old\) \(tiny_view self\.new\)", "nothing changes"),
         (r"other\.new ≡ other\.old", "`other` is unchanged"),
         (r"(?:tiny_)?items self\.new ≡ (?:tiny_)?items self\.old", "the list is unchanged"),
         (r"list_of (\(?.*)self\.new\)? ≡ list_of \1self\.old\)?", "the list is unchanged"),
-        (r"items_len self\.(?:old|new) ≡ A\.CAPACITY", "the list is full"),
-        (r"spare_of B\.Lent self\.new ≡ \[\]", "the list is full"),
+        (r"spare self\.new ≡ \[\]|length \(spare self\.old\) ≡ 0", "the list is full"),
+        (r"length \(items self\.new\) ≡ length \(slots self\.new\)", "the list is full"),
         (r"tiny_len self\.(old|new) ≡ tiny_capacity A\.CAPACITY self\.\1", "the list is full"),
-        (r"(?:items|tiny)_len self(?:\.old|\.now)? ≡ 0", "the list is empty"),
+        (r"(?:length \(items self\.old\)|tiny_len self(?:\.old|\.now)?) ≡ 0", "the list is empty"),
         (r"text_len self\.entry ≡ 0", "the text is empty"),
         (r"IsInline self(?:\.old|\.now)?", "the list is inline"),
         (r"is_inline self(?:\.old|\.now)? ≡ false", "the list is on the heap"),
@@ -44,7 +59,7 @@ PHRASES = [
             r"\(x : \S+\) → slice_get .* ≡ Some x → FnOnceTakesAtMut F\.FnOnce (\w+) x",
             "`{}` may be called with the last item, if there is one",
         ),
-        (r"SpliceCanNext I\.can_next(?:_back)? self(?:\.old)?", "the replacement may be iterated"),
+        (r"SpliceCanNext \w+\.Slots I\.can_next(?:_back)? self(?:\.old)?", "the replacement may be iterated"),
         (r"FusedFinite I\.remaining \(splice_replacement self\)", "the replacement ends"),
         (r"\w+\.IsAlwaysCallable (\w+)(?:\.old)?", "`{}` may be called with each argument, again and again"),
         (r"\(it : (\w+)\.IntoIter\) → \1\.into_iter_gives (\w+) it → \1\.IntoIter\.can_next it", "`{1}` may be iterated"),
@@ -172,7 +187,7 @@ class Outcomes:
         if not self.can_fail():
             reason = f"the clause `{self.always}` says so" if self.always else "it returns no `Result`"
             return f"- *Cannot fail*: {reason}.\n"
-        premises = [frozenset(top_split(text, " → ")) for _, _, text in self.never]
+        premises = [frozenset(english(bare(it)) for it in top_split(text, " → ")) for _, _, text in self.never]
         kept = [it for it, own in zip(self.never, premises) if not any(other < own for other in premises)]
         cases = dict.fromkeys(f"if {condition(text, path)}" for path, _, text in kept)
         if cases:
@@ -214,11 +229,17 @@ def outcome(fact):
 
 
 def english(fact):
-    fact = tidy(fact)
+    fact = tidy(by_name(fact))
     for pattern, said in PHRASES:
         if found := pattern.fullmatch(fact):
             return said.format(*(bare(it or "") for it in found.groups()))
     return f"`{fact}`"
+
+
+def by_name(fact):
+    for pattern, word in BY_NAME:
+        fact = pattern.sub(word, fact)
+    return fact
 
 
 def listed(names):

@@ -20,10 +20,10 @@ TOP = exports.TOP
 FOLDER = TOP / "docs/reference"
 MARK = "<!-- scripts/reference.py writes what follows -->"
 
-# The crate of each page, and the type whose methods are named without it.
+# The crate of each page, and the type whose methods are named without it. Of a crate of two pages the first has what is of no other's.
 PAGES = {
     "ARRAY_VEC": ("tinyvec_array", "ArrayVec"),
-    "SLICE_VEC": ("tinyvec_slice", "SliceVec"),
+    "SLICE_VEC": ("tinyvec_array", "SliceVec"),
     "TINY_VEC": ("tinyvec", "TinyVec"),
     "INLINE_TEXT": ("tinyvec_text", "InlineText"),
     "BORSH": ("tinyvec_borsh", None),
@@ -47,11 +47,14 @@ ORDER = ("TINY_VEC", "ARRAY_VEC", "SLICE_VEC", "INLINE_TEXT", "BORSH", "COUNTED"
 SECTIONS = (
     *("form", "serialize", "deserialize", "making", "capacity", "reading", "writing", "edits", "extending", "drain"),
     *("splice", "filters", "extracting", "clones", "taking", "call", "command", "runs", "driving", "array", "tiny", "lent"),
-    *("script", "into_iter", "owned", "no_room", "no_memory", "capacity_error", "try_from_slice_error", "from_utf8_error"),
+    *("script", "storage", "into_iter", "owned", "no_room", "no_memory", "capacity_error", "try_from_slice_error", "from_utf8_error"),
     "borsh_error",
     *("array_vec", "tiny_vec", "inline_text", "numbers", "traits", "parts"),
 )
+# The modules whose section is another's.
+TOGETHER = {"array": "storage", "bound": "storage", "takes_clones": "storage"}
 TITLES = {
+    "storage": "What a vector is over",
     "making": "Making one",
     "edits": "Pushing, inserting, removing",
     "extending": "Growing",
@@ -75,7 +78,7 @@ TITLES = {
 # Ghost items that are proofs. A reader needs the definitions beside them.
 PROOFS = re.compile(
     r"ghost (?:use\b|(?:coded|inverse|inverse_ok|laws|total|matches_\w+|respects_eq|kept_\w+|grown_\w+|cut_grown|moved|written"
-    r"|part_written|slots_written|name_kept|slots_of_slots|of_slots_slots|code|spelled|apart)\b)"
+    r"|part_written|slots_written|rewritten|name_kept|count_of|counted|same|code|spelled|apart)\b)"
 )
 # What precedes the clauses of a declaration, or the functions of an impl.
 CONTRACT = re.compile(r"(?:\n +(?:requires|ensures\*?|ghost|fn)\b| (?=(?:requires|ensures\*?) (?:\w+ )?\{))")
@@ -183,7 +186,7 @@ class Library:
         self.passed_on = {it for crate in self.crates for it in crate.passed_on}
         self.passed_on |= {(self.crates[0].name, it) for crate in self.crates for it in crate.aliases.values()}
         by_crate = {it.name: [Entry(export) for export in it.exports()] for it in self.crates}
-        self.pages = {page: by_crate[crate] for page, (crate, _) in PAGES.items()}
+        self.pages = {page: [it for it in by_crate[crate] if page_of(crate, it) == page] for page, (crate, _) in PAGES.items()}
         self.keys = {it.key() for found in self.pages.values() for it in found}
         for it in (it for found in self.pages.values() for it in found):
             it.is_part = self.is_part(it)
@@ -211,9 +214,10 @@ class Library:
         calls, traits = {}, {}
         for page in COLUMNS:
             main = main_of(page)
-            for it in (it for it in self.pages[page] if it.of == main and not it.is_part):
+            shown = ((home, it) for home, found in self.pages.items() for it in found if not it.is_part)
+            for home, it in (pair for pair in shown if main == pair[1].of or main in pair[1].also and not pair[1].of.startswith("&")):
                 rows, name = (traits, it.trait) if it.trait else (calls, it.name)
-                rows.setdefault(name, {})[page] = f"[✓]({page}.md#{it.anchor(main)})"
+                rows.setdefault(name, {})[page] = f"[✓]({home}.md#{it.anchor(main_of(home))})"
         heads = " | ".join(f"[`{main_of(it)}`]({it}.md)" for it in COLUMNS)
         lines = []
         for title, rows in (("Call", calls), ("Trait", traits)):
@@ -234,6 +238,13 @@ class Library:
 
 def page_title(page):
     return (FOLDER / f"{page}.md").read_text(encoding="utf-8").partition("\n")[0].removeprefix("# ")
+
+
+def page_of(crate, export):
+    """The page of an export: that of its type, or the first of the crate."""
+    found = [page for page, (of, _) in PAGES.items() if of == crate]
+    named = (export.of or export.name).lstrip("&").removeprefix("mut ")
+    return next((page for page in found if main_of(page) and named.startswith(main_of(page))), found[0])
 
 
 def is_call(key):
@@ -300,7 +311,7 @@ class Entry(exports.Export):
         return [it for it in self.item.members() if it.kind == "ghost" and not PROOFS.match(it.lines[0])]
 
     def section(self, main):
-        stem = self.source.file.stem
+        stem = TOGETHER.get("/".join(self.source.module), self.source.file.stem)
         of = re.sub(r"^&(?:mut )?", "", self.of or self.name)
         if self.is_part:
             return "parts"
@@ -309,7 +320,7 @@ class Entry(exports.Export):
         if self.kind == "method":
             return self.own_section() if of == main and stem == snake(main) else stem
         # An impl for a type of std is of the type that its trait names.
-        is_own = main and (of in (main, f"Generic{main}") or main in (self.trait or ""))
+        is_own = main and (of == main or main in (self.trait or ""))
         return "traits" if is_own else stem
 
     def own_section(self):
@@ -448,7 +459,8 @@ class Page:
         """What it is called as, what it does, a caller, and its contract, which is folded."""
         yield f"\n### {it.heading(self.main)}\n"
         code, twin, instead = it.code(), *self.twin(it)
-        head = CONTRACT.split(code, maxsplit=1)[0]
+        # A comment at its end is of what follows.
+        head = re.sub(r"(?:\n +//[^\n]*)+$", "", CONTRACT.split(code, maxsplit=1)[0])
         yield f"\n```\n{head}\n```\n"
         yield from (f"\n{said}\n" for said in it.prose() if self.is_new(said))
         yield from self.aliased(it) if it.kind == "type" else ()
@@ -462,15 +474,21 @@ class Page:
             yield f"\n<details><summary>Contract</summary>\n\n```\n{code}\n```\n\n</details>\n"
 
     def aliased(self, it):
-        """The calls and traits of the type that an alias names."""
+        """The calls and traits of the type that an alias names, as a table if these are in several sections."""
         of = exports.head_of(re.search(r"= (.*);", it.item.signature())[1])
-        links = []
-        for page, found in self.library.pages.items():
-            main = main_of(page)
-            place = "" if page == self.name else f"{page}.md"
-            its = (one for one in found if not one.is_part and of in (one.of, one.name))
-            links += [f"[`{one.trait or one.name}`]({place}#{one.anchor(main)})" for one in its]
-        yield from [f"\nIts type, calls and traits: {', '.join(links)}.\n"] if links else ()
+        is_form = any(it.name in crate.forms.values() for crate in self.library.crates)
+        has = lambda one: one.name == of or it.name in (one.of, *one.also) or one.of == of and not is_form
+        rows = []
+        for page in (self if it == self.name else Page(self.library, it) for it in self.library.pages):
+            place = "" if page is self else f"{page.name}.md"
+            for section in page.order:
+                its = (one for one in page.sections[section] if not one.is_part and has(one))
+                links = [f"[`{one.trait or one.name}`]({place}#{one.anchor(page.main)})" for one in its]
+                rows += [(f"[{page.title(section)}]({place}#{anchor(page.title(section))})", ", ".join(links))] if links else []
+        if len(rows) > 2:
+            yield "\n| Its type, calls and traits | |\n|---|---|\n" + "".join(f"| {title} | {links} |\n" for title, links in rows)
+        elif rows:
+            yield f"\nIts type, calls and traits: {', '.join(links for _, links in rows)}.\n"
 
     def facts(self, it):
         """What a call requires, when it fails and when it cannot, and what it costs."""

@@ -8,7 +8,7 @@ import rows
 
 TABLE = exports.TOP / "tests/requests.txt"
 # The types of these hold no allocator, so only a call that is passed one may request memory.
-WITHOUT_ALLOCATOR = ("tinyvec_slots", "tinyvec_array", "tinyvec_slice")
+WITHOUT_ALLOCATOR = ("tinyvec_slots", "tinyvec_array")
 # The forms of numbers and lists are those of the traits.
 FORMS = ("BorshSerialize", "BorshDeserialize")
 

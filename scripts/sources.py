@@ -29,7 +29,7 @@ SPACE = re.compile(r"[\s(){}\[\];,.\":`]+")
 IMPORT = re.compile(r"^( *)(pub(?:\([a-z]+\))? )?(?:ghost |unfoldable )?use ([^;{\n]*(?:\{[^;]*?\})?[^;{}\n]*);?$", re.M)
 HEAD = re.compile(r"^\S.*", re.M)
 MODEL = re.compile(r"impl\b.*\bModel for\b")
-FUNCTION = re.compile(r"\bfn (\w+)")
+MEMBER = re.compile(r"(?:\bfn|^ +const) (\w+)", re.M)
 TRAIT = re.compile(r"^pub(?:\([a-z]+\))? trait (\w+).*?^}", re.M | re.S)
 
 # The name of a definition behind what declares it, the first line of an answer to a goal, and what has definitions inside.
@@ -68,7 +68,8 @@ PLANTED = (
     ("src/e.rt", "ghost use A.{b};\n\nimpl C {\n    ghost use A.{b};\n}\n", f"an item imports b, {AT_TOP}"),
     ("src/f.rt", "//! Items that are inserted.\npub fn push() {}\n", "its header says inserted, and it has no insert"),
     ("src/g.rt", "//! Items that are inserted.\npub fn insert() {}\n", ""),
-    ("src/h.rt", "//! The trait `Gone`.\npub trait Here {}\n", "its header names Gone, which is nowhere"),
+    ("src/h.rt", "//! The trait `Gone`.\npub trait Here {\n    const MOST: usize;\n}\n", "its header names Gone, which is nowhere"),
+    ("src/i.rt", "use h::Here;\n\nfn f() { g(T::MOST); }\n", ""),
 )
 AMBIGUOUS = edits.Edit("planted", "ambiguous", (edits.Change("src/a.rt", "x", "y"),), False, "")
 
@@ -242,8 +243,8 @@ class Workspace:
 
     @functools.cached_property
     def traits(self):
-        """The functions of each trait, as a pattern."""
-        return {it[1]: "|".join(FUNCTION.findall(it[0])) for text in self.code() for it in TRAIT.finditer(text)}
+        """The functions and constants of each trait, as a pattern."""
+        return {it[1]: "|".join(MEMBER.findall(it[0])) for text in self.code() for it in TRAIT.finditer(text)}
 
     @functools.cached_property
     def public(self):

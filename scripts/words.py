@@ -1,6 +1,6 @@
 #!/usr/bin/env -S python3 -B
 """Writes docs/reference/WORDS.md: each word that a contract of the reference cites, what it means, and an example. A word that
-the definition of such a word cites is told too, if it has an example.
+the definition of such a word cites, or a caller in the reference, is told too, if it has an example.
 
 usage: scripts/words.py
 
@@ -48,11 +48,20 @@ def faults():
     yield from (f"{EXAMPLES}: no contract of the reference cites `{name}` of {path}" for path, name in words.examples if (path, name) not in words.cited)
 
 
+def words_of_caller(caller):
+    """The words of the libraries that the contract of a caller cites, which names the types of its vectors."""
+    known = exports.imported((TOP / caller.path).read_text(encoding="utf-8"))
+    clauses = re.findall(r"^ *(?:requires|ensures).*?(?=^ *(?:requires|ensures|\{$))", caller.text, re.M | re.S)
+    cited = (known[it] for it in dict.fromkeys(re.findall(r"[^\s(){}.,;:\[\]]+", "".join(clauses))) if it in known)
+    return [it for it in cited if it[0].split(".")[0] in exports.LIBRARIES and re.fullmatch(r"[\w-]+", it[1]) and not reference.NO_WORDS.search(it[0])]
+
+
 class Words:
     """The words that contracts cite, with their definitions and examples."""
 
     def __init__(self):
-        found = [it for entries in reference.Library().pages.values() for it in entries if not it.is_part]
+        library = reference.Library()
+        found = [it for entries in library.pages.values() for it in entries if not it.is_part]
         self.cited = dict.fromkeys(word for it in found for word in it.words())
         self.examples = {}
         for file in sorted(TOP.glob(f"{EXAMPLES}/*.antt")):
@@ -61,6 +70,7 @@ class Words:
             of = lambda path, name: (path, name) if path else known.get(name, (file.stem, name))
             for path, said, _, name, shown in EXAMPLE.findall(text):
                 self.examples[of(path, name)] = (file, said and f"{said}: ", plain(" ".join(shown.split())))
+        self.cited.update(dict.fromkeys(word for it in library.callers.values() for word in words_of_caller(it) if word in self.examples))
         self.define()
         for path, name in [it for it in self.cited if it in self.defined]:
             known = exports.imported(source_of(path).read_text(encoding="utf-8"))

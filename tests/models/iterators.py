@@ -1,11 +1,11 @@
 """What the iterators of vectors yield, step by step, and what they leave: drains, splices, extracted items, and owned ones."""
 import math
 
-from models.vector_calls import OWNERS, SLICE, calls
+from models.vector_calls import IN_SLOTS, OWNERS, calls
 from models.vectors import OPERANDS, drawn_steps
 
 ENDS = ["next", "next", "back", "left", "debug"]
-OPERANDS["DRAIN"] = lambda draw, v: drawn_steps(*(ENDS if v.kind != "SliceVec" else ["next", "next", "hint", "debug"]))(draw, v)
+OPERANDS["DRAIN"] = drawn_steps(*ENDS)
 OPERANDS["EXTRACT"] = drawn_steps("next", "hint")
 OPERANDS["SPLICE"] = drawn_steps(*ENDS, "touches", last=["stop"])
 OPERANDS["OWNED"] = drawn_steps(*ENDS, "slice", "clone", "nth:N", "nth_back:N", last=["last", "count"])
@@ -19,8 +19,8 @@ def taken(items, step):
 def look(v, left, step, name):
     """What a step answers that looks at what is left."""
     if step in ("debug", "slice", "clone"):
-        return v.shown(left) if step == "slice" else f"{v.kind}{name}({v.shown(left)})"
-    return "(0, None)" if step == "hint" else f"({len(left)}, ({len(left)}, Some({len(left)})))"
+        return v.shown(left) if step == "slice" else f"{name}({v.shown(left)})"
+    return f"({len(left)}, ({len(left)}, Some({len(left)})))"
 
 
 def stepped(v, left, step, name):
@@ -38,10 +38,10 @@ def removed(v, span):
 @calls("drain R DRAIN")
 def drain(v, span, steps):
     left = removed(v, span)
-    return " ".join(stepped(v, left, step, "Drain") for step in steps)
+    return " ".join(stepped(v, left, step, f"{v.kind}Drain") for step in steps)
 
 
-calls("drain_each R", SLICE)(lambda v, span: v.shown(removed(v, span)))
+calls("drain_each R", IN_SLOTS)(lambda v, span: v.shown(removed(v, span)))
 calls("drain_into R L")(lambda v, span, moved: v.shown(moved + removed(v, span)))
 
 
@@ -61,7 +61,7 @@ def extract_if(v, span, closure, more, steps):
 
 @calls("into_iter OWNED", OWNERS)
 def into_iter(v, steps):
-    left, said = v.list, []
+    left, said, shown = v.list, [], f"{v.kind}Iterator"
     for step in steps:
         name, _, skipped = step.partition(":")
         if skipped:
@@ -69,7 +69,7 @@ def into_iter(v, steps):
             step = "next" if name == "nth" else "back"
         left = left[:]
         said.append(
-            str(len(left)) if step == "count" else v.some(left[-1:]) if step == "last" else stepped(v, left, step, "Iterator")
+            str(len(left)) if step == "count" else v.some(left[-1:]) if step == "last" else stepped(v, left, step, shown)
         )
     v.made([])
     return " ".join(said)
@@ -105,9 +105,9 @@ class Splice:
         return rest
 
 
-@calls("splice R L SPLICE", OWNERS)
+@calls("splice R L SPLICE")
 def splice(v, span, new, steps):
-    driven, said = Splice(v, span, new), []
+    driven, said, name = Splice(v, span, new), [], "TinyVecSplice" if v.kind == "TinyVec" else "ArrayVecSplice"
     for step in steps:
         if step in ("next", "back"):
             said.append(v.some(driven.step(step)))
@@ -115,12 +115,12 @@ def splice(v, span, new, steps):
             v.becomes(driven.front + driven.back)
             return " ".join([*said, v.shown(driven.new)])
         else:
-            said.append(str(driven.touches) if step == "touches" else look(v, driven.left, step, "Splice"))
+            said.append(str(driven.touches) if step == "touches" else look(v, driven.left, step, name))
     rest = driven.finish()
     return " ".join([*said, f"refused {v.item.shown(rest[0])}" if rest else str(driven.touches)])
 
 
-@calls("splice_all R L", OWNERS)
+@calls("splice_all R L")
 def splice_all(v, span, new):
     rest = Splice(v, span, new).finish()
     return f"refused {v.item.shown(rest[0])}" if rest else ""

@@ -3,8 +3,8 @@ from models.calls import Calls, listed, spelled
 from models.vectors import DOUBLES, EXACTLY, FOR, MOST, OPERANDS
 
 # Vectors that some calls belong to.
-ARRAY, SLICE, TINY = ["ArrayVec"], ["SliceVec"], ["TinyVec"]
-IN_SLOTS, OWNERS = ARRAY + SLICE, ARRAY + TINY
+ARRAY, TINY = ["ArrayVec"], ["TinyVec"]
+IN_SLOTS, OWNERS = [*ARRAY, "SliceVec"], ARRAY + TINY
 # What vectors hold that other calls belong to.
 NUMBERS, BYTES = ["i32", "u8"], ["u8"]
 
@@ -77,7 +77,7 @@ calls("size")(
 calls("push X")(lambda v, x: put(v, len(v.list), x))
 calls("push_mut X X")(lambda v, x, y: lent(v, len(v.list), x, y))
 calls("insert I X")(put)
-calls("insert_mut I X X", OWNERS)(lent)
+calls("insert_mut I X X")(lent)
 calls("try_push X", IN_SLOTS)(lambda v, x: v.some([x] if put(v, len(v.list), x) is None else []))
 calls("try_insert I X", IN_SLOTS)(lambda v, i, x: v.some([x] if put(v, i, x) is None else []))
 calls("pop")(lambda v: v.some(take(v, max(len(v.list) - 1, 0))))
@@ -142,16 +142,16 @@ def append(v, other):
 calls("extend L")(lambda v, new: v.refused(v.pushes(new)))
 calls("fill L", IN_SLOTS)(lambda v, new: v.shown(v.pushes(new)))
 calls("extend_from_slice L")(appends)
-calls("try_extend_from_slice L", ARRAY)(lambda v, new: "TooLong" if appends(v, new) is None else "")
-calls("extend_from_slice_copy L", OWNERS, NUMBERS)(lambda v, new: v.gains(new))
+calls("try_extend_from_slice L", IN_SLOTS)(lambda v, new: "TooLong" if appends(v, new) is None else "")
+calls("extend_from_slice_copy L", held=NUMBERS)(lambda v, new: v.gains(new))
 calls("extend_exact_size L", TINY)(lambda v, new: v.gains(new))
 calls("extend_from_within R")(lambda v, span: appends(v, v.list[span[0] : span[1]]))
 calls("replace_range R L", held=NUMBERS)(replace_range)
 calls("resize N X")(resize)
 calls("resize_with N M")(resize_with)
 calls("append OTHER")(append)
-calls("try_append OTHER", ARRAY)(lambda v, other: other.state() if append(v, other) is None else "")
-calls("append_if_fits OTHER", ARRAY)(lambda v, other: (append(v, other), other.state())[1])
+calls("try_append OTHER", IN_SLOTS)(lambda v, other: other.state() if append(v, other) is None else "")
+calls("append_if_fits OTHER", IN_SLOTS)(lambda v, other: (append(v, other), other.state())[1])
 calls("clone_from OTHER", OWNERS)(
     lambda v, other: v.becomes(other.list[:]) if v.clones(other.list) and v.makes_room(len(other.list)) else None
 )
@@ -253,8 +253,8 @@ def into_vec(v, tell=lambda v, room: f"{v.shown(v.list)} {room}"):
         return v.is_now(v.empty()) or said
 
 
-calls("drain_to_vec", ARRAY)(drained)
-calls("drain_to_vec_and_reserve N", ARRAY)(drained)
+calls("drain_to_vec", IN_SLOTS)(drained)
+calls("drain_to_vec_and_reserve N", IN_SLOTS)(drained)
 calls("reserve ROOM", TINY)(reserve)
 calls("reserve_exact ROOM", TINY)(lambda v, more: reserve(v, more, EXACTLY))
 calls("move_to_the_heap", TINY)(move_to_the_heap)

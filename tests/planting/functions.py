@@ -6,6 +6,9 @@ import re
 
 import exports
 
+# A type one of whose parameters has a default.
+WITH_DEFAULT = re.compile(r"^(?:pub )?(?:struct|enum) (\w+)<.*=", re.M)
+
 
 @dataclasses.dataclass(frozen=True)
 class Function:
@@ -20,6 +23,8 @@ class Function:
     body: int
     end: int
     macros: tuple[tuple[int, int], ...]
+    # Whether the type has a parameter with a default, which a block does not write: a check then names those that it does.
+    has_default: bool
 
     def is_at(self, file, offset):
         ranges = ((self.start, self.end), *self.macros)
@@ -31,7 +36,7 @@ class Function:
             return "::".join([*modules_of(self.file), self.name])
         if self.is_of_trait():
             return "::".join([*modules_of(self.file), flat(self.type) + flat(self.trait), self.name])
-        if has_plain_parameters(self.type):
+        if has_plain_parameters(self.type) and not self.has_default:
             return f"{plain_name(self.type)}::{self.name}"
         return "::".join([*modules_of(self.file), "+".join(words_of(self.type)), self.name])
 
@@ -52,11 +57,12 @@ class Function:
 
 def of_crate(folder):
     """The functions of a formatted crate."""
-    files = sorted((folder / "src").rglob("*.rt"))
-    return [it for file in files for it in of_file(str(file.relative_to(folder)), file.read_text(encoding="utf-8"))]
+    texts = {str(it.relative_to(folder)): it.read_text(encoding="utf-8") for it in sorted((folder / "src").rglob("*.rt"))}
+    defaults = {name for text in texts.values() for name in WITH_DEFAULT.findall(text)}
+    return [it for file, text in texts.items() for it in of_file(file, text, defaults)]
 
 
-def of_file(file, text):
+def of_file(file, text, defaults):
     starts = [0, *itertools.accumulate(map(len, text.splitlines(keepends=True)))]
     items = list(exports.items_in(text.splitlines(), 1))
     macros = {it.name: span(it, starts) for it in items if it.kind == "macro_rules!"}
@@ -70,7 +76,8 @@ def of_file(file, text):
                 at = it.at - 1 + head - (it.lines[head:][:1] != ["{"])
                 body = text.rindex("{", starts[at], starts[at + 1])
                 called = tuple(place for name, place in macros.items() if re.search(rf"\b{name}!", text[body:end]))
-                found.append(Function(file, it.name, type_, trait, start, body, end, called))
+                has_default = bool(type_) and plain_name(type_) in defaults
+                found.append(Function(file, it.name, type_, trait, start, body, end, called, has_default))
     return found
 
 
@@ -98,7 +105,7 @@ def plain_name(text):
 
 
 def words_of(text):
-    """The words by which a check tells the types of one name apart, as in `GenericSliceVec+mut+slice+T`."""
+    """The words by which a check tells the types of one name apart, as in `ArrayVec+mut+slice+T`."""
     return re.findall(r"\w+", re.sub(r"'\w+", "", text).replace("[", "slice "))
 
 

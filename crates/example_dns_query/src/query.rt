@@ -2,15 +2,15 @@
 ghost use Rattle.std.specs.Prelude.{◌≡◌, ◌≢◌, ◌+◌, ◌<◌, ◌≤◌, ◌↔◌, ◌++◌, length, drop, ◌==◌, All, IsTrue, OnOk, IfOk, IsOk, OnErr, Some, None, Err};
 ghost use Rattle.std.specs.List.{flat_map};
 ghost use Rattle.std.specs.Option.{option_copied};
-ghost use Rattle.tinyvec_slice.specs.SliceVec.{spare, name};
-ghost use Rattle.tinyvec_slice.specs.Appends.{Appends};
+ghost use Rattle.tinyvec_array.specs.SliceVec.{spare, name};
+ghost use Rattle.tinyvec_array.specs.Appends.{Appends};
 ghost use Rattle.example_dns_query.specs.Message.{two_bytes, header, type_and_class, query};
 ghost use Rattle.example_dns_query.specs.Name.{IsPrinted, IsLabel, IsName, SpellsOnly, body_of as body_in, labels_in, labels_of, first_fault, label_wire, name_wire};
 ghost use Rattle.example_dns_query.specs.declared.query.QueryError.TheVariants.{BadByte, EmptyLabel, LongLabel, LongName, Full};
 
 use crate::parts::first_part;
 use crate::record_type::{RecordType, code};
-use tinyvec_slice::SliceVec;
+use tinyvec_array::SliceVec;
 
 // Recursion is desired. There is one question, and no record in the three other sections.
 const FLAGS_AND_COUNTS: [u8; 10] = [1, 0, 0, 1, 0, 0, 0, 0, 0, 0];

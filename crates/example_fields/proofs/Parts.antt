@@ -1,12 +1,15 @@
 -- What a step of the loop does to the parts of a line.
 use Rattle.std.proofs.Common.{◌≡◌, ◌≢◌, ◌∙◌, ℕ, suc, ◌+◌, ◌-◌, ◌<◌, ◌≤◌, ◌==◌, false, eq-eqb, List, [], ◌∷◌, ◌++◌, All, ap, sym, refl, map, length, drop, get_or, slice_range, arith, add-one, append-nil, append_assoc, drop-cons, length-append}
 use Rattle.std.proofs.Math.ListN.{drop_of_length-le}
-use Rattle.std.proofs.lemmas.List.{map-append, length-map, get_or-drop, get_or-take}
+use Rattle.std.proofs.lemmas.List.{map-append, length-map, get_or-drop, get_or-take, take-append-drop}
 use Rattle.std.proofs.lemmas.List.Elements.{All-from_get_or}
 use Rattle.std.proofs.lemmas.List.Folds.{drop_split}
 use Rattle.std.proofs.lemmas.List.Splits.{slice_split_at, slice_split_none, length-slice_split}
 use Rattle.std.proofs.lemmas.Grind.{common_steps}
 use Rattle.std.proofs.lemmas.Bool.{ne_eqb}
+use Rattle.tinyvec_array.specs.ArrayVec.{items, items_len, spare}
+use Rattle.tinyvec_array.specs.declared.array_vec.ArrayVec.{ArrayVec}
+use Rattle.tinyvec_array.specs.declared.bound.UpTo.{UpTo}
 use Rattle.example_fields.specs.declared.Field.{Field}
 use Rattle.example_fields.specs.Fields.{bytes_of, parts}
 
@@ -70,3 +73,7 @@ fewer s line rest fields so_far =
     let joined = length-append (map (bytes_of line) fields) (parts s rest) in
     let mapped = length-map fields (bytes_of line) in
     omega arith
+
+-- the fields and the spare slots are all slots
+pub are_all : (v : ArrayVec (List Field) (UpTo 8)) → items_len v + length (spare v) ≡ length v.slots
+are_all v = sym (length-append (items v) (spare v)) ∙ ap length (take-append-drop v.len.len v.slots)

@@ -2,7 +2,7 @@
 #![tactic(auto)]
 
 ghost use Rattle.std.specs.Prelude.{◌≡◌, ◌≢◌, ◌<◌, ◌↔◌, ◌++◌, ◌∷◌, [], map, length, All, IfSome, IsNone};
-ghost use Rattle.tinyvec_array.specs.Slots.{items};
+ghost use Rattle.tinyvec_array.specs.ArrayVec.{items};
 ghost use Rattle.example_fields.specs.Fields.{bytes_of, parts, IsIn};
 
 use tinyvec_array::ArrayVec;

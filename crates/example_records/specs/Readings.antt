@@ -1,7 +1,7 @@
 -- A reading: the number of a station, up to eight samples, and a note, one after the other in the Borsh form.
 use Rattle.std.specs.Prelude.{ℕ, ◌-◌, ◌^◌, ◌<◌, List}
 use Rattle.std.proofs.Common.{lit<}
-use Rattle.tinyvec_slots.specs.Slots.{items}
+use Rattle.tinyvec_array.specs.ArrayVec.{items}
 use Rattle.tinyvec.specs.TinyVec.{tiny_items}
 use Rattle.tinyvec_borsh.specs.declared.borsh_error.BorshError.{BorshError}
 use Rattle.tinyvec_borsh.specs.declared.borsh_error.BorshError.TheVariants.{Ended, InvalidLength}

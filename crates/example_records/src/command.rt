@@ -1,7 +1,7 @@
 //! The commands of the program.
 ghost use Rattle.std.specs.Prelude.{◌≡◌, ◌↔◌, ◌-◌, ◌^◌, ℕ, List, Err, codes, length, map, min, IfErr, IfOk, OnErr, IsTrue, IsUtf8, string_bytes};
 ghost use Rattle.std.specs.Option.{option_copied};
-ghost use Rattle.tinyvec_slots.specs.Slots.{items};
+ghost use Rattle.tinyvec_array.specs.ArrayVec.{items};
 ghost use Rattle.example_records.specs.Commands.{Answers, AreSamples, Commands, HasTag, IsCommand, IsMemoryOr, IsRecord, IsTold, Says, Tells};
 ghost use Rattle.example_records.specs.Commands.{behind_comma, part_of, rest_of, word_of};
 ghost use Rattle.example_records.specs.Errors.{end_text};

@@ -1,13 +1,12 @@
 //! Callers of lists of calls, and of splices that a word of ends drives.
 ghost use Rattle.std.specs.Prelude.{◌≡◌, [], ◌∷◌, pos, IfOk, OnErr};
-ghost use Rattle.tinyvec.specs.Slots.{items};
-ghost use Rattle.tinyvec_slice.specs.SliceVec.{name};
+ghost use Rattle.tinyvec_array.specs.ArrayVec.{items};
+ghost use Rattle.tinyvec_array.specs.SliceVec.{name};
 
 use std::alloc::{AllocError, Global};
 use tinyvec::{ArrayVec, SliceVec, TinyVec};
 use tinyvec_script::{
-    Answer, Call, Driven, End, drive_array_splice, drive_tiny_splice, run_array, run_slice,
-    run_tiny,
+    Answer, Call, Driven, End, drive_array_splice, drive_tiny_splice, run_array, run_tiny,
 };
 
 /// The answers of a vector in an array, or an error, if there is no memory for them.
@@ -30,7 +29,7 @@ pub fn answers_of_slice(
     ensures same_reference { name v.new ≡ name v.old }
     ensures refused { OnErr result (v.new ≡ v.old) }
 {
-    Ok(run_slice(alloc, v, calls)?)
+    Ok(run_array(alloc, v, calls)?)
 }
 
 /// The same of a vector that may move to the heap.

@@ -5,6 +5,7 @@ use Rattle.std.proofs.lemmas.List.Elements.{All-append, All-cons, All-nil, All-s
 use Rattle.std.proofs.lemmas.List.{map-set, length-map, take_more}
 use Rattle.tinyvec.specs.TinyVec.{tiny_items}
 use Rattle.tinyvec.specs.declared.tiny_vec.TinyVec.{TinyVec}
+use Rattle.tinyvec_array.specs.declared.bound.UpTo.{UpTo}
 use Rattle.example_tree.specs.Tree.{leaf, leaf_value, leaves, value, flat}
 use Rattle.example_tree.specs.Nodes.{Form, leaf_form, sum_form, product_form, form_at, form, forms, children, terms_at, factors, factors_at, IsOrdered, IsDoneAt, Flattens, tree_to}
 use Rattle.example_tree.specs.declared.node.Node.{Node}
@@ -46,7 +47,7 @@ module _ (fs : List Form) (id : ℕ) (ids now : List ℕ) (inside : id < length 
       (reading_after fs id ids now inside here is ordered (leaf_value names) total times total_law)
 
 -- the sum with this id was written out
-module _ (nodes : List Node) (id : ℕ) (ids : List ℕ) (terms : TinyVec (List ℕ) ℕ) (inside : id < length nodes) (here : form_at (forms nodes) id ≡ sum_form ids)
+module _ (nodes : List Node) (id : ℕ) (ids : List ℕ) (terms : TinyVec (List ℕ) ℕ (UpTo 4)) (inside : id < length nodes) (here : form_at (forms nodes) id ≡ sum_form ids)
     (is : tiny_items terms ≡ terms_at (forms nodes) id) (ordered : IsOrdered (forms nodes)) where
   abbrev pub written : List Node
   written = set nodes id (Joined Sum terms)

@@ -7,7 +7,7 @@ use Rattle.std.proofs.lemmas.List.Elements.{AllZip-push, length_all_zip}
 use Rattle.std.specs.Prelude.{All, OnOk, OnErr, IsOk, if◌then◌else◌, is_ok}
 use Rattle.std.specs.List.{AllZip, AppendsClones}
 use Rattle.tinyvec_slots.specs.Clones.{RefusedAt}
-use Rattle.tinyvec_slots.specs.Slots.{Slots, items, items_len, spare, all_slots}
+use Rattle.tinyvec_slots.specs.Slots.{Slots, items_len, spare, all_slots}
 use Rattle.tinyvec_slots.proofs.BorderLemmas.{spare_from}
 use Rattle.tinyvec_slots.proofs.ClonesOverLemmas.{AllZip-cut, all_granted}
 use borrow.Rule.Slice.PartMut.{post_of}

@@ -1,13 +1,12 @@
 -- Lemmas on items asked of an iterator by loops, one of which goes on where the other ended.
-use Rattle.std.proofs.Common.{◌≡◌, ℕ, ◌+◌, ◌≤◌, List, [], ◌∷◌, ◌++◌, Option, Some, Result, Ok, Err, length, take, drop, take_at, length-append, length-drop, append_assoc, refl, sym, ap, subst, ◌∙◌, arith, rules}
-use Rattle.std.proofs.lemmas.List.{same_lists, places, drop_at}
+use Rattle.std.proofs.Common.{◌≡◌, ℕ, ◌+◌, ◌≤◌, List, [], ◌∷◌, ◌++◌, Option, Some, Result, Ok, Err, length, take, drop, take_at, length-append, append_assoc, refl, sym, ap, subst, ◌∙◌, arith}
+use Rattle.std.proofs.lemmas.List.{drop_at}
 use Rattle.std.specs.Prelude.{MatchResult, IsOk, IfErr, OnOk, OnErr}
 use Rattle.std.specs.declared.iter.Iterator as Iterator
 use Rattle.std.specs.Iterator.{Count, Yields, YieldsThen, Drains, AlwaysYields}
 use Rattle.tinyvec_slots.specs.Filling.{ShowsItems}
 use Rattle.tinyvec_slots.specs.declared.no_room.NoRoom.{NoRoom}
 use Rattle.tinyvec.specs.Following.{Follows, FillsRoom}
-use Rattle.tinyvec_slots.specs.Slots.{Slots, items, items_len, spare, all_slots, with_spare}
 use Rattle.tinyvec_slots.proofs.FillingLemmas.{drained, refused, drained_all, refused_early}
 
 module _ {S A : Type 0} (steps : S → Option A → S → Type 0) where
@@ -51,19 +50,13 @@ pub can_go_on : {S A X : Type 0} (can : S → Type 0) (left : S → Count) (s : 
 can_go_on can left s old new (Ok _) h = tt
 can_go_on can left s old new (Err e) h = h.0
 
--- The spare slots were written, and xs stands over the first of them. The border was moved behind xs.
-module _ {T : Type 0} (v : Slots T) (xs ws : List T) (len : ℕ) (few : length xs ≤ length (spare v))
-    (is : ws ≡ xs ++ drop (length xs) (spare v)) (more : len ≡ items_len v + length xs) where
-  written : all_slots (with_spare v ws) ≡ (items v ++ xs) ++ drop (length xs) (spare v)
-  written =
-      let long : length ws ≡ length (spare v) = ap length is ∙ length-append xs (drop (length xs) (spare v)) ∙ omega (arith, few, length-drop (length xs) (spare v)) in
-      same_lists _ _ (search (rules, places, long)) (λ k d h. grind (arith, places, long)) ∙ ap (λ l. items v ++ l) is ∙ sym (append_assoc (items v) xs (drop (length xs) (spare v)))
+-- What follows `front` was written, and xs stands over the first of it. The border was moved behind xs.
+module _ {T : Type 0} (front back xs ws : List T) (len : ℕ) (is : ws ≡ xs ++ drop (length xs) back) (more : len ≡ length front + length xs) where
+  written : front ++ ws ≡ (front ++ xs) ++ drop (length xs) back
+  written = ap (λ l. front ++ l) is ∙ sym (append_assoc front xs (drop (length xs) back))
 
-  front : length (items v ++ xs) ≡ len
-  front = length-append (items v) xs ∙ sym more
+  pub items_filled : take len (front ++ ws) ≡ front ++ xs
+  items_filled = ap (take len) written ∙ take_at (front ++ xs) (drop (length xs) back) len (length-append front xs ∙ sym more)
 
-  pub items_filled : take len (all_slots (with_spare v ws)) ≡ items v ++ xs
-  items_filled = ap (take len) written ∙ take_at (items v ++ xs) (drop (length xs) (spare v)) len front
-
-  pub spare_filled : drop len (all_slots (with_spare v ws)) ≡ drop (length xs) (spare v)
-  spare_filled = ap (drop len) written ∙ drop_at (items v ++ xs) (drop (length xs) (spare v)) len front
+  pub spare_filled : drop len (front ++ ws) ≡ drop (length xs) back
+  spare_filled = ap (drop len) written ∙ drop_at (front ++ xs) (drop (length xs) back) len (length-append front xs ∙ sym more)

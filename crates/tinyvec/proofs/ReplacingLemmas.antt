@@ -2,9 +2,8 @@
 use Rattle.std.proofs.Common.{◌≡◌, ◌∙◌, ℕ, ◌+◌, ◌-◌, ◌<◌, ◌≤◌, List, ◌++◌, take, drop, length, length-drop, length-take-le, Result, Ok, inl, inr, sym, subst, arith}
 use Rattle.std.proofs.lemmas.Bool.{cases_lt}
 use Rattle.tinyvec_slots.specs.Replacing.{PutsBetween}
-use Rattle.tinyvec.specs.TinyVec.{tiny_len, is_inline, tiny_capacity, PlaceRule, TinySlotRule, Becomes, IsInline}
+use Rattle.tinyvec.specs.View.{TinyView, view_len, view_inline, ViewInline, view_capacity, PlaceRule, TinySlotRule, Becomes}
 use Rattle.tinyvec.specs.Room.{GrowsFor, RoomGrows, MakesRoom}
-use Rattle.tinyvec.specs.declared.tiny_vec.TinyVec.{TinyVec}
 use Rattle.tinyvec.proofs.TinyLemmas.{capacity_inline}
 use Rattle.tinyvec.proofs.FrameLemmas.{on_ok}
 
@@ -16,30 +15,30 @@ replaced room start end put old new result le inside fits puts =
     let ahead = length-take-le start old (omega (arith, le, inside)) in
     (puts.1 (omega (arith, ahead, length-drop end old, le, inside, fits))).1
 
-module _ {A T : Type 0} (slots n : ℕ) (old mid new : TinyVec A T) (fits : tiny_len old ≤ tiny_capacity slots old)
-    (long : tiny_len new ≤ tiny_len old + n) (exact : 0 < n → tiny_len new ≡ tiny_len old + n) where
+module _ {T : Type 0} (slots n : ℕ) (old mid new : TinyView T) (fits : view_len old ≤ view_capacity slots old)
+    (long : view_len new ≤ view_len old + n) (exact : 0 < n → view_len new ≡ view_len old + n) where
   -- as many items as the call made room for fit where its result does
-  as_many : (room : ℕ) → tiny_len old ≤ room → tiny_len new ≤ room → tiny_len old + n ≤ room
+  as_many : (room : ℕ) → view_len old ≤ room → view_len new ≤ room → view_len old + n ≤ room
   as_many room few le =
       elim (cases_lt 0 n) [
         | inl more ↦ omega (arith, exact more, le)
         | inr none ↦ omega (arith, none, few)
       ]
 
-  replaced_place : PlaceRule slots (tiny_len old + n) old mid → is_inline new ≡ is_inline mid → PlaceRule slots (tiny_len new) old new
+  replaced_place : PlaceRule slots (view_len old + n) old mid → view_inline new ≡ view_inline mid → PlaceRule slots (view_len new) old new
   replaced_place first same = (
     (λ i. let both = first.0 (sym same ∙ i) in (both.0, omega (arith, long, both.1))),
     λ h. same ∙ first.1 (h.0, as_many slots (omega (arith, fits, capacity_inline slots old h.0)) h.1),
   )
 
   pub replaced_room : {X E Y F : Type 0} {xs : List T} (D : T → Type 0) (r : Result X E) (y : Y)
-      → (IsInline mid → mid ≡ old) → MakesRoom {E = F} GrowsFor D slots (tiny_len old + n) old mid (Ok y) → Becomes D slots mid new xs
-      → RoomGrows GrowsFor D slots (tiny_len new) old new r
+      → (ViewInline mid → mid ≡ old) → MakesRoom {E = F} GrowsFor D slots (view_len old + n) old mid (Ok y) → Becomes D slots mid new xs
+      → RoomGrows GrowsFor D slots (view_len new) old new r
   replaced_room D r y kept made stays = record {
     place = on_ok r (replaced_place made.place stays.place);
     slot_rule = on_ok r (λ i j. subst (λ v. TinySlotRule D v new) (kept (sym stays.place ∙ j)) stays.slot_rule i j);
     capacity = omega (arith, made.capacity, stays.capacity);
-    same_room = λ le. stays.capacity ∙ made.same_room (as_many (tiny_capacity slots old) fits le);
+    same_room = λ le. stays.capacity ∙ made.same_room (as_many (view_capacity slots old) fits le);
     grown = on_ok r (λ less. stays.capacity ∙ subst (λ k. GrowsFor slots k old mid) (sym (exact (omega (arith, less, long, fits)))) made.grown less);
     fits = stays.fits;
   }

@@ -1,17 +1,27 @@
 -- Lemmas on the list, the spare slots and the place.
-use Rattle.std.proofs.Common.{◌≡◌, ℕ, ◌+◌, ◌-◌, ◌<◌, ◌≤◌, replicate, [], ◌∷◌, length, drop, ◌++◌, refl, sym, ap, subst, ◌∙◌, length-set, length-drop, slice_set, insert, remove, All, arith, rules}
+use Rattle.std.proofs.Common.{Vec, Global, vec_capacity, ◌≡◌, ℕ, ◌+◌, ◌-◌, ◌<◌, ◌≤◌, replicate, [], ◌∷◌, length, drop, ◌++◌, refl, sym, ap, subst, ◌∙◌, length-set, length-drop, slice_set, insert, remove, All, arith, rules}
 use Rattle.std.specs.Prelude.{OnOk, OnErr, IsErr, IfOk, Result, Ok, Err}
 use Rattle.std.proofs.lemmas.List.{drop-drop, nil_from_length, length_push}
 use Rattle.std.proofs.lemmas.List.Edits.{length-insert, length-remove}
 use Rattle.std.proofs.lemmas.List.Elements.{All-drop, All-nil}
 use Rattle.tinyvec_slots.specs.Slots.{Slots, AreDefaults, Vacates, SlotRule, items, items_len, spare}
 use Rattle.tinyvec_slots.proofs.SlotsLemmas.{slots_used, slots_freed, defaults_are, items-with_slot, spare-with_slot}
-use Rattle.tinyvec.specs.View.{Place, in_array, on_heap, lies_inline, capacity_in}
-use Rattle.tinyvec.specs.TinyVec.{tiny_view, place_of, tiny_items, tiny_len, tiny_spare, is_inline, IsInline, TinySlotRule, SameFrame, Unchanged}
+use Rattle.tinyvec.specs.View.{in_array, on_heap, Place, lies_inline, capacity_in, TinyView, view_len, view_inline, ViewInline, TinySlotRule, SameFrame, Unchanged}
+use Rattle.tinyvec_array.specs.ArrayVec.{view_of, items_of, slots_of}
+use Rattle.tinyvec_array.proofs.ViewLemmas.{view_of-at}
+use Rattle.tinyvec_array.specs.declared.storage.Slots as Storage
+use Rattle.tinyvec.specs.TinyVec.{tiny_items_of, tiny_len_of}
 use Rattle.tinyvec.specs.Lends.{tiny_with_item}
-pub use Rattle.tinyvec.specs.FrameLaws.{capacity_inline, SameFrame-refl, tiny_items-with, tiny_framed-with, tiny_slots_framed, tiny_slots_then_framed}
 use Rattle.tinyvec.specs.declared.tiny_vec.TinyVec.{TinyVec}
 use Rattle.tinyvec.specs.declared.tiny_vec.TinyVec.TheVariants.{Inline, Heap}
+pub use Rattle.tinyvec.specs.FrameLaws.{FrameOf, capacity_inline, SameFrame-refl, tiny_items-with, tiny_framed-with, tiny_slots_framed, tiny_slots_then_framed}
+
+-- what is seen of an array, and of a list on the heap
+abbrev pub array_view : {T : Type 0} → Slots T → TinyView T
+array_view v = record { items = items v; spare = spare v; place = in_array }
+
+abbrev pub heap_view : {T : Type 0} → Vec T Global → TinyView T
+heap_view v = record { items = v.items; spare = []; place = on_heap (vec_capacity v) }
 
 -- two places that are both in the array, or both on the heap with one capacity
 pub same_place : (slots : ℕ) (p q : Place) → lies_inline q ≡ lies_inline p → capacity_in slots q ≡ capacity_in slots p → q ≡ p
@@ -21,11 +31,11 @@ same_place slots (on_heap m) in_array same room = absurd (let no = same in cc)
 same_place slots (on_heap m) (on_heap n) same room = ap on_heap room
 
 -- what did not change looks the same
-pub view_unchanged : {A T : Type 0} (old new : TinyVec A T) → Unchanged old new → tiny_view new ≡ tiny_view old
-view_unchanged old new h i = record { items = h.items i; spare = h.spare i; place = same_place 0 (place_of old) (place_of new) h.place (h.capacity 0) i }
+pub view_unchanged : {T : Type 0} (old new : TinyView T) → Unchanged old new → new ≡ old
+view_unchanged old new h i = record { items = h.items i; spare = h.spare i; place = same_place 0 old.place new.place h.place (h.capacity 0) i }
 
-module _ {A T : Type 0} where
-  pub SameFrame-then : (u v w : TinyVec A T) → SameFrame u v → SameFrame v w → SameFrame u w
+module _ {T : Type 0} where
+  pub SameFrame-then : (u v w : TinyView T) → SameFrame u v → SameFrame v w → SameFrame u w
   SameFrame-then u v w h k = record {
     len = k.len ∙ h.len;
     spare = k.spare ∙ h.spare;
@@ -33,16 +43,17 @@ module _ {A T : Type 0} where
     capacity = λ slots. k.capacity slots ∙ h.capacity slots;
   }
 
+module _ {A T L : Type 0} (g : Storage.Ghosts A T L) where
   -- a write of one item writes that item
-  pub tiny_items-with_item : (v : TinyVec A T) (i : ℕ) (x : T) → i < tiny_len v → tiny_items (tiny_with_item v i x) ≡ slice_set (tiny_items v) i x
-  tiny_items-with_item (Inline v alloc) i x h = items-with_slot v i x h
+  pub tiny_items-with_item : (v : TinyVec A T L) (i : ℕ) (x : T) → i < tiny_len_of g v → tiny_items_of g (tiny_with_item g v i x) ≡ slice_set (tiny_items_of g v) i x
+  tiny_items-with_item (Inline v alloc) i x h = ap items (view_of-at g v (slice_set (slots_of g v) i x)) ∙ items-with_slot (view_of g v) i x h
   tiny_items-with_item (Heap v) i x h = refl
 
   -- and leaves spare slots, place and room
-  pub tiny_framed-with_item : (v : TinyVec A T) (i : ℕ) (x : T) → i < tiny_len v → SameFrame v (tiny_with_item v i x)
+  pub tiny_framed-with_item : (v : TinyVec A T L) (i : ℕ) (x : T) → i < tiny_len_of g v → FrameOf g v (tiny_with_item g v i x)
   tiny_framed-with_item (Inline v alloc) i x h = record {
-    len = ap length (items-with_slot v i x h) ∙ length-set (items v) i x;
-    spare = spare-with_slot v i x h;
+    len = ap length (tiny_items-with_item (Inline v alloc) i x h) ∙ length-set (items_of g v) i x;
+    spare = ap spare (view_of-at g v (slice_set (slots_of g v) i x)) ∙ spare-with_slot (view_of g v) i x h;
     place = refl;
     capacity = λ slots. refl;
   }
@@ -59,53 +70,53 @@ module _ {T : Type 0} (D : T → Type 0) (old new : Slots T) where
   pub slots_removed : (i : ℕ) → i < items_len old → items new ≡ remove (items old) i → Vacates D 1 old new → SlotRule D old new
   slots_removed i in_list is = slots_freed D old new 1 (sym (ap (λ l. length l + 1) is ∙ length-remove (items old) i in_list))
 
-module _ {A T : Type 0} (D : T → Type 0) where
+module _ {T : Type 0} (D : T → Type 0) where
   -- a list that used up k spare slots
-  pub slots_taken : (old new : TinyVec A T) (k : ℕ) → tiny_len new ≡ tiny_len old + k → tiny_spare new ≡ drop k (tiny_spare old) → TinySlotRule D old new
+  pub slots_taken : (old new : TinyView T) (k : ℕ) → view_len new ≡ view_len old + k → new.spare ≡ drop k old.spare → TinySlotRule D old new
   slots_taken old new k len behind i j =
-      let none : tiny_len old - tiny_len new ≡ 0 = omega arith in
-      let more : tiny_len new - tiny_len old ≡ k = omega arith in
-      ([], (sym none, All-nil D), behind ∙ ap (λ n. drop n (tiny_spare old)) (sym more))
+      let none : view_len old - view_len new ≡ 0 = omega arith in
+      let more : view_len new - view_len old ≡ k = omega arith in
+      ([], (sym none, All-nil D), behind ∙ ap (λ n. drop n old.spare) (sym more))
 
   -- and what a list that got no shorter used up
-  pub taken : (old new : TinyVec A T) → tiny_len old ≤ tiny_len new → TinySlotRule D old new → IsInline old → IsInline new
-      → tiny_spare new ≡ drop (tiny_len new - tiny_len old) (tiny_spare old)
+  pub taken : (old new : TinyView T) → view_len old ≤ view_len new → TinySlotRule D old new → ViewInline old → ViewInline new
+      → new.spare ≡ drop (view_len new - view_len old) old.spare
   taken old new le rule i j =
       let h = rule i j in
-      h.2 ∙ ap (λ ds. ds ++ drop (tiny_len new - tiny_len old) (tiny_spare old)) (nil_from_length h.0 (omega (arith, h.1.0, le)))
+      h.2 ∙ ap (λ ds. ds ++ drop (view_len new - view_len old) old.spare) (nil_from_length h.0 (omega (arith, h.1.0, le)))
 
   -- an empty inline list among defaults was made longer: what is left of them
-  pub defaults_left : (slots : ℕ) (old new : TinyVec A T) → tiny_items old ≡ [] → IsInline old → AreDefaults D slots (tiny_spare old)
-      → TinySlotRule D old new → IsInline new → AreDefaults D (slots - tiny_len new) (tiny_spare new)
+  pub defaults_left : (slots : ℕ) (old new : TinyView T) → old.items ≡ [] → ViewInline old → AreDefaults D slots old.spare
+      → TinySlotRule D old new → ViewInline new → AreDefaults D (slots - view_len new) new.spare
   defaults_left slots old new none inline made rule still =
-      let zero : tiny_len old ≡ 0 = ap length none in
-      let n = tiny_len new - tiny_len old in
+      let zero : view_len old ≡ 0 = ap length none in
+      let n = view_len new - view_len old in
       let is = taken old new (omega (arith, zero)) rule inline still in
-      (ap length is ∙ length-drop n (tiny_spare old) ∙ omega (arith, made.0, zero), subst (All D) (sym is) (All-drop D n (tiny_spare old) made.1))
+      (ap length is ∙ length-drop n old.spare ∙ omega (arith, made.0, zero), subst (All D) (sym is) (All-drop D n old.spare made.1))
 
   -- the slot rule of a call that first made room, and then made the list longer by k
-  pub tiny_slots_grown : (old mid new : TinyVec A T) (k : ℕ) → (IsInline mid → mid ≡ old) → is_inline new ≡ is_inline mid
-      → tiny_len new ≡ tiny_len mid + k → tiny_spare new ≡ drop k (tiny_spare mid) → TinySlotRule D old new
+  pub tiny_slots_grown : (old mid new : TinyView T) (k : ℕ) → (ViewInline mid → mid ≡ old) → view_inline new ≡ view_inline mid
+      → view_len new ≡ view_len mid + k → new.spare ≡ drop k mid.spare → TinySlotRule D old new
   tiny_slots_grown old mid new k stays place len behind i j =
       subst (λ v. TinySlotRule D v new) (stays (sym place ∙ j)) (slots_taken mid new k len behind) i j
 
   -- the slot rule over two calls, one after the other, that make the list longer
-  pub tiny_slots_then : (a b c : TinyVec A T) → (IsInline c → IsInline b) → tiny_len a ≤ tiny_len b → tiny_len b ≤ tiny_len c
+  pub tiny_slots_then : (a b c : TinyView T) → (ViewInline c → ViewInline b) → view_len a ≤ view_len b → view_len b ≤ view_len c
       → TinySlotRule D a b → TinySlotRule D b c → TinySlotRule D a c
   tiny_slots_then a b c place le more g h i k =
-      let first = tiny_len b - tiny_len a in
-      let second = tiny_len c - tiny_len b in
-      let both : first + second ≡ tiny_len c - tiny_len a = omega arith in
-      slots_taken a c (tiny_len c - tiny_len a) (omega arith)
-      (taken b c more h (place k) k ∙ ap (drop second) (taken a b le g i (place k)) ∙ drop-drop second first (tiny_spare a) ∙ ap (λ n. drop n (tiny_spare a)) both) i k
+      let first = view_len b - view_len a in
+      let second = view_len c - view_len b in
+      let both : first + second ≡ view_len c - view_len a = omega arith in
+      slots_taken a c (view_len c - view_len a) (omega arith)
+      (taken b c more h (place k) k ∙ ap (drop second) (taken a b le g i (place k)) ∙ drop-drop second first a.spare ∙ ap (λ n. drop n a.spare) both) i k
 
   module _ (c : T) (only : (x : T) → D x → x ≡ c) where
     -- the slot rule where the item's `Default` answers one value only
-    pub tiny_slots_only : (old new : TinyVec A T) → IsInline old → IsInline new → TinySlotRule D old new
-        → tiny_spare new ≡ replicate (tiny_len old - tiny_len new) c ++ drop (tiny_len new - tiny_len old) (tiny_spare old)
+    pub tiny_slots_only : (old new : TinyView T) → ViewInline old → ViewInline new → TinySlotRule D old new
+        → new.spare ≡ replicate (view_len old - view_len new) c ++ drop (view_len new - view_len old) old.spare
     tiny_slots_only old new i j rule =
         let h = rule i j in
-        h.2 ∙ ap (λ ds. ds ++ drop (tiny_len new - tiny_len old) (tiny_spare old)) (defaults_are D c only (tiny_len old - tiny_len new) h.0 h.1)
+        h.2 ∙ ap (λ ds. ds ++ drop (view_len new - view_len old) old.spare) (defaults_are D c only (view_len old - view_len new) h.0 h.1)
 
 -- two facts of a call that succeeded
 pub on_ok_two : {T E P Q R : Type 0} (r : Result T E) → OnOk r P → OnOk r Q → (P → Q → R) → OnOk r R

@@ -3,54 +3,57 @@ use Rattle.std.specs.Prelude.{◌≡◌, ℕ, ◌+◌, ◌-◌, ◌≤◌, List,
 use Rattle.std.specs.Borrow.{GName}
 use Rattle.std.specs.List.{remove_range}
 use Rattle.tinyvec_slots.specs.AnyDrain.{Steps, StepsBack, TakesAnyWord}
-use Rattle.tinyvec.specs.TinyVec.{tiny_items, tiny_len, Becomes, SameFrame}
+use Rattle.tinyvec_array.specs.declared.storage.Slots as Storage
+use Rattle.tinyvec.specs.View.{Becomes, SameFrame}
+use Rattle.tinyvec.specs.TinyVec.{tiny_items_of, tiny_len_of, tiny_view_of}
 use Rattle.tinyvec.specs.declared.tiny_vec.TinyVec.{TinyVec}
 use Rattle.tinyvec.specs.declared.drain.TinyVecDrain.{TinyVecDrain}
 
-module _ {A T : Type 0} where
-  -- the remaining items
-  abbrev pub drain_items : TinyVecDrain A T → List T
-  drain_items d = slice_range (tiny_items d.vec.now) d.front d.back
-
+module _ {A T L : Type 0} where
   -- `d.len()`
-  abbrev pub drain_len : TinyVecDrain A T → ℕ
+  abbrev pub drain_len : TinyVecDrain A T L → ℕ
   drain_len d = d.back - d.front
 
-  -- the list of the vector once d is dropped
-  abbrev pub drain_kept : TinyVecDrain A T → List T
-  drain_kept d = remove_range (tiny_items d.vec.now) d.start (d.start + d.gap)
-
   -- the vector while it is drained
-  abbrev pub drain_vec : TinyVecDrain A T → TinyVec A T
+  abbrev pub drain_vec : TinyVecDrain A T L → TinyVec A T L
   drain_vec d = d.vec.now
 
   -- the ghost name of the reference to the vector
-  abbrev pub drain_lender : TinyVecDrain A T → GName
+  abbrev pub drain_lender : TinyVecDrain A T L → GName
   drain_lender d = d.vec.ghost_name
 
+module _ {A T L : Type 0} (g : Storage.Ghosts A T L) where
+  -- the remaining items
+  abbrev pub drain_items : TinyVecDrain A T L → List T
+  drain_items d = slice_range (tiny_items_of g d.vec.now) d.front d.back
+
+  -- the list of the vector once d is dropped
+  abbrev pub drain_kept : TinyVecDrain A T L → List T
+  drain_kept d = remove_range (tiny_items_of g d.vec.now) d.start (d.start + d.gap)
+
   -- the remaining items are in the range, and the range is in the list
-  abbrev pub DrainCanStep : TinyVecDrain A T → Type 0
-  DrainCanStep d = (d.start ≤ d.front) × (d.back ≤ d.start + d.gap) × (d.start + d.gap ≤ tiny_len d.vec.now)
+  abbrev pub DrainCanStep : TinyVecDrain A T L → Type 0
+  DrainCanStep d = (d.start ≤ d.front) × (d.back ≤ d.start + d.gap) × (d.start + d.gap ≤ tiny_len_of g d.vec.now)
 
   -- what d leaves when it is dropped
-  abbrev pub DrainLeaves : (T → Type 0) → ℕ → TinyVecDrain A T → TinyVec A T → Type 0
-  DrainLeaves D slots d new = Becomes D slots (drain_vec d) new (drain_kept d)
+  abbrev pub DrainLeaves : (T → Type 0) → ℕ → TinyVecDrain A T L → TinyVec A T L → Type 0
+  DrainLeaves D slots d new = Becomes D slots (tiny_view_of g (drain_vec d)) (tiny_view_of g new) (drain_kept d)
 
   -- old and new borrow the same vector, and leave it the same
-  pub record DrainKeeps (old new : TinyVecDrain A T) : Type 0 where
+  pub record DrainKeeps (old new : TinyVecDrain A T L) : Type 0 where
     pub same_reference : drain_lender new ≡ drain_lender old
     pub kept : drain_kept new ≡ drain_kept old
-    pub frame : SameFrame (drain_vec old) (drain_vec new)
+    pub frame : SameFrame (tiny_view_of g (drain_vec old)) (tiny_view_of g (drain_vec new))
     pub ready : DrainCanStep old → DrainCanStep new
 
   -- `next` took old to new, and returned the first item
-  abbrev pub DrainSteps : TinyVecDrain A T → Option T → TinyVecDrain A T → Type 0
+  abbrev pub DrainSteps : TinyVecDrain A T L → Option T → TinyVecDrain A T L → Type 0
   DrainSteps = Steps drain_items DrainKeeps
 
   -- `next_back` took old to new, and returned the last item
-  abbrev pub DrainStepsBack : TinyVecDrain A T → Option T → TinyVecDrain A T → Type 0
+  abbrev pub DrainStepsBack : TinyVecDrain A T L → Option T → TinyVecDrain A T L → Type 0
   DrainStepsBack = StepsBack drain_items DrainKeeps
 
   -- any calls of `next` and `next_back` take from the two ends of the remaining items
-  abbrev pub DrainsFromEnds : TinyVecDrain A T → Type 0
+  abbrev pub DrainsFromEnds : TinyVecDrain A T L → Type 0
   DrainsFromEnds = TakesAnyWord drain_items DrainKeeps

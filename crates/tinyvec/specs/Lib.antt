@@ -11,9 +11,10 @@ pub use Rattle.tinyvec_slots.specs.Fused
 pub use Rattle.tinyvec_slots.specs.AnySplice
 pub use Rattle.tinyvec_slots.specs.SplicedByWord
 pub use Rattle.tinyvec_slots.specs.Replacing
-pub use Rattle.tinyvec_array.specs.Splice
+pub use Rattle.tinyvec_array.specs.ArrayVec
+pub use Rattle.tinyvec_array.specs.SliceVec
 pub use Rattle.tinyvec_array.specs.IntoIter
-pub use Rattle.tinyvec_slice.specs.SliceVec
+pub use Rattle.tinyvec_array.specs.Splice
 pub mod View
 pub mod TinyVec
 pub mod Lends

@@ -1,24 +1,32 @@
 -- The laws of a splice of a `TinyVec`: what its calls leave of spare slots, place and room.
 use Rattle.std.proofs.Common.{◌≡◌, ℕ, ◌≤◌, List, length, refl, sym, ap, ◌∙◌, arith}
-use Rattle.tinyvec.specs.TinyVec.{tiny_items, tiny_len, is_inline, tiny_capacity, Becomes, StaysInPlace, SameFrame}
+use Rattle.tinyvec_array.specs.declared.storage.Slots as Storage
+use Rattle.tinyvec.specs.View.{Place, in_array, on_heap, lies_inline, capacity_in, TinyView, view_len, view_inline, view_capacity, Becomes, StaysInPlace, SameFrame}
+use Rattle.tinyvec.specs.TinyVec.{tiny_items_of, tiny_len_of}
 use Rattle.tinyvec.specs.Lends.{tiny_with_items}
 use Rattle.tinyvec.specs.Room.{Grows}
 use Rattle.tinyvec.specs.TinyVecSplice.{items_moved}
-use Rattle.tinyvec.specs.FrameLaws.{tiny_items-with, tiny_framed-with, tiny_slots_framed, tiny_slots_then_framed, place_kept}
+use Rattle.tinyvec.specs.FrameLaws.{FrameOf, tiny_items-with, tiny_framed-with, tiny_slots_framed, tiny_slots_then_framed, place_kept}
 use Rattle.tinyvec.specs.declared.tiny_vec.TinyVec.{TinyVec}
-use Rattle.tinyvec.specs.declared.tiny_vec.TinyVec.TheVariants.{Inline, Heap}
 
-module _ {A T : Type 0} where
-  pub tiny_written : (v : TinyVec A T) (ws : List T) → length ws ≡ tiny_len v
-      → (tiny_items (tiny_with_items v ws) ≡ ws) × SameFrame v (tiny_with_items v ws)
-  tiny_written v ws e = (tiny_items-with v ws e, tiny_framed-with v ws e)
+pub tiny_written : {A T L : Type 0} (g : Storage.Ghosts A T L) (v : TinyVec A T L) (ws : List T) → length ws ≡ tiny_len_of g v
+    → (tiny_items_of g (tiny_with_items g v ws) ≡ ws) × FrameOf g v (tiny_with_items g v ws)
+tiny_written g v ws e = (tiny_items-with g v ws e, tiny_framed-with g v ws e)
 
-  pub frame_moved : (slots : ℕ) (u v w x : TinyVec A T) → SameFrame u v → SameFrame w x
-      → items_moved slots (is_inline v) (is_inline w) ≡ items_moved slots (is_inline u) (is_inline x)
-  frame_moved slots u v w x k j = ap (λ b. items_moved slots b (is_inline w)) k.place ∙ ap (items_moved slots (is_inline u)) (sym j.place)
+-- a list that fits where it was did not move
+stays_in : (slots n : ℕ) (p q : Place) → (lies_inline p ≡ lies_inline in_array → n ≤ slots → lies_inline q ≡ lies_inline in_array)
+    → n ≤ capacity_in slots p → items_moved slots (lies_inline p) (lies_inline q) ≡ 0
+stays_in slots n in_array in_array h fits = refl
+stays_in slots n in_array (on_heap m) h fits = absurd (let no = h refl fits in cc)
+stays_in slots n (on_heap k) q h fits = refl
+
+module _ {T : Type 0} where
+  pub frame_moved : (slots : ℕ) (u v w x : TinyView T) → SameFrame u v → SameFrame w x
+      → items_moved slots (view_inline v) (view_inline w) ≡ items_moved slots (view_inline u) (view_inline x)
+  frame_moved slots u v w x k j = ap (λ b. items_moved slots b (view_inline w)) k.place ∙ ap (items_moved slots (view_inline u)) (sym j.place)
 
   module _ (D : T → Type 0) (slots : ℕ) where
-    pub frame_becomes : (u v w : TinyVec A T) (xs : List T) → SameFrame u v → Becomes D slots v w xs → Becomes D slots u w xs
+    pub frame_becomes : (u v w : TinyView T) (xs : List T) → SameFrame u v → Becomes D slots v w xs → Becomes D slots u w xs
     frame_becomes u v w xs k h = record {
       items = h.items;
       place = h.place ∙ k.place;
@@ -27,7 +35,7 @@ module _ {A T : Type 0} where
       fits = h.fits;
     }
 
-    pub frame_grows : (u v w x : TinyVec A T) → SameFrame u v → Grows D slots v w → SameFrame w x → Grows D slots u x
+    pub frame_grows : (u v w x : TinyView T) → SameFrame u v → Grows D slots v w → SameFrame w x → Grows D slots u x
     frame_grows u v w x k h j = record {
       place = rw (j.place, j.len, sym k.place) h.place;
       slot_rule = tiny_slots_then_framed D u w x (tiny_slots_framed D u v w k h.slot_rule) j;
@@ -38,9 +46,9 @@ module _ {A T : Type 0} where
       fits = let fits = h.fits in let b = j.capacity slots in let c = j.len in omega (arith, b, c, fits);
     }
 
-    pub stays_grows : (v w : TinyVec A T) → StaysInPlace D slots v w → tiny_len w ≤ tiny_capacity slots w → Grows D slots v w
+    pub stays_grows : (v w : TinyView T) → StaysInPlace D slots v w → view_len w ≤ view_capacity slots w → Grows D slots v w
     stays_grows v w h fits = record {
-      place = place_kept slots (tiny_len w) v w h.place (let c = h.capacity in omega arith);
+      place = place_kept slots (view_len w) v w h.place (let c = h.capacity in omega arith);
       slot_rule = h.slot_rule;
       capacity = let c = h.capacity in omega arith;
       same_room = λ _. h.capacity;
@@ -49,9 +57,6 @@ module _ {A T : Type 0} where
       fits = fits;
     }
 
-    -- a list that fits where it was did not move
-    pub stays : (v w : TinyVec A T) → Grows D slots v w → tiny_len w ≤ tiny_capacity slots v
-        → items_moved slots (is_inline v) (is_inline w) ≡ 0
-    stays (Inline v a) (Inline w b) h fits = refl
-    stays (Inline v a) (Heap w) h fits = absurd (let no = h.place.1 (refl, fits) in cc)
-    stays (Heap v) new h fits = refl
+    pub stays : (v w : TinyView T) → Grows D slots v w → view_len w ≤ view_capacity slots v
+        → items_moved slots (view_inline v) (view_inline w) ≡ 0
+    stays v w h fits = stays_in slots (view_len w) v.place w.place (λ was few. h.place.1 (was, few)) fits

@@ -1,125 +1,84 @@
 -- What a contract sees of a `TinyVec`: its list, its spare slots, its place, and its capacity.
-use Rattle.std.specs.Prelude.{◌≡◌, ℕ, ◌≤◌, ◌-◌, List, [], length, drop, Bool, false, IsTrue, ◌⊎◌, ◌++◌, All, vec_capacity}
-use Rattle.std.specs.List.{AllZip}
+use Rattle.std.specs.Prelude.{ℕ, List, [], length, Bool, IsTrue, vec_capacity}
 use Rattle.std.specs.Global.{Global}
 use Rattle.std.specs.Vec.{vec_allocator}
-use Rattle.tinyvec_slots.specs.Slots.{AreDefaults, items, spare}
-use Rattle.tinyvec_slots.specs.Clones.{ClonesAreEqual}
-use Rattle.tinyvec.specs.View.{Place, in_array, on_heap, lies_inline, capacity_in, TinyView, ViewPlaceRule, ViewSlotRule, ViewBecomes}
+use Rattle.tinyvec_array.specs.By.{items_by, spare_by}
+use Rattle.tinyvec_array.specs.declared.storage.Slots as Storage
+use Rattle.tinyvec_array.specs.declared.bound.UpTo.{UpTo}
+use Rattle.tinyvec.specs.View.{Place, in_array, on_heap, lies_inline, capacity_in, TinyView}
 use Rattle.tinyvec.specs.declared.tiny_vec.TinyVec.{TinyVec}
 use Rattle.tinyvec.specs.declared.tiny_vec.TinyVec.TheVariants.{Inline, Heap}
 
-module _ {A T : Type 0} where
-  -- the list
-  abbrev pub tiny_items : TinyVec A T → List T
-  tiny_items (Inline v alloc) = items v
-  tiny_items (Heap v) = v.items
-
-  -- the length of the list
-  abbrev pub tiny_len : TinyVec A T → ℕ
-  tiny_len v = length (tiny_items v)
-
-  -- the spare slots after the list; on the heap there are none
-  abbrev pub tiny_spare : TinyVec A T → List T
-  tiny_spare (Inline v alloc) = spare v
-  tiny_spare (Heap v) = []
-
-  -- where the list is
-  abbrev pub place_of : TinyVec A T → Place
+-- The place of a list. No word of it reads the slots.
+module _ {A T L : Type 0} where
+  -- its place
+  abbrev pub place_of : TinyVec A T L → Place
   place_of (Inline v alloc) = in_array
   place_of (Heap v) = on_heap (vec_capacity v)
 
-  -- list, spare slots and place
-  abbrev pub tiny_view : TinyVec A T → TinyView T
-  tiny_view v = record { items = tiny_items v; spare = tiny_spare v; place = place_of v }
-
   -- `v.is_inline()`
-  abbrev pub is_inline : TinyVec A T → Bool
+  abbrev pub is_inline : TinyVec A T L → Bool
   is_inline v = lies_inline (place_of v)
 
   -- the list is in the array
-  abbrev pub IsInline : TinyVec A T → Type 0
+  abbrev pub IsInline : TinyVec A T L → Type 0
   IsInline v = IsTrue (is_inline v)
 
-  -- v is inline: xs is its list, and ys are its spare slots
-  pub record HoldsInline (xs ys : List T) (v : TinyVec A T) : Type 0 where
-    pub items : tiny_items v ≡ xs
-    pub spare : tiny_spare v ≡ ys
-    pub place : IsInline v
-
-  -- v is as `new` makes it: empty and inline, and all its slots hold defaults
-  pub record IsNew (D : T → Type 0) (slots : ℕ) (v : TinyVec A T) : Type 0 where
-    pub items : tiny_items v ≡ []
-    pub spare : AreDefaults D slots (tiny_spare v)
-    pub place : IsInline v
-
   -- `v.capacity()`, if an array has this many slots
-  abbrev pub tiny_capacity : ℕ → TinyVec A T → ℕ
+  abbrev pub tiny_capacity : ℕ → TinyVec A T L → ℕ
   tiny_capacity slots v = capacity_in slots (place_of v)
 
   -- `v.allocator()`
-  abbrev pub tiny_allocator : TinyVec A T → Global
+  abbrev pub tiny_allocator : TinyVec A T L → Global
   tiny_allocator (Inline v alloc) = alloc
   tiny_allocator (Heap v) = vec_allocator v
 
-  -- The place rule: after a call that needs room for `need` items, the list is inline exactly if it was inline and the
-  -- need is within the slots.
-  abbrev pub PlaceRule : ℕ → ℕ → TinyVec A T → TinyVec A T → Type 0
-  PlaceRule slots need old new = ViewPlaceRule slots need (tiny_view old) (tiny_view new)
+-- The list and the spare slots, if `slots` says what the array's slots hold, and `count` which number a length is. On the heap
+-- there are no spare slots.
+module _ {A T L : Type 0} (slots : A → List T) (count : L → ℕ) where
+  abbrev pub tiny_items_by : TinyVec A T L → List T
+  tiny_items_by (Inline v alloc) = items_by slots count v
+  tiny_items_by (Heap v) = v.items
 
-  -- The slot rule of an `ArrayVec`, if the list is inline before and after.
-  abbrev pub TinySlotRule : (T → Type 0) → TinyVec A T → TinyVec A T → Type 0
-  TinySlotRule D old new = ViewSlotRule D (tiny_view old) (tiny_view new)
+  abbrev pub tiny_spare_by : TinyVec A T L → List T
+  tiny_spare_by (Inline v alloc) = spare_by slots count v
+  tiny_spare_by (Heap v) = []
 
-  -- the same length, spare slots, place and capacity
-  pub record SameFrame (old new : TinyVec A T) : Type 0 where
-    pub len : tiny_len new ≡ tiny_len old
-    pub spare : tiny_spare new ≡ tiny_spare old
-    pub place : is_inline new ≡ is_inline old
-    pub capacity : (slots : ℕ) → tiny_capacity slots new ≡ tiny_capacity slots old
+  abbrev pub tiny_view_by : TinyVec A T L → TinyView T
+  tiny_view_by v = record { items = tiny_items_by v; spare = tiny_spare_by v; place = place_of v }
 
-  -- a call that allocates nothing took `old` to `new`, whose list is xs: place and capacity are unchanged, and inline the slot rule holds
-  abbrev pub Becomes : (T → Type 0) → ℕ → TinyVec A T → TinyVec A T → List T → Type 0
-  Becomes D slots old new = ViewBecomes D slots (tiny_view old) (tiny_view new)
+-- the words of generic code, over what the trait says of the slots
+module _ {A T L : Type 0} (g : Storage.Ghosts A T L) where
+  -- the list
+  abbrev pub tiny_items_of : TinyVec A T L → List T
+  tiny_items_of = tiny_items_by g.slots g.count
 
-  -- the same of any list
-  abbrev pub StaysInPlace : (T → Type 0) → ℕ → TinyVec A T → TinyVec A T → Type 0
-  StaysInPlace D slots old new = Becomes D slots old new (tiny_items new)
+  -- the length of the list
+  abbrev pub tiny_len_of : TinyVec A T L → ℕ
+  tiny_len_of v = length (tiny_items_of v)
 
-  -- a call that only removes items, and allocates nothing, took `old` to `new`
-  pub record ShortensInPlace (D : T → Type 0) (slots : ℕ) (old new : TinyVec A T) : Type 0 where
-    pub bound : tiny_len new ≤ tiny_len old
-    pub place : is_inline new ≡ is_inline old
-    pub slot_rule : TinySlotRule D old new
-    pub capacity : tiny_capacity slots new ≡ tiny_capacity slots old
-    pub fits : tiny_len new ≤ tiny_capacity slots new
+  -- the spare slots after the list; on the heap there are none
+  abbrev pub tiny_spare_of : TinyVec A T L → List T
+  tiny_spare_of = tiny_spare_by g.slots g.count
 
-  -- v is the list of old from i on, in the place of old: inline before defaults, on the heap with a capacity of its length
-  pub record IsTail (D : T → Type 0) (slots i : ℕ) (old v : TinyVec A T) : Type 0 where
-    pub items : tiny_items v ≡ drop i (tiny_items old)
-    pub place : is_inline v ≡ is_inline old
-    pub spare : IsInline v → AreDefaults D (slots - tiny_len v) (tiny_spare v)
-    pub capacity : is_inline v ≡ false → tiny_capacity slots v ≡ tiny_len v
-    pub fits : tiny_len v ≤ tiny_capacity slots v
+  -- list, spare slots and place
+  abbrev pub tiny_view_of : TinyVec A T L → TinyView T
+  tiny_view_of = tiny_view_by g.slots g.count
 
-  -- list, spare slots, place and capacity are unchanged
-  pub record Unchanged (old new : TinyVec A T) : Type 0 where
-    pub items : tiny_items new ≡ tiny_items old
-    pub spare : tiny_spare new ≡ tiny_spare old
-    pub place : is_inline new ≡ is_inline old
-    pub capacity : (slots : ℕ) → tiny_capacity slots new ≡ tiny_capacity slots old
+-- the same words of a vector whose slots are an array's
+module _ {T : Type 0} {n : ℕ} where
+  -- the list
+  abbrev pub tiny_items : TinyVec (List T) T (UpTo n) → List T
+  tiny_items = tiny_items_by (λ a. a) (λ k. k.len)
 
-  -- what `v.clone()` may return: clones of the items and the spare slots in the same place, on the heap with a capacity of
-  -- the length; C is the `is_clone` of the item
-  pub record IsTinyClone (C : T → T → Type 0) (slots : ℕ) (v w : TinyVec A T) : Type 0 where
-    pub items : AllZip C (tiny_items v) (tiny_items w)
-    pub len : tiny_len w ≡ tiny_len v
-    pub spare : AllZip C (tiny_spare v) (tiny_spare w)
-    pub if_clones_equal : ClonesAreEqual C → (tiny_items w ≡ tiny_items v) × (tiny_spare w ≡ tiny_spare v)
-    pub place : is_inline w ≡ is_inline v
-    pub capacity : is_inline w ≡ false → tiny_capacity slots w ≡ tiny_len v
+  -- the length of the list
+  abbrev pub tiny_len : TinyVec (List T) T (UpTo n) → ℕ
+  tiny_len v = length (tiny_items v)
 
-  -- `v.clone()` cannot fail: no clone can, if the list is inline; on the heap an empty list allocates nothing
-  abbrev pub IsTinyInfallible : (T → Type 0) → TinyVec A T → Type 0
-  IsTinyInfallible I v =
-      (IsInline v × All I (tiny_items v ++ tiny_spare v)) ⊎ ((is_inline v ≡ false) × (tiny_len v ≡ 0))
+  -- the spare slots after the list; on the heap there are none
+  abbrev pub tiny_spare : TinyVec (List T) T (UpTo n) → List T
+  tiny_spare = tiny_spare_by (λ a. a) (λ k. k.len)
+
+  -- list, spare slots and place
+  abbrev pub tiny_view : TinyVec (List T) T (UpTo n) → TinyView T
+  tiny_view = tiny_view_by (λ a. a) (λ k. k.len)

@@ -1,7 +1,9 @@
 -- What all contracts see of a `TinyVec`: its list, the spare slots after it, and its place, which has its capacity; and what calls do to
--- these. The words on vectors in `TinyVec` and `Room` are these relations of their views.
-use Rattle.std.specs.Prelude.{◌≡◌, ℕ, ◌-◌, ◌*◌, ◌^◌, ◌<◌, ◌≤◌, max, List, ◌++◌, length, drop, Bool, true, false, IsTrue, if◌then◌else◌, ◌↔◌}
+-- these.
+use Rattle.std.specs.Prelude.{◌≡◌, ℕ, ◌-◌, ◌≤◌, List, ◌++◌, [], length, drop, All, Bool, true, false, IsTrue, ◌↔◌, ◌⊎◌}
+use Rattle.std.specs.List.{AllZip}
 use Rattle.tinyvec_slots.specs.Slots.{AreDefaults}
+use Rattle.tinyvec_slots.specs.Clones.{ClonesAreEqual}
 
 -- the place of a list: in the array, or on the heap with this capacity
 pub data Place : Type 0 where
@@ -29,67 +31,93 @@ module _ {T : Type 0} where
   abbrev pub view_len : TinyView T → ℕ
   view_len v = length v.items
 
+  -- whether the list is in the array
+  abbrev pub view_inline : TinyView T → Bool
+  view_inline v = lies_inline v.place
+
   -- the list is in the array
   abbrev pub ViewInline : TinyView T → Type 0
-  ViewInline v = IsTrue (lies_inline v.place)
+  ViewInline v = IsTrue (view_inline v)
 
   -- the capacity, if an array has this many slots
   abbrev pub view_capacity : ℕ → TinyView T → ℕ
   view_capacity slots v = capacity_in slots v.place
 
+  -- v is inline: xs is its list, and ys are its spare slots
+  pub record HoldsInline (xs ys : List T) (v : TinyView T) : Type 0 where
+    pub items : v.items ≡ xs
+    pub spare : v.spare ≡ ys
+    pub place : ViewInline v
+
+  -- v is as `new` makes it: empty and inline, and all its slots hold defaults
+  pub record IsNew (D : T → Type 0) (slots : ℕ) (v : TinyView T) : Type 0 where
+    pub items : v.items ≡ []
+    pub spare : AreDefaults D slots v.spare
+    pub place : ViewInline v
+
   -- The place rule: after a call that needs room for `need` items, the list is inline exactly if it was inline and the
   -- need is within the slots.
-  abbrev pub ViewPlaceRule : ℕ → ℕ → TinyView T → TinyView T → Type 0
-  ViewPlaceRule slots need old new = ViewInline new ↔ (ViewInline old × (need ≤ slots))
+  abbrev pub PlaceRule : ℕ → ℕ → TinyView T → TinyView T → Type 0
+  PlaceRule slots need old new = ViewInline new ↔ (ViewInline old × (need ≤ slots))
 
   -- The slot rule, if the list is inline before and after. If it got shorter, as many defaults precede the old spare slots. If it
   -- got longer, it used up as many of them.
-  abbrev pub ViewSlotRule : (T → Type 0) → TinyView T → TinyView T → Type 0
-  ViewSlotRule D old new = ViewInline old → ViewInline new → (ds : List T) × AreDefaults D (view_len old - view_len new) ds
+  abbrev pub TinySlotRule : (T → Type 0) → TinyView T → TinyView T → Type 0
+  TinySlotRule D old new = ViewInline old → ViewInline new → (ds : List T) × AreDefaults D (view_len old - view_len new) ds
       × (new.spare ≡ ds ++ drop (view_len new - view_len old) old.spare)
 
-  -- if there was room for `need` items, the capacity is as it was
-  abbrev pub ViewKeepsRoom : ℕ → ℕ → TinyView T → TinyView T → Type 0
-  ViewKeepsRoom slots need old new = need ≤ view_capacity slots old → view_capacity slots new ≡ view_capacity slots old
+  -- the same length, spare slots, place and capacity
+  pub record SameFrame (old new : TinyView T) : Type 0 where
+    pub len : view_len new ≡ view_len old
+    pub spare : new.spare ≡ old.spare
+    pub place : view_inline new ≡ view_inline old
+    pub capacity : (slots : ℕ) → view_capacity slots new ≡ view_capacity slots old
 
-  -- if there was less room than `need`, the capacity doubled, or became `need` if that is more
-  abbrev pub ViewDoubles : ℕ → ℕ → TinyView T → TinyView T → Type 0
-  ViewDoubles slots need old new = view_capacity slots old < need
-      → view_capacity slots new ≡ max (2 * view_capacity slots old) need
+  -- list, spare slots, place and capacity are unchanged
+  pub record Unchanged (old new : TinyView T) : Type 0 where
+    pub items : new.items ≡ old.items
+    pub spare : new.spare ≡ old.spare
+    pub place : view_inline new ≡ view_inline old
+    pub capacity : (slots : ℕ) → view_capacity slots new ≡ view_capacity slots old
 
-  -- if there was less room than `need`, a list that moves got a capacity of `need`, and one on the heap of `room`
-  abbrev pub ViewGrowsTo : ℕ → ℕ → ℕ → TinyView T → TinyView T → Type 0
-  ViewGrowsTo slots need room old new = view_capacity slots old < need
-      → view_capacity slots new ≡ (if lies_inline old.place then need else room)
+  -- a call that allocates nothing took `old` to `new`, whose list is xs: place and capacity are unchanged, and inline the slot rule holds
+  pub record Becomes (D : T → Type 0) (slots : ℕ) (old new : TinyView T) (xs : List T) : Type 0 where
+    pub items : new.items ≡ xs
+    pub place : view_inline new ≡ view_inline old
+    pub slot_rule : TinySlotRule D old new
+    pub capacity : view_capacity slots new ≡ view_capacity slots old
+    pub fits : view_len new ≤ view_capacity slots new
 
-  -- the same, if one on the heap doubled its capacity, or got `need` if that is more
-  abbrev pub ViewGrowsFor : ℕ → ℕ → TinyView T → TinyView T → Type 0
-  ViewGrowsFor slots need old new = ViewGrowsTo slots need (max (2 * view_capacity slots old) need) old new
+  -- the same of any list
+  abbrev pub StaysInPlace : (T → Type 0) → ℕ → TinyView T → TinyView T → Type 0
+  StaysInPlace D slots old new = Becomes D slots old new new.items
 
-  -- a capacity that grew item by item is less than twice the length
-  abbrev pub ViewGrowsInSteps : ℕ → TinyView T → TinyView T → Type 0
-  ViewGrowsInSteps slots old new = view_capacity slots old < view_capacity slots new → view_capacity slots new < 2 * view_len new
+  -- a call that only removes items, and allocates nothing, took `old` to `new`
+  pub record ShortensInPlace (D : T → Type 0) (slots : ℕ) (old new : TinyView T) : Type 0 where
+    pub bound : view_len new ≤ view_len old
+    pub place : view_inline new ≡ view_inline old
+    pub slot_rule : TinySlotRule D old new
+    pub capacity : view_capacity slots new ≡ view_capacity slots old
+    pub fits : view_len new ≤ view_capacity slots new
 
-  -- a capacity that grew item by item doubled some number of times, from one at least: as many times as pushes double it
-  abbrev pub ViewDoublesInSteps : ℕ → TinyView T → TinyView T → Type 0
-  ViewDoublesInSteps slots old new = view_capacity slots old < view_capacity slots new
-      → (k : ℕ) × (view_capacity slots new ≡ 2 ^ k * max 1 (view_capacity slots old))
+  -- v is the list of old from i on, in the place of old: inline before defaults, on the heap with a capacity of its length
+  pub record IsTail (D : T → Type 0) (slots i : ℕ) (old v : TinyView T) : Type 0 where
+    pub items : v.items ≡ drop i old.items
+    pub place : view_inline v ≡ view_inline old
+    pub spare : ViewInline v → AreDefaults D (slots - view_len v) v.spare
+    pub capacity : view_inline v ≡ false → view_capacity slots v ≡ view_len v
+    pub fits : view_len v ≤ view_capacity slots v
 
-  module _ (D : T → Type 0) (slots : ℕ) (old new : TinyView T) where
-    -- a call that allocates nothing, and leaves the items xs: place and capacity are unchanged, and inline the slot rule holds
-    pub record ViewBecomes (xs : List T) : Type 0 where
-      pub items : new.items ≡ xs
-      pub place : lies_inline new.place ≡ lies_inline old.place
-      pub slot_rule : ViewSlotRule D old new
-      pub capacity : view_capacity slots new ≡ view_capacity slots old
-      pub fits : view_len new ≤ view_capacity slots new
+  -- what `v.clone()` may return: clones of the items and the spare slots in the same place, on the heap with a capacity of
+  -- the length; C is the `is_clone` of the item
+  pub record IsTinyClone (C : T → T → Type 0) (slots : ℕ) (v w : TinyView T) : Type 0 where
+    pub items : AllZip C v.items w.items
+    pub len : view_len w ≡ view_len v
+    pub spare : AllZip C v.spare w.spare
+    pub if_clones_equal : ClonesAreEqual C → (w.items ≡ v.items) × (w.spare ≡ v.spare)
+    pub place : view_inline w ≡ view_inline v
+    pub capacity : view_inline w ≡ false → view_capacity slots w ≡ view_len v
 
-    -- a call that pushes item by item: the list moves only if it outgrows the array
-    pub record ViewGrows : Type 0 where
-      pub place : ViewPlaceRule slots (view_len new) old new
-      pub slot_rule : ViewSlotRule D old new
-      pub capacity : view_capacity slots old ≤ view_capacity slots new
-      pub same_room : ViewKeepsRoom slots (view_len new) old new
-      pub grown : ViewGrowsInSteps slots old new
-      pub doubled : ViewDoublesInSteps slots old new
-      pub fits : view_len new ≤ view_capacity slots new
+  -- `v.clone()` cannot fail: no clone can, if the list is inline; on the heap an empty list allocates nothing
+  abbrev pub IsTinyInfallible : (T → Type 0) → TinyView T → Type 0
+  IsTinyInfallible I v = (ViewInline v × All I (v.items ++ v.spare)) ⊎ ((view_inline v ≡ false) × (view_len v ≡ 0))

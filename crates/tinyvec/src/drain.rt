@@ -5,7 +5,8 @@ ghost use Rattle.std.specs.Iterator.{at_most, UpTo};
 ghost use Rattle.std.specs.Iterator.SizeHint.{IsWithinCount};
 ghost use Rattle.std.specs.Iterator.Runs.{YieldsInOrder, YieldsInReverse};
 ghost use Rattle.tinyvec_slots.specs.Ranges.{IsRangeOf, before, removed, after};
-ghost use Rattle.tinyvec.specs.TinyVec.{tiny_items, SameFrame, Becomes};
+ghost use Rattle.tinyvec.specs.TinyVec.{tiny_items_of, tiny_view_of};
+ghost use Rattle.tinyvec.specs.View.{SameFrame, Becomes};
 
 use crate::TinyVec;
 use std::fmt;
@@ -35,21 +36,23 @@ impl<A: Array> TinyVec<A> {
     #[inline(always)]
     pub fn drain<R: RangeBounds<usize>>(&mut self, range: R) -> TinyVecDrain<'_, A>
         requires not_exhausted { R.has_bounds range }
-        requires in_list { IsRangeOf (tiny_items self.old) (R.start_bound range) (R.end_bound range) }
+        requires in_list { IsRangeOf (tiny_items_of A.Slots self.old) (R.start_bound range) (R.end_bound range) }
 
         // It yields the items of the range.
-        ensures rest { drain_items result ≡ removed (tiny_items self.old) (R.start_bound range) (R.end_bound range) }
-        ensures len { drain_len result ≡ length (drain_items result) }
-        ensures ready { DrainCanStep result }
-        ensures runs { YieldsInOrder (DrainSteps {A = A} {T = A.Item}) drain_items }
-        ensures runs_back { YieldsInReverse (DrainStepsBack {A = A} {T = A.Item}) drain_items }
-        ensures both_ends { DrainsFromEnds result }
+        ensures rest { drain_items A.Slots result ≡ removed (tiny_items_of A.Slots self.old) (R.start_bound range)
+            (R.end_bound range) }
+        ensures len { drain_len result ≡ length (drain_items A.Slots result) }
+        ensures ready { DrainCanStep A.Slots result }
+        ensures runs { YieldsInOrder (DrainSteps A.Slots) (drain_items A.Slots) }
+        ensures runs_back { YieldsInReverse (DrainStepsBack A.Slots) (drain_items A.Slots) }
+        ensures both_ends { DrainsFromEnds A.Slots result }
 
         // Once it is dropped, the list is what preceded the range and what followed it, in its place.
         ensures same_reference { drain_lender result ≡ self.entry.ghost_name }
-        ensures kept { drain_kept result
-            ≡ before (tiny_items self.old) (R.start_bound range) ++ after (tiny_items self.old) (R.end_bound range) }
-        ensures frame { SameFrame self.old (drain_vec result) }
+        ensures kept { drain_kept A.Slots result
+            ≡ before (tiny_items_of A.Slots self.old) (R.start_bound range) ++ after
+            (tiny_items_of A.Slots self.old) (R.end_bound range) }
+        ensures frame { SameFrame (tiny_view_of A.Slots self.old) (tiny_view_of A.Slots (drain_vec result)) }
     {
         let part = resolve_range(range, self.len());
         TinyVecDrain {
@@ -66,13 +69,16 @@ impl<A: Array> TinyVec<A> {
     /// `not_exhausted` fails only for a `RangeInclusive` that was iterated to its end.
     pub fn drain_into<R: RangeBounds<usize>>(&mut self, range: R, out: &mut Vec<A::Item>)
         requires not_exhausted { R.has_bounds range }
-        requires in_list { IsRangeOf (tiny_items self.old) (R.start_bound range) (R.end_bound range) }
+        requires in_list { IsRangeOf (tiny_items_of A.Slots self.old) (R.start_bound range) (R.end_bound range) }
         requires room { vec_len out.old
-            + length (removed (tiny_items self.old) (R.start_bound range) (R.end_bound range)) ≤ vec_capacity out.old }
-        ensures becomes { Becomes A.Item.is_default A.CAPACITY self.old self.new
-            (before (tiny_items self.old) (R.start_bound range) ++ after (tiny_items self.old) (R.end_bound range)) }
+            + length (removed (tiny_items_of A.Slots self.old) (R.start_bound range) (R.end_bound range))
+            ≤ vec_capacity out.old }
+        ensures becomes { Becomes A.Item.is_default A.CAPACITY (tiny_view_of A.Slots self.old)
+            (tiny_view_of A.Slots self.new)
+            (before (tiny_items_of A.Slots self.old) (R.start_bound range) ++ after
+            (tiny_items_of A.Slots self.old) (R.end_bound range)) }
         ensures moved { out.new.items
-            ≡ out.old.items ++ removed (tiny_items self.old) (R.start_bound range) (R.end_bound range) }
+            ≡ out.old.items ++ removed (tiny_items_of A.Slots self.old) (R.start_bound range) (R.end_bound range) }
         ensures out_capacity { vec_capacity out.new ≡ vec_capacity out.old }
     {
         for x in self.drain(range) {
@@ -86,7 +92,7 @@ impl<'a, A: Array> Drop for TinyVecDrain<'a, A> {
 
     #[inline(always)]
     fn drop(self)
-        ensures { DrainLeaves A.Item.is_default A.CAPACITY self.entry self.exit.0.now }
+        ensures { DrainLeaves A.Slots A.Item.is_default A.CAPACITY self.entry self.exit.0.now }
     {
         let TinyVecDrain {
             vec,
@@ -105,9 +111,9 @@ impl<'a, A: Array> Iterator for TinyVecDrain<'a, A> {
 
     type Item = A::Item;
 
-    ghost can_next = { DrainCanStep };
+    ghost can_next = { DrainCanStep A.Slots };
 
-    ghost next_gives = { DrainSteps };
+    ghost next_gives = { DrainSteps A.Slots };
 
     ghost remaining = { λ d. at_most (drain_len d) };
 
@@ -134,9 +140,9 @@ impl<'a, A: Array> Iterator for TinyVecDrain<'a, A> {
 impl<'a, A: Array> DoubleEndedIterator for TinyVecDrain<'a, A> {
     ghost use Rattle.tinyvec.specs.Drain.{DrainCanStep, DrainStepsBack};
 
-    ghost can_next_back = { DrainCanStep };
+    ghost can_next_back = { DrainCanStep A.Slots };
 
-    ghost next_back_gives = { DrainStepsBack };
+    ghost next_back_gives = { DrainStepsBack A.Slots };
 
     fn next_back(&mut self) -> Option<A::Item> {
         if self.front >= self.back {
@@ -161,7 +167,8 @@ where
 {
     ghost use Rattle.tinyvec.specs.Drain.{drain_items};
 
-    ghost debug_output = { λ d. debug_variant (codes "TinyVecDrain") (debug_list A.Item.debug_output (drain_items d)) };
+    ghost debug_output = { λ d. debug_variant (codes "TinyVecDrain") (debug_list A.Item.debug_output
+        (drain_items A.Slots d)) };
 
     fn fmt<W: fmt::Write>(&self, f: &mut fmt::Formatter<W>) -> fmt::Result {
         write_named(

@@ -13,7 +13,7 @@ pub use into_iter::TinyVecIterator;
 pub use splice::TinyVecSplice;
 pub use tiny_vec::TinyVec;
 pub use tinyvec_array::{
-    Array, ArrayVec, ArrayVecDrain, ArrayVecIterator, ArrayVecSplice, CapacityError, ExtractIf,
-    FromIterRest, NoMemory, NoRoom, SpliceRest, TryFromSliceError, array_vec,
+    Array, ArrayVec, ArrayVecDrain, ArrayVecIterator, ArrayVecSplice, SliceVec, SliceVecDrain,
+    Slots, TakesClones, TryFromSliceError, array_vec,
 };
-pub use tinyvec_slice::{GenericSliceVec, GenericSliceVecDrain, Lent, SliceVec, SliceVecDrain};
+pub use tinyvec_slots::{CapacityError, ExtractIf, FromIterRest, NoMemory, NoRoom, SpliceRest};

@@ -6,7 +6,8 @@ ghost use Rattle.std.specs.Iterator.Adapters.{fuse_done, fuse_source, fuse_steps
 ghost use Rattle.std.specs.Iterator.SizeHint.{IsWithinCount};
 ghost use Rattle.tinyvec_slots.specs.Fused.{FusedFinite, FusedCan, fused_rest};
 ghost use Rattle.tinyvec_slots.specs.Ranges.{IsRangeOf, before, removed, after};
-ghost use Rattle.tinyvec.specs.TinyVec.{tiny_items, tiny_len, is_inline, tiny_capacity, StaysInPlace, Becomes, Unchanged};
+ghost use Rattle.tinyvec.specs.TinyVec.{tiny_items_of, tiny_len_of, is_inline, tiny_capacity, tiny_view_of};
+ghost use Rattle.tinyvec.specs.View.{StaysInPlace, Becomes, Unchanged};
 ghost use Rattle.tinyvec_slots.specs.Filling.{IntoIterYields, ShowsItems};
 ghost use Rattle.tinyvec_slots.specs.Replacing.{PutsBetween};
 ghost use Rattle.tinyvec_slots.specs.AnySplice.{FinishTouches};
@@ -18,10 +19,10 @@ use std::alloc::AllocError;
 use std::fmt;
 use std::iter::{Fuse, FusedIterator};
 use std::ops::{Range, RangeBounds};
-use tinyvec_array::{Array, NoRoom, SpliceRest};
+use tinyvec_array::Array;
 use tinyvec_slots::{
-    CanCut, CanSplice, Gap, resolve_range, splice_finish, splice_next, splice_next_back,
-    splice_stop, write_named,
+    CanCut, CanSplice, Gap, NoRoom, SpliceRest, resolve_range, splice_finish, splice_next,
+    splice_next_back, splice_stop, write_named,
 };
 
 /// Yields the items of a range, and puts those of `replacement` in their place. Each item taken from one end is replaced by
@@ -59,15 +60,15 @@ impl<A: Array> TinyVec<A> {
         replacement: I,
     ) -> TinyVecSplice<'_, A, Fuse<I::IntoIter>>
         requires not_exhausted { R.has_bounds range }
-        requires in_list { IsRangeOf (tiny_items self.old) (R.start_bound range) (R.end_bound range) }
-        ensures begins { SpliceBegins (before (tiny_items self.old) (R.start_bound range))
-            (removed (tiny_items self.old) (R.start_bound range) (R.end_bound range))
-            (after (tiny_items self.old) (R.end_bound range)) result }
+        requires in_list { IsRangeOf (tiny_items_of A.Slots self.old) (R.start_bound range) (R.end_bound range) }
+        ensures begins { SpliceBegins A.Slots (before (tiny_items_of A.Slots self.old) (R.start_bound range))
+            (removed (tiny_items_of A.Slots self.old) (R.start_bound range) (R.end_bound range))
+            (after (tiny_items_of A.Slots self.old) (R.end_bound range)) result }
         ensures replacement { I.into_iter_gives replacement (fuse_source (splice_replacement result)) }
         ensures unasked { fuse_done (splice_replacement result) ≡ false }
         ensures vec { splice_vec result ≡ self.old }
         ensures same_reference { splice_lender result ≡ self.entry.ghost_name }
-        ensures ready { SpliceCanStep result }
+        ensures ready { SpliceCanStep A.Slots result }
     {
         let part = resolve_range(range, self.len());
         TinyVecSplice {
@@ -89,20 +90,21 @@ impl<A: Array> TinyVec<A> {
         replacement: I,
     ) -> Result<(), SpliceRest<A::Item, Fuse<I::IntoIter>>>
         requires not_exhausted { R.has_bounds range }
-        requires in_list { IsRangeOf (tiny_items self.old) (R.start_bound range) (R.end_bound range) }
+        requires in_list { IsRangeOf (tiny_items_of A.Slots self.old) (R.start_bound range) (R.end_bound range) }
         requires can { (it : I.IntoIter) → I.into_iter_gives replacement it
             → I.IntoIter.can_next it × IsFinite (I.IntoIter.remaining it) }
         ensures ran { (it : Fuse I.IntoIter) × (xs : List A.Item) × I.into_iter_gives replacement (fuse_source it)
             × (fuse_done it ≡ false)
             × MatchResult result (λ _. Drains (fuse_steps I.IntoIter.next_gives) it xs)
             (λ refused. YieldsThen (fuse_steps I.IntoIter.next_gives) it xs (Some refused.item) refused.rest)
-            × (tiny_items self.new ≡ before (tiny_items self.old) (R.start_bound range) ++ xs
-            ++ after (tiny_items self.old) (R.end_bound range)) }
+            × (tiny_items_of A.Slots self.new ≡ before (tiny_items_of A.Slots self.old) (R.start_bound range) ++ xs
+            ++ after (tiny_items_of A.Slots self.old) (R.end_bound range)) }
 
         // It refuses none while there is room.
-        ensures full { OnErr result (tiny_len self.new ≡ tiny_capacity A.CAPACITY self.new) }
-        ensures grows { Grows A.Item.is_default A.CAPACITY self.old self.new }
-        ensures no_shorter { OnErr result (tiny_len self.old ≤ tiny_len self.new) }
+        ensures full { OnErr result (tiny_len_of A.Slots self.new ≡ tiny_capacity A.CAPACITY self.new) }
+        ensures grows { Grows A.Item.is_default A.CAPACITY (tiny_view_of A.Slots self.old)
+            (tiny_view_of A.Slots self.new) }
+        ensures no_shorter { OnErr result (tiny_len_of A.Slots self.old ≤ tiny_len_of A.Slots self.new) }
 
         // The returned iterator can be iterated further.
         ensures goes_on { IfErr result (λ refused. FusedCan I.IntoIter.can_next refused.rest) }
@@ -110,18 +112,22 @@ impl<A: Array> TinyVec<A> {
         // For an iterator of which `rest` shows the remaining items. If there is room for them it allocates nothing.
         ensures listed { (rest : I.IntoIter → List A.Item) → ShowsItems I.IntoIter.next_gives rest
             → (it : I.IntoIter) × I.into_iter_gives replacement it
-            × (length (before (tiny_items self.old) (R.start_bound range)) + length (rest it)
-            + length (after (tiny_items self.old) (R.end_bound range)) ≤ tiny_capacity A.CAPACITY self.old → IsOk result)
-            × OnOk result (tiny_items self.new ≡ before (tiny_items self.old) (R.start_bound range) ++ rest it
-            ++ after (tiny_items self.old) (R.end_bound range))
-            × IfErr result (λ refused. (placed : List A.Item) × (rest it ≡ placed ++ refused.item ∷ fused_rest rest refused.rest)
-            × (tiny_items self.new ≡ before (tiny_items self.old) (R.start_bound range) ++ placed
-            ++ after (tiny_items self.old) (R.end_bound range))) }
+            × (length (before (tiny_items_of A.Slots self.old) (R.start_bound range)) + length (rest it)
+            + length (after (tiny_items_of A.Slots self.old) (R.end_bound range)) ≤ tiny_capacity A.CAPACITY self.old
+            → IsOk result)
+            × OnOk result (tiny_items_of A.Slots self.new ≡ before (tiny_items_of A.Slots self.old)
+            (R.start_bound range) ++ rest it
+            ++ after (tiny_items_of A.Slots self.old) (R.end_bound range))
+            × IfErr result (λ refused. (placed : List A.Item) × (rest it ≡ placed
+            ++ refused.item ∷ fused_rest rest refused.rest)
+            × (tiny_items_of A.Slots self.new ≡ before (tiny_items_of A.Slots self.old) (R.start_bound range) ++ placed
+            ++ after (tiny_items_of A.Slots self.old) (R.end_bound range))) }
 
         // For items that are known, as those of a `Vec`, a range or a slice. If there is room for them it allocates nothing.
         ensures known { (xs : List A.Item) → IntoIterYields I.into_iter_gives I.IntoIter.next_gives replacement xs
-            → PutsBetween (tiny_capacity A.CAPACITY self.old) (before (tiny_items self.old) (R.start_bound range)) xs
-            (after (tiny_items self.old) (R.end_bound range)) result (tiny_items self.new) }
+            → PutsBetween (tiny_capacity A.CAPACITY self.old) (before (tiny_items_of A.Slots self.old)
+            (R.start_bound range)) xs
+            (after (tiny_items_of A.Slots self.old) (R.end_bound range)) result (tiny_items_of A.Slots self.new) }
     {
         let splice = self.splice(range, replacement);
         splice.finish()
@@ -137,17 +143,18 @@ impl<A: Array> TinyVec<A> {
     where
         A::Item: Copy,
         requires not_exhausted { R.has_bounds range }
-        requires in_list { IsRangeOf (tiny_items self.old) (R.start_bound range) (R.end_bound range) }
-        ensures items { OnOk result (tiny_items self.new
-            ≡ before (tiny_items self.old) (R.start_bound range) ++ replacement.now
-            ++ after (tiny_items self.old) (R.end_bound range)) }
-        ensures room { RoomGrows GrowsFor A.Item.is_default A.CAPACITY (tiny_len self.new) self.old self.new result }
+        requires in_list { IsRangeOf (tiny_items_of A.Slots self.old) (R.start_bound range) (R.end_bound range) }
+        ensures items { OnOk result (tiny_items_of A.Slots self.new
+            ≡ before (tiny_items_of A.Slots self.old) (R.start_bound range) ++ replacement.now
+            ++ after (tiny_items_of A.Slots self.old) (R.end_bound range)) }
+        ensures room { RoomGrows GrowsFor A.Item.is_default A.CAPACITY (tiny_len_of A.Slots self.new)
+            (tiny_view_of A.Slots self.old) (tiny_view_of A.Slots self.new) result }
 
         // If there is room it allocates nothing.
-        ensures succeeds { length (before (tiny_items self.old) (R.start_bound range)) + length replacement.now
-            + length (after (tiny_items self.old) (R.end_bound range)) ≤ tiny_capacity A.CAPACITY self.old
+        ensures succeeds { length (before (tiny_items_of A.Slots self.old) (R.start_bound range)) + length replacement.now
+            + length (after (tiny_items_of A.Slots self.old) (R.end_bound range)) ≤ tiny_capacity A.CAPACITY self.old
             → IsOk result }
-        ensures refused { OnErr result (Unchanged self.old self.new) }
+        ensures refused { OnErr result (Unchanged (tiny_view_of A.Slots self.old) (tiny_view_of A.Slots self.new)) }
     {
         let part = resolve_range(range, self.len());
         let more = replacement.len().saturating_sub(part.end - part.start);
@@ -161,11 +168,12 @@ impl<A: Array> TinyVec<A> {
     where
         A::Item: Copy,
         requires start_le_end { part.start ≤ part.end }
-        requires in_list { part.end ≤ tiny_len self.old }
-        requires room { tiny_len self.old - (part.end - part.start) + length replacement.now
+        requires in_list { part.end ≤ tiny_len_of A.Slots self.old }
+        requires room { tiny_len_of A.Slots self.old - (part.end - part.start) + length replacement.now
             ≤ tiny_capacity A.CAPACITY self.old }
-        ensures { Becomes A.Item.is_default A.CAPACITY self.old self.new
-            (take part.start (tiny_items self.old) ++ replacement.now ++ drop part.end (tiny_items self.old)) }
+        ensures { Becomes A.Item.is_default A.CAPACITY (tiny_view_of A.Slots self.old) (tiny_view_of A.Slots self.new)
+            (take part.start (tiny_items_of A.Slots self.old) ++ replacement.now ++ drop part.end
+            (tiny_items_of A.Slots self.old)) }
     {
         let _all_fit = self.splice_all(part, replacement.iter().copied());
     }
@@ -176,17 +184,18 @@ impl<'a, A: Array, I: Iterator<Item = A::Item>> Iterator for TinyVecSplice<'a, A
 
     type Item = A::Item;
 
-    ghost can_next = { SpliceCanNext I.can_next };
+    ghost can_next = { SpliceCanNext A.Slots I.can_next };
 
-    ghost next_gives = { SpliceSteps (fuse_steps I.next_gives) };
+    ghost next_gives = { SpliceSteps A.Slots (fuse_steps I.next_gives) };
 
     ghost remaining = { λ s. at_most (splice_len s) };
 
     fn next(&mut self) -> Option<A::Item>
-        requires { SpliceCanNext I.can_next self.old }
-        ensures steps { SpliceSteps (fuse_steps I.next_gives) self.old result self.new }
-        ensures goes { MakesProgress (SpliceCanNext I.can_next) (λ s. at_most (splice_len s)) self.old result self.new }
-        ensures ready { SpliceCanStep self.new }
+        requires { SpliceCanNext A.Slots I.can_next self.old }
+        ensures steps { SpliceSteps A.Slots (fuse_steps I.next_gives) self.old result self.new }
+        ensures goes { MakesProgress (SpliceCanNext A.Slots I.can_next) (λ s. at_most
+            (splice_len s)) self.old result self.new }
+        ensures ready { SpliceCanStep A.Slots self.new }
         ensures finite { FusedFinite I.remaining (splice_replacement self.old)
             → FusedFinite I.remaining (splice_replacement self.new) }
     {
@@ -208,16 +217,16 @@ impl<'a, A: Array, I: DoubleEndedIterator<Item = A::Item>> DoubleEndedIterator
     for TinyVecSplice<'a, A, Fuse<I>> {
     ghost use Rattle.tinyvec.specs.TinyVecSplice.{splice_len, splice_replacement, SpliceCanStep, SpliceCanNext, SpliceStepsBack};
 
-    ghost can_next_back = { SpliceCanNext I.can_next_back };
+    ghost can_next_back = { SpliceCanNext A.Slots I.can_next_back };
 
-    ghost next_back_gives = { SpliceStepsBack (fuse_steps I.next_back_gives) };
+    ghost next_back_gives = { SpliceStepsBack A.Slots (fuse_steps I.next_back_gives) };
 
     fn next_back(&mut self) -> Option<A::Item>
-        requires { SpliceCanNext I.can_next_back self.old }
-        ensures steps { SpliceStepsBack (fuse_steps I.next_back_gives) self.old result self.new }
-        ensures goes { MakesProgress (SpliceCanNext I.can_next_back)
+        requires { SpliceCanNext A.Slots I.can_next_back self.old }
+        ensures steps { SpliceStepsBack A.Slots (fuse_steps I.next_back_gives) self.old result self.new }
+        ensures goes { MakesProgress (SpliceCanNext A.Slots I.can_next_back)
             (λ s. at_most (splice_len s)) self.old result self.new }
-        ensures ready { SpliceCanStep self.new }
+        ensures ready { SpliceCanStep A.Slots self.new }
         ensures finite { FusedFinite I.remaining (splice_replacement self.old)
             → FusedFinite I.remaining (splice_replacement self.new) }
     {
@@ -240,7 +249,8 @@ where
 {
     ghost use Rattle.tinyvec.specs.TinyVecSplice.{splice_left};
 
-    ghost debug_output = { λ s. debug_variant (codes "TinyVecSplice") (debug_list A.Item.debug_output (splice_left s)) };
+    ghost debug_output = { λ s. debug_variant (codes "TinyVecSplice") (debug_list A.Item.debug_output
+        (splice_left A.Slots s)) };
 
     fn fmt<W: fmt::Write>(&self, f: &mut fmt::Formatter<W>) -> fmt::Result {
         write_named(f, "TinyVecSplice", self.gap.left(self.vec.as_slice()))
@@ -253,7 +263,7 @@ impl<'a, A: Array, I: Iterator<Item = A::Item>> TinyVecSplice<'a, A, Fuse<I>> {
     /// The number of touches since `splice`. A touch takes the item of one slot, which may leave a default there, places
     /// one item, or swaps two slots. An item that moves to the heap is a touch too.
     pub fn touches(&self) -> u128
-        ensures { result ≡ splice_touches self.now }
+        ensures { result ≡ splice_touches A.Slots self.now }
     {
         self.gap.touches()
     }
@@ -262,9 +272,9 @@ impl<'a, A: Array, I: Iterator<Item = A::Item>> TinyVecSplice<'a, A, Fuse<I>> {
     /// The rest is pushed item by item, so a list that outgrows its array moves to the heap. If the allocator refuses,
     /// returns the item that found no room and the rest of the replacement.
     pub fn finish(self) -> Result<(), SpliceRest<A::Item, Fuse<I>>>
-        requires can { SpliceCanNext I.can_next self }
+        requires can { SpliceCanNext A.Slots I.can_next self }
         requires finite { FusedFinite I.remaining (splice_replacement self) }
-        ensures { SpliceEnds A.Item.is_default A.CAPACITY I.Iterator self.entry result self.exit.0.now }
+        ensures { SpliceEnds A.Slots A.Item.is_default A.CAPACITY I.Iterator self.entry result self.exit.0.now }
     {
         let (finished, _touches) = self.finish_counted();
         finished
@@ -273,12 +283,12 @@ impl<'a, A: Array, I: Iterator<Item = A::Item>> TinyVecSplice<'a, A, Fuse<I>> {
     /// `finish`, and the number of touches since `splice`.
     #[inline(always)]
     pub fn finish_counted(self) -> (Result<(), SpliceRest<A::Item, Fuse<I>>>, u128)
-        requires can { SpliceCanNext I.can_next self }
+        requires can { SpliceCanNext A.Slots I.can_next self }
         requires finite { FusedFinite I.remaining (splice_replacement self) }
-        ensures touches { FinishTouches (splice_view self.entry) (tiny_len (splice_vec self.entry))
+        ensures touches { FinishTouches (splice_view A.Slots self.entry) (tiny_len_of A.Slots (splice_vec self.entry))
             (items_moved A.CAPACITY (is_inline (splice_vec self.entry)) (is_inline self.exit.0.now))
-            (tiny_items self.exit.0.now) result.1 }
-        ensures finish { SpliceEnds A.Item.is_default A.CAPACITY I.Iterator self.entry result.0 self.exit.0.now }
+            (tiny_items_of A.Slots self.exit.0.now) result.1 }
+        ensures finish { SpliceEnds A.Slots A.Item.is_default A.CAPACITY I.Iterator self.entry result.0 self.exit.0.now }
     {
         let TinyVecSplice {
             vec,
@@ -292,10 +302,11 @@ impl<'a, A: Array, I: Iterator<Item = A::Item>> TinyVecSplice<'a, A, Fuse<I>> {
     /// Drops the removed items that are left, and returns the rest of the replacement without calling `next`. It may be
     /// infinite.
     pub fn stop(self) -> Fuse<I>
-        requires { SpliceCanStep self }
+        requires { SpliceCanStep A.Slots self }
         ensures rest { result ≡ splice_replacement self.entry }
-        ensures becomes { Becomes A.Item.is_default A.CAPACITY (splice_vec self.entry) self.exit.0.now
-            (splice_front self.entry ++ splice_back self.entry) }
+        ensures becomes { Becomes A.Item.is_default A.CAPACITY (tiny_view_of A.Slots (splice_vec self.entry))
+            (tiny_view_of A.Slots self.exit.0.now)
+            (splice_front A.Slots self.entry ++ splice_back A.Slots self.entry) }
     {
         let TinyVecSplice {
             vec,
@@ -316,7 +327,7 @@ impl<A: Array> CanSplice for TinyVec<A> {
 
     ghost must_end = { true };
 
-    ghost Grown = { Grows A.Item.is_default A.CAPACITY };
+    ghost Grown = { λ v w. Grows A.Item.is_default A.CAPACITY (tiny_view_of A.Slots v) (tiny_view_of A.Slots w) };
 
     #[inline]
     fn len(&self) -> usize {
@@ -335,19 +346,23 @@ impl<A: Array> CanSplice for TinyVec<A> {
         (appended, count_move::<A>(was_inline, self.is_inline()))
     }
 
-    ghost kept_same = { SameFrame-refl };
+    ghost kept_same = { λ v. SameFrame-refl (tiny_view_of A.Slots v) };
 
     ghost kept_room = { λ v w k. k.capacity A.CAPACITY };
 
-    ghost kept_grown = { frame_grows A.Item.is_default A.CAPACITY };
+    ghost kept_grown = { λ u v w x. frame_grows A.Item.is_default A.CAPACITY (tiny_view_of A.Slots u)
+        (tiny_view_of A.Slots v) (tiny_view_of A.Slots w) (tiny_view_of A.Slots x) };
 
-    ghost kept_moved = { frame_moved A.CAPACITY };
+    ghost kept_moved = { λ u v w x. frame_moved A.CAPACITY (tiny_view_of A.Slots u) (tiny_view_of A.Slots v)
+        (tiny_view_of A.Slots w) (tiny_view_of A.Slots x) };
 
-    ghost cut_grown = { stays_grows A.Item.is_default A.CAPACITY };
+    ghost cut_grown = { λ v w. stays_grows A.Item.is_default A.CAPACITY (tiny_view_of A.Slots v)
+        (tiny_view_of A.Slots w) };
 
     ghost grown_room = { λ v w h. h.capacity };
 
-    ghost grown_in_place = { stays A.Item.is_default A.CAPACITY };
+    ghost grown_in_place = { λ v w. stays A.Item.is_default A.CAPACITY (tiny_view_of A.Slots v)
+        (tiny_view_of A.Slots w) };
 }
 
 // The number of items that moved to the heap.
@@ -363,21 +378,22 @@ fn count_move<A: Array>(was_inline: bool, is_inline: bool) -> usize
 }
 
 impl<A: Array> CanCut for TinyVec<A> {
-    ghost use Rattle.tinyvec.specs.TinyVec.{SameFrame};
+    ghost use Rattle.tinyvec.specs.FrameLaws.{FrameOf};
     ghost use Rattle.tinyvec.specs.Lends.{tiny_with_items};
     ghost use Rattle.tinyvec.specs.SpliceLaws.{tiny_written, frame_becomes};
 
     type Item = A::Item;
 
-    ghost items = { tiny_items };
+    ghost items = { tiny_items_of A.Slots };
 
-    ghost with_items = { tiny_with_items };
+    ghost with_items = { tiny_with_items A.Slots };
 
     ghost room = { tiny_capacity A.CAPACITY };
 
-    ghost Kept = { SameFrame };
+    ghost Kept = { FrameOf A.Slots };
 
-    ghost Truncated = { StaysInPlace A.Item.is_default A.CAPACITY };
+    ghost Truncated = { λ v w. StaysInPlace A.Item.is_default A.CAPACITY (tiny_view_of A.Slots v)
+        (tiny_view_of A.Slots w) };
 
     #[inline]
     fn as_mut_slice(&mut self) -> &mut [A::Item] {
@@ -389,7 +405,8 @@ impl<A: Array> CanCut for TinyVec<A> {
         self.truncate(new_len);
     }
 
-    ghost written = { tiny_written };
+    ghost written = { tiny_written A.Slots };
 
-    ghost kept_cut = { λ u v w. frame_becomes A.Item.is_default A.CAPACITY u v w (tiny_items w) };
+    ghost kept_cut = { λ u v w. frame_becomes A.Item.is_default A.CAPACITY (tiny_view_of A.Slots u)
+        (tiny_view_of A.Slots v) (tiny_view_of A.Slots w) (tiny_items_of A.Slots w) };
 }

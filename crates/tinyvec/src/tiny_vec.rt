@@ -1,8 +1,10 @@
 //! `TinyVec`.
 ghost use Rattle.std.specs.Prelude.{◌≡◌, ◌+◌, ◌<◌, ◌≤◌, ◌==◌, not, length, slice_index_or, slice_set, ◌-◌, ◌↔◌, ℕ, All, [], take, drop, IsOk, IsErr, IfOk, IfErr, OnErr, vec_capacity, List, false};
-ghost use Rattle.tinyvec.specs.TinyVec.{tiny_items, tiny_len, tiny_spare, is_inline, tiny_capacity, IsInline, HoldsInline, SameFrame, tiny_allocator};
+ghost use Rattle.tinyvec.specs.TinyVec.{tiny_items_of, tiny_len_of, tiny_spare_of, is_inline, tiny_capacity, IsInline, tiny_allocator, tiny_view_of};
+ghost use Rattle.tinyvec.specs.View.{HoldsInline, SameFrame};
 ghost use Rattle.tinyvec.specs.Room.{MadeFor};
-ghost use Rattle.tinyvec_slots.specs.Slots.{AreDefaults, items, spare};
+ghost use Rattle.tinyvec_slots.specs.Slots.{AreDefaults};
+ghost use Rattle.tinyvec_array.specs.ArrayVec.{items_of, spare_of, slots_of, len_of};
 ghost use Rattle.tinyvec_slots.specs.Clones.{RefusedAt, AreClones};
 ghost use Rattle.std.specs.Borrow.{sem};
 ghost use Rattle.tinyvec_slots.specs.Filling.{Iterates, IteratesMut};
@@ -18,58 +20,27 @@ mod traits;
 use std::alloc::{AllocError, Global};
 use std::convert::AsSlice;
 use std::{mem, slice};
-use tinyvec_array::{Array, ArrayVec};
+use tinyvec_array::{Array, ArrayVec, Slots};
 
 /// A list that is inline, in an array, and moves to the heap once it needs more room than the array has.
 #[derive(Drop)]
-pub enum TinyVec<A: Array> {
+pub enum TinyVec<A: Drop, T: Drop = <A as Slots>::Item, L: Drop = <A as Slots>::Len> {
     /// In an array. The allocator is for the move to the heap.
-    Inline(ArrayVec<A>, Global),
+    Inline(ArrayVec<A, L>, Global),
     /// On the heap.
-    Heap(Vec<A::Item>),
+    Heap(Vec<T>),
 }
 
-impl<A: Array> TinyVec<A> {
-    /// The number of items.
-    pub fn len(&self) -> usize
-        ensures value { result ≡ tiny_len self.now }
-        ensures fits { result ≤ tiny_capacity A.CAPACITY self.now }
-        ensures slot_count { IsInline self.now → tiny_len self.now + length (tiny_spare self.now) ≡ A.CAPACITY }
-    {
-        match self {
-            // Equal to the length. The minimum shows LLVM an upper bound, which keeps the two variants apart.
-            TinyVec::Inline(v, _) => v.len().min(v.capacity()),
-            TinyVec::Heap(v) => v.len(),
-        }
-    }
-
+// What asks for no default, so that it goes for an item that holds such a vector too.
+impl<A: Slots> TinyVec<A> {
     /// Whether the list has no items.
     pub fn is_empty(&self) -> bool
-        ensures { result ≡ (tiny_len self.now == 0) }
+        ensures { result ≡ (tiny_len_of A.Slots self.now == 0) }
     {
         match self {
             TinyVec::Inline(v, _) => v.is_empty(),
             TinyVec::Heap(v) => v.is_empty(),
         }
-    }
-
-    /// The number of items that fit without a further allocation.
-    pub fn capacity(&self) -> usize
-        ensures value { result ≡ tiny_capacity A.CAPACITY self.now }
-        ensures fits { tiny_len self.now ≤ result }
-    {
-        match self {
-            TinyVec::Inline(v, _) => v.capacity(),
-            TinyVec::Heap(v) => v.capacity(),
-        }
-    }
-
-    /// How many more items fit.
-    pub fn remaining_capacity(&self) -> usize
-        ensures value { result ≡ tiny_capacity A.CAPACITY self.now - tiny_len self.now }
-        ensures sum { tiny_len self.now + result ≡ tiny_capacity A.CAPACITY self.now }
-    {
-        self.capacity() - self.len()
     }
 
     /// Whether the list is in the array.
@@ -91,7 +62,7 @@ impl<A: Array> TinyVec<A> {
 
     /// The items.
     pub fn as_slice(&self) -> &[A::Item]
-        ensures { result.now ≡ tiny_items self.now }
+        ensures { result.now ≡ tiny_items_of A.Slots self.now }
     {
         match self {
             TinyVec::Inline(v, _) => v.as_slice(),
@@ -99,120 +70,12 @@ impl<A: Array> TinyVec<A> {
         }
     }
 
-    // Takes the item at `i`, and leaves a default.
-    pub(crate) fn take_at(&mut self, i: usize) -> A::Item
-        requires { i < tiny_len self.old }
-        ensures value { result ≡ slice_index_or (tiny_items self.old) i result }
-        ensures after { (d : A.Item) × A.Item.is_default d
-            × (tiny_items self.new ≡ slice_set (tiny_items self.old) i d) }
-        ensures frame { SameFrame self.old self.new }
-    {
-        mem::take(&mut self.as_mut_slice()[i])
-    }
-
-    /// An empty vector. It is inline, and all its slots hold defaults.
-    pub fn new(alloc: Global) -> Self
-        ensures items { tiny_items result ≡ [] }
-        ensures spare { AreDefaults A.Item.is_default A.CAPACITY (tiny_spare result) }
-        ensures place { IsInline result }
-    {
-        TinyVec::Inline(ArrayVec::new(), alloc)
-    }
-
-    /// An empty vector with room for `capacity` items, inline if the array has that room. Otherwise allocates it.
-    pub fn with_capacity(alloc: Global, capacity: usize) -> Result<Self, AllocError>
-        ensures items { IfOk result (λ v. tiny_items v ≡ []) }
-        ensures made { IfOk result (MadeFor A.Item.is_default A.CAPACITY capacity 0) }
-        ensures succeeds { capacity ≤ A.CAPACITY → IsOk result }
-    {
-        if capacity <= A::CAPACITY {
-            return Ok(Self::new(alloc));
-        }
-        let heap = Vec::with_capacity(alloc, capacity)?;
-        Ok(TinyVec::Heap(heap))
-    }
-
-    /// A vector of `len` defaults, inline if they fit the array. Otherwise room for all is allocated once.
-    pub fn with_initial_len(alloc: Global, len: usize) -> Result<Self, AllocError>
-        ensures items { IfOk result (λ v. AreDefaults A.Item.is_default len (tiny_items v)) }
-        ensures made { IfOk result (MadeFor A.Item.is_default A.CAPACITY len len) }
-        ensures succeeds { len ≤ A.CAPACITY → IsOk result }
-    {
-        if len <= A::CAPACITY {
-            return Ok(Self::from_array_len(alloc, A::default(), len));
-        }
-        let mut heap = Vec::with_capacity(alloc, len)?;
-        push_defaults(&mut heap, len);
-        Ok(TinyVec::Heap(heap))
-    }
-
-    /// A full vector, whose list is the whole array. It is inline.
-    pub fn from_array(alloc: Global, array: A) -> Self
-        ensures { HoldsInline (A.slots array) [] result }
-    {
-        TinyVec::Inline(ArrayVec::from_array(array), alloc)
-    }
-
-    /// The list of an `ArrayVec`, inline, with its spare slots.
-    pub fn from_array_vec(alloc: Global, vec: ArrayVec<A>) -> Self
-        ensures { HoldsInline (items vec) (spare vec) result }
-    {
-        TinyVec::Inline(vec, alloc)
-    }
-
-    /// The list of a `Vec`, on the heap, with its allocation. Allocates nothing and moves no item.
-    pub fn from_vec(vec: Vec<A::Item>) -> Self
-        ensures items { tiny_items result ≡ vec.items }
-        ensures place { is_inline result ≡ false }
-        ensures capacity { tiny_capacity A.CAPACITY result ≡ vec_capacity vec }
-    {
-        TinyVec::Heap(vec)
-    }
-
-    /// A vector whose list is the first `len` slots of the array. The others are its spare slots. It is inline.
-    pub fn from_array_len(alloc: Global, array: A, len: usize) -> Self
-        requires { len ≤ A.CAPACITY }
-        ensures { HoldsInline (take len (A.slots array)) (drop len (A.slots array)) result }
-    {
-        TinyVec::Inline(ArrayVec::from_array_len(array, len), alloc)
-    }
-
-    /// A vector whose list is the first `len` slots of the array. Returns the array if it has fewer slots. It is inline.
-    // Inlined, since LLVM takes minutes over a function that returns one of two large values.
-    #[inline(always)]
-    pub fn try_from_array_len(alloc: Global, array: A, len: usize) -> Result<Self, A>
-        ensures refused { IsErr result ↔ (A.CAPACITY < len) }
-        ensures made { IfOk result (HoldsInline (take len (A.slots array)) (drop len (A.slots array))) }
-        ensures value_returned { IfErr result (λ a. a ≡ array) }
-    {
-        if len > A::CAPACITY {
-            return Err(array);
-        }
-        Ok(Self::from_array_len(alloc, array, len))
-    }
-
-    /// A vector of clones of the slice's items, inline if they fit the array. Otherwise room for all is allocated once,
-    /// before any is cloned.
-    pub fn from_slice(alloc: Global, slice: &[A::Item]) -> Result<Self, AllocError>
-    where
-        A::Item: Clone,
-        ensures items { IfOk result (λ v. AreClones A.Item.is_clone slice.now (tiny_items v)) }
-        ensures made { IfOk result (MadeFor A.Item.is_default A.CAPACITY (length slice.now) (length slice.now)) }
-        ensures refused { OnErr result (length slice.now ≤ A.CAPACITY
-            → (j : ℕ) × RefusedAt A.Item.is_infallible slice.now j) }
-        ensures succeeds { length slice.now ≤ A.CAPACITY → All A.Item.is_infallible slice.now → IsOk result }
-    {
-        let mut vec = Self::with_capacity(alloc, slice.len())?;
-        vec.extend_reserved(slice)?;
-        Ok(vec)
-    }
-
     ghost use Rattle.tinyvec.specs.Lends.{lends_items};
 
     /// The items, for writing.
     pub fn as_mut_slice(&mut self) -> &mut [A::Item]
-        ensures* writes_back { sem 𝓛 (lends_items A.row A.Item.row A.Array A.Item.Default self.entry result) }
-        ensures value { result.now ≡ tiny_items self.old }
+        ensures* writes_back { sem 𝓛 (lends_items A.row A.Len.row A.Item.row A.Slots self.entry result) }
+        ensures value { result.now ≡ tiny_items_of A.Slots self.old }
     {
         match self {
             TinyVec::Inline(v, _) => v.as_mut_slice(),
@@ -224,7 +87,7 @@ impl<A: Array> TinyVec<A> {
 
     /// Iterates over the items, in order or from the back.
     pub fn iter(&self) -> slice::Iter<'_, A::Item>
-        ensures { Iterates (tiny_items self.now) result }
+        ensures { Iterates (tiny_items_of A.Slots self.now) result }
     {
         self.as_slice().iter()
     }
@@ -232,11 +95,12 @@ impl<A: Array> TinyVec<A> {
     /// Iterates over the items for writing, in order or from the back. After a loop over it a proof knows the length, the
     /// spare slots and the place, and after one over `as_mut_slice().iter_mut()` the items too.
     pub fn iter_mut(&mut self) -> slice::IterMut<'_, A::Item>
-        ensures* writes_back { sem 𝓛 (lends_iter A.row A.Item.row A.Array A.Item.Default self.entry result) }
-        ensures yields { IteratesMut (tiny_items self.old) result }
+        ensures* writes_back { sem 𝓛 (lends_iter A.row A.Len.row A.Item.row A.Slots self.entry result) }
+        ensures yields { IteratesMut (tiny_items_of A.Slots self.old) result }
 
         // No write changes the length.
-        ensures keeps_len { (ws : List A.Item) → tiny_len (tiny_with_items self.old ws) ≡ tiny_len self.old }
+        ensures keeps_len { (ws : List A.Item)
+            → tiny_len_of A.Slots (tiny_with_items A.Slots self.old ws) ≡ tiny_len_of A.Slots self.old }
     {
         match self {
             TinyVec::Inline(v, _) => v.iter_mut(),
@@ -255,8 +119,154 @@ impl<A: Array> TinyVec<A> {
     }
 }
 
-impl<A: Array> AsSlice<A::Item> for TinyVec<A> {
-    ghost items = { tiny_items };
+impl<A: Array> TinyVec<A> {
+    /// The number of items.
+    pub fn len(&self) -> usize
+        ensures value { result ≡ tiny_len_of A.Slots self.now }
+        ensures fits { result ≤ tiny_capacity A.CAPACITY self.now }
+        ensures slot_count { IsInline self.now → tiny_len_of A.Slots self.now + length
+            (tiny_spare_of A.Slots self.now) ≡ A.CAPACITY }
+    {
+        match self {
+            // Equal to the length. The minimum shows LLVM an upper bound, which keeps the two variants apart.
+            TinyVec::Inline(v, _) => v.len().min(slot_count(v)),
+            TinyVec::Heap(v) => v.len(),
+        }
+    }
+
+    /// The number of items that fit without a further allocation.
+    pub fn capacity(&self) -> usize
+        ensures value { result ≡ tiny_capacity A.CAPACITY self.now }
+        ensures fits { tiny_len_of A.Slots self.now ≤ result }
+    {
+        match self {
+            TinyVec::Inline(v, _) => slot_count(v),
+            TinyVec::Heap(v) => v.capacity(),
+        }
+    }
+
+    /// How many more items fit.
+    pub fn remaining_capacity(&self) -> usize
+        ensures value { result ≡ tiny_capacity A.CAPACITY self.now - tiny_len_of A.Slots self.now }
+        ensures sum { tiny_len_of A.Slots self.now + result ≡ tiny_capacity A.CAPACITY self.now }
+    {
+        self.capacity() - self.len()
+    }
+
+    // Takes the item at `i`, and leaves a default.
+    pub(crate) fn take_at(&mut self, i: usize) -> A::Item
+        requires { i < tiny_len_of A.Slots self.old }
+        ensures value { result ≡ slice_index_or (tiny_items_of A.Slots self.old) i result }
+        ensures after { (d : A.Item) × A.Item.is_default d
+            × (tiny_items_of A.Slots self.new ≡ slice_set (tiny_items_of A.Slots self.old) i d) }
+        ensures frame { SameFrame (tiny_view_of A.Slots self.old) (tiny_view_of A.Slots self.new) }
+    {
+        mem::take(&mut self.as_mut_slice()[i])
+    }
+
+    /// An empty vector. It is inline, and all its slots hold defaults.
+    pub fn new(alloc: Global) -> Self
+        ensures items { tiny_items_of A.Slots result ≡ [] }
+        ensures spare { AreDefaults A.Item.is_default A.CAPACITY (tiny_spare_of A.Slots result) }
+        ensures place { IsInline result }
+    {
+        TinyVec::Inline(ArrayVec::new(), alloc)
+    }
+
+    /// An empty vector with room for `capacity` items, inline if the array has that room. Otherwise allocates it.
+    pub fn with_capacity(alloc: Global, capacity: usize) -> Result<Self, AllocError>
+        ensures items { IfOk result (λ v. tiny_items_of A.Slots v ≡ []) }
+        ensures made { IfOk result (λ v. MadeFor A.Item.is_default A.CAPACITY capacity 0 (tiny_view_of A.Slots v)) }
+        ensures succeeds { capacity ≤ A.CAPACITY → IsOk result }
+    {
+        if capacity <= A::CAPACITY {
+            return Ok(Self::new(alloc));
+        }
+        let heap = Vec::with_capacity(alloc, capacity)?;
+        Ok(TinyVec::Heap(heap))
+    }
+
+    /// A vector of `len` defaults, inline if they fit the array. Otherwise room for all is allocated once.
+    pub fn with_initial_len(alloc: Global, len: usize) -> Result<Self, AllocError>
+        ensures items { IfOk result (λ v. AreDefaults A.Item.is_default len (tiny_items_of A.Slots v)) }
+        ensures made { IfOk result (λ v. MadeFor A.Item.is_default A.CAPACITY len len (tiny_view_of A.Slots v)) }
+        ensures succeeds { len ≤ A.CAPACITY → IsOk result }
+    {
+        if len <= A::CAPACITY {
+            return Ok(Self::from_array_len(alloc, A::default(), len));
+        }
+        let mut heap = Vec::with_capacity(alloc, len)?;
+        push_defaults(&mut heap, len);
+        Ok(TinyVec::Heap(heap))
+    }
+
+    /// A full vector, whose list is the whole array. It is inline.
+    pub fn from_array(alloc: Global, array: A) -> Self
+        ensures { HoldsInline (A.Slots.slots array) [] (tiny_view_of A.Slots result) }
+    {
+        TinyVec::Inline(ArrayVec::from_array(array), alloc)
+    }
+
+    /// The list of an `ArrayVec`, inline, with its spare slots.
+    pub fn from_array_vec(alloc: Global, vec: ArrayVec<A>) -> Self
+        ensures { HoldsInline (items_of A.Slots vec) (spare_of A.Slots vec) (tiny_view_of A.Slots result) }
+    {
+        TinyVec::Inline(vec, alloc)
+    }
+
+    /// The list of a `Vec`, on the heap, with its allocation. Allocates nothing and moves no item.
+    pub fn from_vec(vec: Vec<A::Item>) -> Self
+        ensures items { tiny_items_of A.Slots result ≡ vec.items }
+        ensures place { is_inline result ≡ false }
+        ensures capacity { tiny_capacity A.CAPACITY result ≡ vec_capacity vec }
+    {
+        TinyVec::Heap(vec)
+    }
+
+    /// A vector whose list is the first `len` slots of the array. The others are its spare slots. It is inline.
+    pub fn from_array_len(alloc: Global, array: A, len: usize) -> Self
+        requires { len ≤ A.CAPACITY }
+        ensures { HoldsInline (take len (A.Slots.slots array)) (drop len (A.Slots.slots array))
+            (tiny_view_of A.Slots result) }
+    {
+        TinyVec::Inline(ArrayVec::from_array_len(array, len), alloc)
+    }
+
+    /// A vector whose list is the first `len` slots of the array. Returns the array if it has fewer slots. It is inline.
+    // Inlined, since LLVM takes minutes over a function that returns one of two large values.
+    #[inline(always)]
+    pub fn try_from_array_len(alloc: Global, array: A, len: usize) -> Result<Self, A>
+        ensures refused { IsErr result ↔ (A.CAPACITY < len) }
+        ensures made { IfOk result (λ v. HoldsInline (take len (A.Slots.slots array)) (drop len
+            (A.Slots.slots array)) (tiny_view_of A.Slots v)) }
+        ensures value_returned { IfErr result (λ a. a ≡ array) }
+    {
+        if len > A::CAPACITY {
+            return Err(array);
+        }
+        Ok(Self::from_array_len(alloc, array, len))
+    }
+
+    /// A vector of clones of the slice's items, inline if they fit the array. Otherwise room for all is allocated once,
+    /// before any is cloned.
+    pub fn from_slice(alloc: Global, slice: &[A::Item]) -> Result<Self, AllocError>
+    where
+        A::Item: Clone,
+        ensures items { IfOk result (λ v. AreClones A.Item.is_clone slice.now (tiny_items_of A.Slots v)) }
+        ensures made { IfOk result (λ v. MadeFor A.Item.is_default A.CAPACITY (length slice.now) (length slice.now)
+            (tiny_view_of A.Slots v)) }
+        ensures refused { OnErr result (length slice.now ≤ A.CAPACITY
+            → (j : ℕ) × RefusedAt A.Item.is_infallible slice.now j) }
+        ensures succeeds { length slice.now ≤ A.CAPACITY → All A.Item.is_infallible slice.now → IsOk result }
+    {
+        let mut vec = Self::with_capacity(alloc, slice.len())?;
+        vec.extend_reserved(slice)?;
+        Ok(vec)
+    }
+}
+
+impl<A: Slots> AsSlice<A::Item> for TinyVec<A> {
+    ghost items = { tiny_items_of A.Slots };
 
     fn as_slice(&self) -> &[A::Item] {
         self.as_slice()
@@ -273,4 +283,14 @@ fn push_defaults<T: Default>(heap: &mut Vec<T>, n: usize)
     for _i in 0..n {
         heap.push_reserved(T::default());
     }
+}
+
+// The number of slots, which is the array's.
+#[inline(always)]
+pub(crate) fn slot_count<A: Array>(vec: &ArrayVec<A>) -> usize
+    ensures value { result ≡ A.CAPACITY }
+    ensures slots { length (slots_of A.Slots vec.now) ≡ A.CAPACITY }
+    ensures parts { len_of A.Slots vec.now + length (spare_of A.Slots vec.now) ≡ A.CAPACITY }
+{
+    vec.capacity()
 }

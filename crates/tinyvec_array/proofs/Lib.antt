@@ -1,6 +1,9 @@
+pub mod ViewLemmas
+pub mod InsertedLemmas
+pub mod AppendsLemmas
 pub mod DrainLemmas
 pub mod DrainEndLemmas
-pub mod IntoIterLemmas
-pub mod IterMutLemmas
+pub mod Named
 pub mod SpliceLemmas
-pub mod LendsLemmas
+pub mod IntoIterLemmas
+mod ResizingLemmas

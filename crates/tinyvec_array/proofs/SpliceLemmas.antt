@@ -1,4 +1,4 @@
--- An array's splice along a word of ends.
+-- A splice along a word of ends.
 use Rattle.std.proofs.Common.{◌≡◌, ℕ, ◌+◌, ◌≤◌, ◌↔◌, List, [], ◌∷◌, ◌++◌, length, Option, Result, false, if◌then◌else◌, IsOk, OnOk, IfErr, ap, refl, subst, sym, ◌∙◌}
 use Rattle.std.proofs.lemmas.Result.{IfErr-weaker}
 use Rattle.std.specs.declared.iter.Fuse.{Fuse}
@@ -10,15 +10,17 @@ use Rattle.tinyvec_slots.specs.SplicedByWord.{SplicedByWord}
 use Rattle.tinyvec_slots.specs.declared.no_room.SpliceRest.{SpliceRest}
 use Rattle.tinyvec_slots.proofs.AnySpliceLemmas as all
 use Rattle.tinyvec_array.specs.Splice.{splice_view, splice_left, SpliceKeeps, SpliceSteps, SpliceStepsBack}
+use Rattle.tinyvec_array.specs.declared.storage.Slots as Storage
 use Rattle.tinyvec_array.specs.declared.splice.ArrayVecSplice.{ArrayVecSplice}
 
-module _ {A I T : Type 0} where
-  pub keeps_same : (s : ArrayVecSplice A (Fuse I) T) → SpliceKeeps s s
-  keeps_same s = record { same_reference = refl; spare = refl; len = refl; ready = λ can. can }
+module _ {S I T L : Type 0} (g : Storage.Ghosts S T L) where
+  pub keeps_same : (s : ArrayVecSplice S (Fuse I) T L) → SpliceKeeps g s s
+  keeps_same s = record { same_reference = refl; same_slots = refl; spare = refl; len = refl; ready = λ can. can }
 
-  pub keeps_then : (s mid t : ArrayVecSplice A (Fuse I) T) → SpliceKeeps s mid → SpliceKeeps mid t → SpliceKeeps s t
+  pub keeps_then : (s mid t : ArrayVecSplice S (Fuse I) T L) → SpliceKeeps g s mid → SpliceKeeps g mid t → SpliceKeeps g s t
   keeps_then s mid t h k = record {
     same_reference = k.same_reference ∙ h.same_reference;
+    same_slots = k.same_slots ∙ h.same_slots;
     spare = k.spare ∙ h.spare;
     len = k.len ∙ h.len;
     ready = λ can. k.ready (h.ready can);
@@ -26,15 +28,15 @@ module _ {A I T : Type 0} where
 
   -- what its calls placed, of a replacement of which `rest` shows what it gives
   pub RunsWord-splices : (rest : Fuse I → List T) (gives gives_back : Fuse I → Option T → Fuse I → Type 0) → HasTwoEnds gives gives_back rest
-      → (s : ArrayVecSplice A (Fuse I) T) (word : List End) (answers : List (Option T)) (t : ArrayVecSplice A (Fuse I) T)
-      → RunsWord (SpliceSteps gives) (SpliceStepsBack gives_back) s word answers t → SplicedByWord splice_view SpliceKeeps rest s word t
-  RunsWord-splices rest = all.RunsWord-splices splice_view SpliceKeeps rest keeps_same keeps_then
+      → (s : ArrayVecSplice S (Fuse I) T L) (word : List End) (answers : List (Option T)) (t : ArrayVecSplice S (Fuse I) T L)
+      → RunsWord (SpliceSteps g gives) (SpliceStepsBack g gives_back) s word answers t → SplicedByWord (splice_view g) (SpliceKeeps g) rest s word t
+  RunsWord-splices rest = all.RunsWord-splices (splice_view g) (SpliceKeeps g) rest keeps_same keeps_then
 
   -- and the removed items that they gave
   pub RunsWord-takes_removed : (gives gives_back : Fuse I → Option T → Fuse I → Type 0)
-      → (s : ArrayVecSplice A (Fuse I) T) (word : List End) (answers : List (Option T)) (t : ArrayVecSplice A (Fuse I) T)
-      → RunsWord (SpliceSteps gives) (SpliceStepsBack gives_back) s word answers t → TakesFromEnds (splice_left s) word answers (splice_left t)
-  RunsWord-takes_removed = all.RunsWord-takes_removed splice_view SpliceKeeps
+      → (s : ArrayVecSplice S (Fuse I) T L) (word : List End) (answers : List (Option T)) (t : ArrayVecSplice S (Fuse I) T L)
+      → RunsWord (SpliceSteps g gives) (SpliceStepsBack g gives_back) s word answers t → TakesFromEnds (splice_left g s) word answers (splice_left g t)
+  RunsWord-takes_removed = all.RunsWord-takes_removed (splice_view g) (SpliceKeeps g)
 
 -- what `finish` puts between these two, if its replacement has not ended and `rest` shows what its source still yields
 module _ {I T : Type 0} (rest : I → List T) (room : ℕ) (s : SpliceView (Fuse I) T) (before after : List T) (result : Result Unit (SpliceRest T (Fuse I))) (list : List T) where

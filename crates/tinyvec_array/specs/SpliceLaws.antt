@@ -1,14 +1,50 @@
--- The laws of `CanCut` and `CanSplice` of an array: what its calls leave of the spare slots.
-use Rattle.std.proofs.Common.{◌≡◌, List, length, refl, sym, ap, ◌∙◌}
-use Rattle.tinyvec_slots.specs.Slots.{Slots, SlotRule, SameSpare, items, items_len, with_items}
-use Rattle.tinyvec_slots.proofs.SlotsLemmas.{items-with_items, spare-with_items}
+-- The laws of `CanSplice` of a vector over slots.
+use Rattle.std.proofs.Common.{◌≡◌, ℕ, ◌+◌, ◌-◌, ◌≤◌, length, refl, sym, ap, ◌∙◌, arith, length-append, take-append-drop}
+use Rattle.tinyvec_slots.specs.Slots.{SlotRule}
+use Rattle.tinyvec_slots.proofs.SlotsLemmas.{shortened}
+use Rattle.tinyvec_array.specs.ArrayVec.{view_of, items_of, spare_of, slots_of, SameLender, VacatesOf, Changes}
+use Rattle.tinyvec_array.specs.CutLaws.{KeptOf, CutOf}
+use Rattle.tinyvec_array.specs.declared.storage.Slots as Storage
+use Rattle.tinyvec_array.specs.declared.array_vec.ArrayVec.{ArrayVec}
 
-module _ {T : Type 0} where
-  pub slots_written : (v : Slots T) (xs : List T) → length xs ≡ items_len v → (items (with_items v xs) ≡ xs) × SameSpare v (with_items v xs)
-  slots_written v xs e = let is = items-with_items v xs e in (is, (spare-with_items v xs e, ap length is ∙ e))
+module _ {S T L : Type 0} (g : Storage.Ghosts S T L) where
+  pub parts_of : (v : ArrayVec S L) → length (slots_of g v) ≡ length (items_of g v) + length (spare_of g v)
+  parts_of v = ap length (sym (take-append-drop (g.count v.len) (g.slots v.slots))) ∙ length-append (items_of g v) (spare_of g v)
 
-  pub same_spare-refl : (v : Slots T) → SameSpare v v
-  same_spare-refl v = (refl, refl)
+  pub kept_refl : (v : ArrayVec S L) → KeptOf g v v
+  kept_refl v = (refl, (refl, refl))
 
-  pub slots_kept_around : (D : T → Type 0) (u v w x : Slots T) → SameSpare u v → SlotRule D v w → SameSpare w x → SlotRule D u x
-  slots_kept_around D u v w x k h j = let first : SlotRule D u w = rw (sym k.0, sym k.1) h in rw (j.0, j.1) first
+  -- a write of the list leaves as many slots
+  pub kept_count : (v w : ArrayVec S L) → KeptOf g v w → length (slots_of g w) ≡ length (slots_of g v)
+  kept_count v w k = omega (arith, parts_of v, parts_of w, ap length k.1.0, k.1.1)
+
+  module _ (D : T → Type 0) where
+    -- so do calls that vacate slots
+    pub vacated_count : (old new : ArrayVec S L) (n : ℕ) → length (items_of g new) + n ≡ length (items_of g old)
+        → VacatesOf g D n old new → length (slots_of g new) ≡ length (slots_of g old)
+    vacated_count old new n shorter h =
+        let behind = ap length h.2 ∙ length-append h.0 (spare_of g old) in
+        omega (arith, parts_of new, parts_of old, behind, h.1.0, shorter)
+
+    pub cut_lender : (old new : ArrayVec S L) → CutOf g D old new → SameLender g old new
+    cut_lender old new h = record {
+      same_reference = h.0;
+      slot_count = vacated_count old new (length (items_of g old) - length (items_of g new)) (omega (arith, h.1.bound)) h.1.spare;
+    }
+
+    pub cut_changes : (v w : ArrayVec S L) → CutOf g D v w → Changes g D v w
+    cut_changes v w h = record { lender = cut_lender v w h; slot_rule = shortened D (view_of g v) (view_of g w) h.1 }
+
+    pub changed_around : (u v w x : ArrayVec S L) → KeptOf g u v → Changes g D v w → KeptOf g w x → Changes g D u x
+    changed_around u v w x k h j =
+        let first : SlotRule D (view_of g u) (view_of g w) = rw (sym k.1.0, sym k.1.1) h.slot_rule in
+        record {
+          lender = record {
+            same_reference = j.0 ∙ h.lender.same_reference ∙ k.0;
+            slot_count = kept_count w x j ∙ h.lender.slot_count ∙ kept_count u v k;
+          };
+          slot_rule = rw (j.1.0, j.1.1) first;
+        }
+
+    pub not_fewer : (v w : ArrayVec S L) → Changes g D v w → length (slots_of g v) ≤ length (slots_of g w)
+    not_fewer v w h = omega (arith, h.lender.slot_count)

@@ -1,68 +1,35 @@
 //! The trait `Array`.
-ghost use Rattle.std.specs.Prelude.{◌≡◌, ℕ, List, length, All, refl};
-ghost use Rattle.std.specs.Borrow.{Lends, sem, Array as SliceOf};
+ghost use Rattle.std.specs.Prelude.{◌≡◌, ℕ, All, List, length};
 
-/// A type that is a fixed number of slots and nothing else, as `[T; N]` is.
-pub trait Array: Drop {
-    /// What a slot holds. Emptied slots hold defaults.
-    type Item: Default + Drop;
+use crate::TakesClones;
 
+/// A type that is a fixed number of slots and nothing else, as `[T; N]` is. Emptied slots hold defaults.
+pub trait Array: TakesClones<Item: Default, Len: Copy> {
     /// The number of slots.
     const CAPACITY: usize;
 
     ghost CAPACITY: { ℕ };
 
-    // What the slots hold, in order.
-    ghost slots: { Self → List Self.Item };
-
-    // The array whose slots hold this.
-    ghost of_slots: { List Self.Item → Self };
-
-    /// The slots.
-    fn as_slice(&self) -> &[Self::Item]
-        ensures value { result.now ≡ slots self.now }
-        ensures len { length result.now ≡ CAPACITY };
-
-    /// The slots, for writing.
-    fn as_slice_mut(&mut self) -> &mut [Self::Item]
-        ensures* writes_back { sem 𝓛 (Lends Self.row (SliceOf Self.Item.row 0) self.entry result of_slots) }
-        ensures value { result.now ≡ slots self.old }
-        ensures len { length result.now ≡ CAPACITY };
-
     /// An array with a default in every slot.
     fn default() -> Self
-        ensures defaults { All Self.Item.is_default (slots result) }
-        ensures len { length (slots result) ≡ CAPACITY };
+        ensures defaults { All Self.Item.is_default (Self.Slots.slots result) }
+        ensures len { length (Self.Slots.slots result) ≡ CAPACITY };
 
-    // What was written is what the slots hold.
-    ghost slots_of_slots: { (xs : List Self.Item) → slots (of_slots xs) ≡ xs };
+    // There are as many slots.
+    ghost counted: { (xs : List Self.Item) → Self.Slots.Counts xs → length xs ≡ CAPACITY };
 
     // The slots say all of an array.
-    ghost of_slots_slots: { (a : Self) → of_slots (slots a) ≡ a };
+    ghost same: { (a b : Self) → Self.Slots.slots a ≡ Self.Slots.slots b → a ≡ b };
 }
 
 impl<T: Default + Drop, const N: usize> Array for [T; N] {
-    type Item = T;
-
     const CAPACITY: usize = N;
 
     ghost CAPACITY = { N };
 
-    ghost slots = { λ a. a };
+    ghost counted = { λ xs h. h };
 
-    ghost of_slots = { λ xs. xs };
-
-    ghost slots_of_slots = { λ xs. refl };
-
-    ghost of_slots_slots = { λ a. refl };
-
-    fn as_slice(&self) -> &[T] {
-        self.as_slice()
-    }
-
-    fn as_slice_mut(&mut self) -> &mut [T] {
-        self.as_mut_slice()
-    }
+    ghost same = { λ a b h. h };
 
     #[inline(always)]
     fn default() -> Self {

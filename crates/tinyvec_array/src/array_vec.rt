@@ -1,335 +1,231 @@
-//! `ArrayVec`.
-ghost use Rattle.std.specs.Prelude.{◌≡◌, ◌+◌, ◌<◌, ◌≤◌, ◌^◌, ◌==◌, length, List, slice_index_or, slice_set, slice_range, ◌++◌, ◌-◌, drop, ◌↔◌, [], ℕ, All, IfOk, IfErr, IsErr, IsOk};
+//! `ArrayVec` and `SliceVec`.
+ghost use Rattle.std.specs.Prelude.{◌≡◌, ◌<◌, ◌≤◌, ◌==◌, ◌+◌, ◌^◌, length, drop, slice_range, slice_index_or, slice_set, List, ◌++◌, ⊤};
 ghost use Rattle.std.specs.List.{remove_range};
-ghost use Rattle.tinyvec_slots.specs.Slots.{items, spare, items_len, all_slots, split_at, AreDefaults, with_items};
-ghost use Rattle.tinyvec_slots.specs.Clones.{RefusedAt, AreClones};
+ghost use Rattle.tinyvec_slots.specs.Slots.{AreDefaults, split_at};
 ghost use Rattle.tinyvec_slots.specs.Ranges.{Within};
 ghost use Rattle.std.specs.Borrow.{sem};
+ghost use Rattle.tinyvec_array.specs.ArrayVec.{view_of, items_of, spare_of, slots_of, len_of, SameLender, Gains};
+ghost use Rattle.tinyvec_array.specs.Lends.{lends_items, lends_inner, lends_spare};
 ghost use Rattle.tinyvec_slots.specs.Filling.{Iterates, IteratesMut};
 
-mod clones;
+mod array;
 mod edits;
 mod extending;
 mod filters;
 mod in_slots;
+mod lent;
 mod traits;
 
-use crate::slots::bounded_index;
-use crate::{Array, TryFromSliceError};
+use crate::Slots;
+use crate::places::bounded_index;
+use std::alloc::AllocError;
 use std::convert::AsSlice;
-use std::marker::Model;
 use std::{mem, slice};
-use tinyvec_slots::{InSlots, fill_default, move_to_end_below, part_of};
+use tinyvec_slots::{fill_default, move_to_end_below, part_of};
 
-/// A list in an array. The slots after the list are its spare slots: they hold values too, and vacated ones hold defaults.
+/// A list in slots: in an array, or in a slice that is lent for writing. The slots after the list are its spare slots: they
+/// hold values too, and vacated ones hold defaults. When a vector in a lent slice is dropped, the owner of the slots sees
+/// the list followed by the spare slots.
 #[derive(Drop)]
-pub struct ArrayVec<A: Array> {
-    len: usize,
-    array: A,
+pub struct ArrayVec<S: Drop, L: Drop = <S as Slots>::Len> {
+    len: L,
+    slots: S,
 }
 
-impl<A: Array> Model for ArrayVec<A> {
-    ghost use Rattle.std.specs.Prelude.{◌≡◌, ◌≤◌};
-    ghost use Rattle.tinyvec_slots.specs.Slots.{Slots, slots_code};
+/// A list in a slice that is lent for writing.
+pub type SliceVec<'s, T> = ArrayVec<&'s mut [T]>;
 
-    ghost Value = { Slots A.Item };
+impl<S: Drop + Copy, L: Drop + Copy> Copy for ArrayVec<S, L> {}
 
-    ghost coded = { slots_code A.Item.code };
+impl<S: Drop + Copy, L: Drop + Copy> Clone for ArrayVec<S, L> {
+    ghost is_clone = { λ v w. w ≡ v };
 
-    ghost view = { λ v. record { slots = A.slots v.array; len = v.len } };
+    ghost is_infallible = { λ _. ⊤ };
 
-    ghost invariant = { λ v. (v.len ≤ A.CAPACITY) × (A.of_slots (A.slots v.array) ≡ v.array) };
-
-    ghost inverse = { λ v. record { len = v.len; array = A.of_slots v.slots } };
-
-    ghost inverse_ok = { λ a h t. record { len = a.len; array = h.1 t } };
+    fn clone(&self) -> Result<Self, AllocError> {
+        Ok(*self)
+    }
 }
 
-impl<A: Array + Copy> Copy for ArrayVec<A> {}
-
-impl<A: Array> ArrayVec<A> {
+impl<S: Slots> ArrayVec<S> {
     /// The number of items.
     pub fn len(&self) -> usize
-        ensures value { result ≡ items_len self.now }
-        ensures fits { result ≤ A.CAPACITY }
-        ensures slot_count { length (all_slots self.now) ≡ A.CAPACITY }
-        ensures field { result ≡ self.now.len }
-        ensures small { A.CAPACITY < 2 ^ 64 }
+        ensures value { result ≡ len_of S.Slots self.now }
+        ensures fits { result ≤ length (slots_of S.Slots self.now) }
+        ensures small { length (slots_of S.Slots self.now) < 2 ^ 64 }
+        ensures slot_count { S.Slots.Counts (slots_of S.Slots self.now) }
     {
-        // Tell the proof how many slots there are, and that their number is a `usize`.
-        let _slots = self.array.as_slice();
-        let _capacity = A::CAPACITY;
-        self.len
+        self.slots.used(&self.len)
     }
 
     /// The number of items that fit, which is that of the slots.
     pub fn capacity(&self) -> usize
-        ensures value { result ≡ A.CAPACITY }
-        ensures fits { items_len self.now ≤ A.CAPACITY }
+        ensures value { result ≡ length (slots_of S.Slots self.now) }
+        ensures parts { result ≡ len_of S.Slots self.now + length (spare_of S.Slots self.now) }
+        ensures slot_count { S.Slots.Counts (slots_of S.Slots self.now) }
     {
-        // Tells the proof that the list fits.
-        let _len = self.len();
-        A::CAPACITY
+        self.slots.all().len()
     }
 
     /// How many more items fit.
     pub fn remaining_capacity(&self) -> usize
-        ensures value { result ≡ A.CAPACITY - items_len self.now }
-        ensures sum { items_len self.now + result ≡ A.CAPACITY }
+        ensures value { result ≡ length (spare_of S.Slots self.now) }
+        ensures sum { len_of S.Slots self.now + result ≡ length (slots_of S.Slots self.now) }
+        ensures slot_count { S.Slots.Counts (slots_of S.Slots self.now) }
     {
         self.capacity() - self.len()
     }
 
     /// Whether the list has no items.
     pub fn is_empty(&self) -> bool
-        ensures { result ≡ (items_len self.now == 0) }
+        ensures { result ≡ (len_of S.Slots self.now == 0) }
     {
         self.len() == 0
     }
 
     /// Whether no more items fit.
     pub fn is_full(&self) -> bool
-        ensures value { result ≡ (items_len self.now == A.CAPACITY) }
-        ensures fits { items_len self.now ≤ A.CAPACITY }
+        ensures value { result ≡ (length (spare_of S.Slots self.now) == 0) }
+        ensures slot_count { S.Slots.Counts (slots_of S.Slots self.now) }
     {
         self.len() == self.capacity()
     }
 
     /// The items.
-    pub fn as_slice(&self) -> &[A::Item]
-        ensures { result.now ≡ items self.now }
+    pub fn as_slice(&self) -> &[S::Item]
+        ensures { result.now ≡ items_of S.Slots self.now }
     {
-        let slots = self.array.as_slice();
+        let slots = self.slots.all();
         // The minimum is the length. It bounds the trip count of a loop over the items.
-        &slots[..self.len.min(slots.len())]
+        &slots[..self.len().min(slots.len())]
     }
 
     /// The spare slots.
-    pub fn grab_spare_slice(&self) -> &[A::Item]
-        ensures { result.now ≡ spare self.now }
+    pub fn grab_spare_slice(&self) -> &[S::Item]
+        ensures { result.now ≡ spare_of S.Slots self.now }
     {
-        &self.array.as_slice()[self.len..]
-    }
-
-    /// The array, spare slots too.
-    pub fn as_inner(&self) -> &A
-        ensures slots { A.slots result.now ≡ all_slots self.now }
-        ensures array { result.now ≡ A.of_slots (all_slots self.now) }
-    {
-        &self.array
-    }
-
-    /// The array, spare slots too.
-    pub fn into_inner(self) -> A
-        ensures slots { A.slots result ≡ all_slots self }
-        ensures array { result ≡ A.of_slots (all_slots self) }
-    {
-        self.array
+        let len = self.len();
+        &self.slots.all()[len..]
     }
 
     /// Moves the border between the items and the spare slots. No slot is written.
     pub fn set_len(&mut self, new_len: usize)
-        requires { new_len ≤ A.CAPACITY }
-        ensures value { self.new ≡ split_at new_len (all_slots self.old) }
-        ensures len { items_len self.new ≡ new_len }
+        requires { new_len ≤ length (slots_of S.Slots self.old) }
+        ensures lender { SameLender S.Slots self.old self.new }
+        ensures value { view_of S.Slots self.new ≡ split_at new_len (slots_of S.Slots self.old) }
+        ensures len { len_of S.Slots self.new ≡ new_len }
     {
-        // Tells the proof how many slots there are.
-        let _slots = self.array.as_slice();
-        self.len = new_len;
+        self.len = self.slots.to_len(new_len);
+    }
+
+    // Returns `i`, and shows LLVM that it is at most the number of an array's slots.
+    #[inline(always)]
+    pub(crate) fn bounded(&self, i: usize) -> usize
+        requires { i ≤ length (slots_of S.Slots self.now) }
+        ensures { result ≡ i }
+    {
+        bounded_index(i, self.slots.most())
     }
 
     // Moves the items from `start` up to `end` after the others.
     pub(crate) fn move_to_end(&mut self, start: usize, end: usize)
-        requires { Within start end (items_len self.old) }
-        ensures items { items self.new
-            ≡ remove_range (items self.old) start end ++ slice_range (items self.old) start end }
-        ensures spare { spare self.new ≡ spare self.old }
+        requires { Within start end (len_of S.Slots self.old) }
+        ensures { Gains S.Slots 0 self.old self.new
+            (remove_range (items_of S.Slots self.old) start end ++ slice_range (items_of S.Slots self.old) start end) }
     {
         let len = self.len();
-        move_to_end_below(self.array.as_slice_mut(), start, end, len);
+        move_to_end_below(self.slots.all_mut(), start, end, len);
     }
-
-    // Takes the value of the spare slot at `i`, and leaves a default.
-    pub(crate) fn take_spare(&mut self, i: usize) -> A::Item
-        requires { i < length (spare self.old) }
-        ensures value { result ≡ slice_index_or (spare self.old) i result }
-        ensures items { items self.new ≡ items self.old }
-        ensures spare { (d : A.Item) × A.Item.is_default d × (spare self.new ≡ slice_set (spare self.old) i d) }
-    {
-        let len = self.len();
-        let slots = self.slots_mut();
-        let at = bounded_index(len, slots.len()) + bounded_index(i, slots.len());
-        mem::take(&mut slots[at])
-    }
-
-    // Writes defaults into the first `n` spare slots, or none if there are fewer.
-    pub(crate) fn fill_spare_default(&mut self, n: usize)
-        ensures items { items self.new ≡ items self.old }
-        ensures spare { n ≤ length (spare self.old) → (ds : List A.Item) × AreDefaults A.Item.is_default n ds
-            × (spare self.new ≡ ds ++ drop n (spare self.old)) }
-    {
-        let len = self.len();
-        if n <= A::CAPACITY - len {
-            fill_default(self.slots_mut(), len, len + n, A::CAPACITY);
-        }
-    }
-
-    /// An empty vector. All its slots hold defaults.
-    // Inlined, as those below, so that LLVM knows the length. A vector that a function makes, fills by a few pushes and
-    // returns is then built in the caller's place.
-    #[inline(always)]
-    pub fn new() -> Self
-        ensures border { result ≡ split_at 0 (all_slots result) }
-        ensures items { items result ≡ [] }
-        ensures spare { AreDefaults A.Item.is_default A.CAPACITY (spare result) }
-        ensures fits { items_len result ≤ A.CAPACITY }
-    {
-        ArrayVec {
-            len: 0,
-            array: A::default(),
-        }
-    }
-
-    /// A full vector, whose list is the whole array.
-    #[inline(always)]
-    pub fn from_array(array: A) -> Self
-        ensures value { result ≡ split_at A.CAPACITY (A.slots array) }
-        ensures items { items result ≡ A.slots array }
-        ensures spare { spare result ≡ [] }
-    {
-        let _slots = array.as_slice();
-        ArrayVec {
-            len: A::CAPACITY,
-            array,
-        }
-    }
-
-    /// A vector whose list is the first `len` slots of the array. The others are its spare slots.
-    #[inline(always)]
-    pub fn from_array_len(array: A, len: usize) -> Self
-        requires { len ≤ A.CAPACITY }
-        ensures { result ≡ split_at len (A.slots array) }
-    {
-        ArrayVec { len, array }
-    }
-
-    /// An empty vector, whose spare slots are the array.
-    #[inline(always)]
-    pub fn from_array_empty(array: A) -> Self
-        ensures { result ≡ split_at 0 (A.slots array) }
-    {
-        ArrayVec { len: 0, array }
-    }
-
-    /// A vector whose list is the first `len` slots of the array. Returns the array if it has fewer slots.
-    // Inlined, since LLVM takes minutes over a function that returns one of two large values.
-    #[inline(always)]
-    pub fn try_from_array_len(array: A, len: usize) -> Result<Self, A>
-        ensures refused { IsErr result ↔ (A.CAPACITY < len) }
-        ensures value { IfOk result (λ v. v ≡ split_at len (A.slots array)) }
-        ensures value_returned { IfErr result (λ a. a ≡ array) }
-    {
-        if len > A::CAPACITY {
-            return Err(array);
-        }
-        Ok(Self::from_array_len(array, len))
-    }
-
-    /// A vector of clones of the slice's items. Only clones allocate.
-    pub fn try_from_slice(slice: &[A::Item]) -> Result<Self, TryFromSliceError>
-    where
-        A::Item: Clone,
-        ensures items { IfOk result (λ v. AreClones A.Item.is_clone slice.now (items v)) }
-        ensures spare { IfOk result (λ v. AreDefaults A.Item.is_default (A.CAPACITY - length slice.now) (spare v)) }
-        ensures too_long { (result ≡ Err TryFromSliceError.TooLong) ↔ (A.CAPACITY < length slice.now) }
-        ensures memory { result ≡ Err TryFromSliceError.Memory → (j : ℕ) × RefusedAt A.Item.is_infallible slice.now j }
-        ensures succeeds { length slice.now ≤ A.CAPACITY → All A.Item.is_infallible slice.now → IsOk result }
-    {
-        if slice.len() > A::CAPACITY {
-            return Err(TryFromSliceError::TooLong);
-        }
-        let mut vec = Self::new();
-        match vec.extend_from_slice(slice) {
-            Ok(()) => Ok(vec),
-            Err(_) => Err(TryFromSliceError::Memory),
-        }
-    }
-
-    ghost use Rattle.tinyvec_array.specs.Lends.{lends_items, lends_inner, lends_spare};
 
     /// The items, for writing.
-    pub fn as_mut_slice(&mut self) -> &mut [A::Item]
-        ensures* writes_back { sem 𝓛 (lends_items A.row A.Item.row A.Array A.Item.Default self.entry result) }
-        ensures value { result.now ≡ items self.old }
+    pub fn as_mut_slice(&mut self) -> &mut [S::Item]
+        ensures* writes_back { sem 𝓛 (lends_items S.row S.Len.row S.Item.row S.Slots self.entry result) }
+        ensures value { result.now ≡ items_of S.Slots self.old }
     {
         let len = self.len();
         part_of(self, 0, len)
     }
 
     /// The spare slots, for writing.
-    pub fn grab_spare_slice_mut(&mut self) -> &mut [A::Item]
-        ensures* writes_back { sem 𝓛 (lends_spare A.row A.Item.row A.Array A.Item.Default self.entry result) }
-        ensures value { result.now ≡ spare self.old }
+    pub fn grab_spare_slice_mut(&mut self) -> &mut [S::Item]
+        ensures* writes_back { sem 𝓛 (lends_spare S.row S.Len.row S.Item.row S.Slots self.entry result) }
+        ensures value { result.now ≡ spare_of S.Slots self.old }
     {
         let len = self.len();
-        part_of(self, len, A::CAPACITY)
+        let all = self.capacity();
+        part_of(self, len, all)
     }
 
-    /// The array, spare slots too, for writing.
-    pub fn as_mut_inner(&mut self) -> &mut A
-        ensures* writes_back { sem 𝓛 (lends_inner A.row A.Item.row A.Array A.Item.Default self.entry result) }
-        ensures slots { A.slots result.now ≡ all_slots self.old }
-        ensures array { result.now ≡ A.of_slots (all_slots self.old) }
+    /// The slots, spare slots too, for writing.
+    pub fn as_mut_slots(&mut self) -> &mut [S::Item]
+        ensures* writes_back { sem 𝓛 (lends_inner S.row S.Len.row S.Item.row S.Slots self.entry result) }
+        ensures value { result.now ≡ slots_of S.Slots self.old }
     {
-        &mut self.array
+        self.slots.all_mut()
     }
 
     ghost use Rattle.tinyvec_array.specs.IterMut.{lends_iter};
+    ghost use Rattle.tinyvec_array.specs.Lends.{with_items_of};
 
     /// Iterates over the items, in order or from the back.
-    pub fn iter(&self) -> slice::Iter<'_, A::Item>
-        ensures { Iterates (items self.now) result }
+    pub fn iter(&self) -> slice::Iter<'_, S::Item>
+        ensures { Iterates (items_of S.Slots self.now) result }
     {
         self.as_slice().iter()
     }
 
     /// Iterates over the items for writing, in order or from the back. After a loop over it a proof knows the length and the
     /// spare slots, and after one over `as_mut_slice().iter_mut()` the items too.
-    pub fn iter_mut(&mut self) -> slice::IterMut<'_, A::Item>
-        ensures* writes_back { sem 𝓛 (lends_iter A.row A.Item.row A.Array A.Item.Default self.entry result) }
-        ensures yields { IteratesMut (items self.old) result }
+    pub fn iter_mut(&mut self) -> slice::IterMut<'_, S::Item>
+        ensures* writes_back { sem 𝓛 (lends_iter S.row S.Len.row S.Item.row S.Slots self.entry result) }
+        ensures yields { IteratesMut (items_of S.Slots self.old) result }
 
         // Whatever is written, the list is as long as it was.
-        ensures keeps_len { (ws : List A.Item) → items_len (with_items self.old ws) ≡ items_len self.old }
+        ensures keeps_len { (ws : List S.Item) → len_of S.Slots (with_items_of S.Slots self.old ws) ≡ len_of S.Slots self.old }
     {
-        // For the proof: the list is within the slots.
-        let _len = self.len();
         self.as_mut_slice().iter_mut()
     }
 }
 
-impl<A: Array> AsSlice<A::Item> for ArrayVec<A> {
-    ghost use Rattle.tinyvec_slots.specs.Slots.{items as list};
+impl<S: Slots> ArrayVec<S>
+where
+    S::Item: Default,
+{
+    // Takes the value of the spare slot at `i`, and leaves a default.
+    pub(crate) fn take_spare(&mut self, i: usize) -> S::Item
+        requires { i < length (spare_of S.Slots self.old) }
+        ensures lender { SameLender S.Slots self.old self.new }
+        ensures value { result ≡ slice_index_or (spare_of S.Slots self.old) i result }
+        ensures items { items_of S.Slots self.new ≡ items_of S.Slots self.old }
+        ensures spare { (d : S.Item) × S.Item.is_default d
+            × (spare_of S.Slots self.new ≡ slice_set (spare_of S.Slots self.old) i d) }
+    {
+        let len = self.len();
+        let most = self.slots.most();
+        let at = bounded_index(len, most) + bounded_index(i, most);
+        mem::take(&mut self.slots.all_mut()[at])
+    }
 
-    ghost items = { list };
+    // Writes defaults into the first `n` spare slots, or none if there are fewer.
+    pub(crate) fn fill_spare_default(&mut self, n: usize)
+        ensures lender { SameLender S.Slots self.old self.new }
+        ensures items { items_of S.Slots self.new ≡ items_of S.Slots self.old }
+        ensures spare { n ≤ length (spare_of S.Slots self.old) → (ds : List S.Item) × AreDefaults S.Item.is_default n ds
+            × (spare_of S.Slots self.new ≡ ds ++ drop n (spare_of S.Slots self.old)) }
+        ensures none { length (spare_of S.Slots self.old) < n → self.new ≡ self.old }
+    {
+        let len = self.len();
+        if n <= self.capacity() - len {
+            let most = self.slots.most();
+            fill_default(self.slots.all_mut(), len, len + n, most);
+        }
+    }
+}
 
-    fn as_slice(&self) -> &[A::Item] {
+impl<S: Slots> AsSlice<S::Item> for ArrayVec<S> {
+    ghost items = { items_of S.Slots };
+
+    fn as_slice(&self) -> &[S::Item] {
         self.as_slice()
-    }
-}
-
-impl<A: Array> Default for ArrayVec<A> {
-    ghost is_default = { λ v. (v ≡ split_at 0 (all_slots v)) × AreDefaults A.Item.is_default A.CAPACITY (all_slots v) };
-
-    fn default() -> Self {
-        Self::new()
-    }
-}
-
-impl<A: Array> From<A> for ArrayVec<A> {
-    ghost from_gives = { λ array v. (v ≡ split_at A.CAPACITY (A.slots array)) × (items v ≡ A.slots array) × (spare v ≡ []) };
-
-    fn from(array: A) -> Self {
-        Self::from_array(array)
     }
 }

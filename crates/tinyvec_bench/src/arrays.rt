@@ -49,6 +49,8 @@ impl<T: Item, const N: usize> Vector<T, N> for ArrayVec<[T; N]> {
 
     #[inline(always)]
     fn push(&mut self, x: T) -> bool {
+        // Tells the proof how many slots there are.
+        let _slots = self.capacity();
         self.push(x);
         true
     }
@@ -60,6 +62,7 @@ impl<T: Item, const N: usize> Vector<T, N> for ArrayVec<[T; N]> {
 
     #[inline(always)]
     fn insert(&mut self, i: usize, x: T) -> bool {
+        let _slots = self.capacity();
         self.insert(i, x);
         true
     }

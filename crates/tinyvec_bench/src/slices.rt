@@ -6,7 +6,7 @@ use crate::number::is_odd;
 use crate::report::{Bench, Report};
 use crate::sources::{higher_at, pairs, scattered};
 use std::rt::Runtime;
-use tinyvec_slice::SliceVec;
+use tinyvec_array::SliceVec;
 
 /// What is done with the slice.
 #[derive(Clone, Copy)]

@@ -11,7 +11,7 @@ use crate::{BorshDeserialize, BorshError, BorshForm, BorshSerialize};
 use number::{Number, from_slice};
 use std::alloc::Global;
 use std::io::{Read, Write};
-use tinyvec_array::Array;
+use tinyvec_array::{Array, Slots};
 use tinyvec_io::Counted;
 
 impl<T: Number> BorshForm for T {
@@ -30,7 +30,7 @@ impl<T: Number> BorshForm for T {
 
 impl<T: Number> BorshSerialize for T {
     fn serialize<W: Write>(&self, writer: &mut Counted<W>) -> Result<(), BorshError> {
-        write_bytes(writer, self.to_bytes().as_slice())
+        write_bytes(writer, self.to_bytes().all())
     }
 
     fn serialize_items<W: Write>(

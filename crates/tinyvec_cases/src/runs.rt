@@ -3,9 +3,7 @@ ghost use Rattle.std.specs.Prelude.{◌≤◌, IfOk, IfSome};
 
 use tinyvec::{Array, ArrayVec, SliceVec, TinyVec};
 use tinyvec_rows::{Said, Words, Wrong, say, say_place, say_slots, window};
-use tinyvec_script::{
-    Call, End, drive_array_splice, drive_tiny_splice, run_array, run_slice, run_tiny,
-};
+use tinyvec_script::{Call, End, drive_array_splice, drive_tiny_splice, run_array, run_tiny};
 use tinyvec_vector_cases::array;
 use tinyvec_vector_cases::vector::Calls;
 
@@ -94,7 +92,7 @@ fn over_slice(words: &mut Words<'_>, calls: &mut Calls<'_>) -> Said {
         }
         let read = read_calls(&mut words)?;
         window::open(alloc, refused);
-        let answers = run_slice(alloc, &mut v, read);
+        let answers = run_array(alloc, &mut v, read);
         window::close(alloc);
         say(calls.out, &answers)?;
         say_slots(calls.out, v.as_slice(), v.grab_spare_slice())?;

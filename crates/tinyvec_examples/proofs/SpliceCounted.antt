@@ -6,6 +6,7 @@ use Rattle.std.specs.declared.iter.Fuse.{Fuse}
 use Rattle.tinyvec_slots.specs.Ends.{End, front, back, RunsWord, given_items}
 use Rattle.tinyvec_slots.specs.AnySplice.{SpliceView, Splices, SplicesBack, FinishTouches}
 use Rattle.tinyvec_array.specs.Splice.{splice_view, SpliceKeeps, SpliceSteps, SpliceStepsBack}
+use Rattle.tinyvec_array.specs.declared.storage.Slots as Storage
 use Rattle.tinyvec_array.specs.declared.splice.ArrayVecSplice.{ArrayVecSplice}
 use Rattle.tinyvec.specs.TinyVecSplice as tiny
 use Rattle.tinyvec.specs.declared.splice.TinyVecSplice.{TinyVecSplice}
@@ -73,20 +74,19 @@ module _ {S I T : Type 0} (view : S → SpliceView I T) (keeps : S → S → Typ
         kept = then s asks.0 t asks.1.1 h.kept;
       }
 
--- the same of an array's splice
-pub array_counted : {A I T : Type 0} (gives gives_back : Fuse I → Option T → Fuse I → Type 0)
-    → (s : ArrayVecSplice A (Fuse I) T) (word : List End) (answers : List (Option T)) (t : ArrayVecSplice A (Fuse I) T)
-    → RunsWord (SpliceSteps gives) (SpliceStepsBack gives_back) s word answers t → Counts splice_view SpliceKeeps s answers t
-array_counted =
-    counted splice_view SpliceKeeps keeps_same keeps_then
+-- the same of a splice of a vector over slots
+module _ {S T L I : Type 0} (g : Storage.Ghosts S T L) where
+  pub array_counted : (gives gives_back : Fuse I → Option T → Fuse I → Type 0)
+      → (s : ArrayVecSplice S (Fuse I) T L) (word : List End) (answers : List (Option T)) (t : ArrayVecSplice S (Fuse I) T L)
+      → RunsWord (SpliceSteps g gives) (SpliceStepsBack g gives_back) s word answers t → Counts (splice_view g) (SpliceKeeps g) s answers t
+  array_counted = counted (splice_view g) (SpliceKeeps g) (keeps_same g) (keeps_then g)
 
--- and of a `TinyVec`'s
-pub tiny_counted : {A I T : Type 0} (gives gives_back : Fuse I → Option T → Fuse I → Type 0)
-    → (s : TinyVecSplice A (Fuse I) T) (word : List End) (answers : List (Option T)) (t : TinyVecSplice A (Fuse I) T)
-    → RunsWord (tiny.SpliceSteps gives) (tiny.SpliceStepsBack gives_back) s word answers t
-    → Counts tiny.splice_view tiny.SpliceKeeps s answers t
-tiny_counted =
-    counted tiny.splice_view tiny.SpliceKeeps tiny_lemmas.keeps_same tiny_lemmas.keeps_then
+  -- and of a `TinyVec`'s
+  pub tiny_counted : (gives gives_back : Fuse I → Option T → Fuse I → Type 0)
+      → (s : TinyVecSplice S (Fuse I) T L) (word : List End) (answers : List (Option T)) (t : TinyVecSplice S (Fuse I) T L)
+      → RunsWord (tiny.SpliceSteps g gives) (tiny.SpliceStepsBack g gives_back) s word answers t
+      → Counts (tiny.splice_view g) (tiny.SpliceKeeps g) s answers t
+  tiny_counted = counted (tiny.splice_view g) (tiny.SpliceKeeps g) (tiny_lemmas.keeps_same g) (tiny_lemmas.keeps_then g)
 
 -- how many slots were touched up to the end of a splice
 module _ {S I T : Type 0} {view : S → SpliceView I T} {keeps : S → S → Type 0} (s t : S) (answers : List (Option T)) (list : List T)

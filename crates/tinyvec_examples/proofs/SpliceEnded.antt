@@ -1,13 +1,17 @@
 -- What a splice made of a list, once it was driven by a word of ends and finished.
 use Rattle.std.proofs.Common.{◌≡◌, ℕ, ◌+◌, ◌-◌, ◌≤◌, List, [], ◌∷◌, ◌++◌, length, drop, Option, Some, None, Result, Ok, Err, IsOk, OnOk, IfErr, ◌↔◌, false, true, sym, ap, ◌∙◌, arith}
 use Rattle.std.specs.declared.iter.Fuse.{Fuse}
-use Rattle.tinyvec_slots.specs.Slots.{Slots, spare, items_len, SlotRule}
+use Rattle.tinyvec_slots.specs.Slots.{SlotRule}
 use Rattle.tinyvec_slots.specs.Ends.{End}
 use Rattle.tinyvec_slots.specs.AnySplice.{SpliceView, Splices, FinishesWith}
 use Rattle.tinyvec_slots.specs.SplicedByWord.{IsSpliceRefused, SplicedByWord}
 use Rattle.tinyvec_slots.specs.declared.no_room.SpliceRest.{SpliceRest}
 use Rattle.tinyvec_slots.proofs.AnySpliceLemmas.{spliced_len, spliced_all, spliced_refused}
+use Rattle.tinyvec_array.specs.ArrayVec.{view_of, spare_of, slots_of, len_of, SameLender}
 use Rattle.tinyvec_array.specs.Splice.{splice_slots, SpliceKeeps}
+use Rattle.tinyvec_array.proofs.ViewLemmas.{parts_of}
+use Rattle.tinyvec_array.specs.declared.storage.Slots as Storage
+use Rattle.tinyvec_array.specs.declared.array_vec.ArrayVec.{ArrayVec}
 use Rattle.tinyvec_array.specs.declared.splice.ArrayVecSplice.{ArrayVecSplice}
 
 -- the list, where the replacement was known
@@ -37,15 +41,23 @@ module _ {S I T : Type 0} {view : S → SpliceView I T} {keeps : S → S → Typ
   ended_all (Err refused) f le = absurd (let no : false ≡ true = (ended_fits (Err refused) f).1 le in cc)
 
 -- the slot rule from the splice on
-pub ended_slots : {A I T : Type 0} (D : T → Type 0) (s t : ArrayVecSplice A (Fuse I) T) (old v : Slots T) → SpliceKeeps s t → splice_slots s ≡ old
-    → SlotRule D (splice_slots t) v → SlotRule D old v
-ended_slots D s t old v keeps slots rule =
-    let count : items_len (splice_slots t) ≡ items_len old = keeps.len ∙ ap items_len slots in
-    let behind : spare (splice_slots t) ≡ spare old = keeps.spare ∙ ap spare slots in (
+pub ended_slots : {S T L I : Type 0} (g : Storage.Ghosts S T L) (D : T → Type 0) (s t : ArrayVecSplice S (Fuse I) T L) (old v : ArrayVec S L) → SpliceKeeps g s t
+    → splice_slots s ≡ old → SlotRule D (view_of g (splice_slots t)) (view_of g v) → SlotRule D (view_of g old) (view_of g v)
+ended_slots g D s t old v keeps slots rule =
+    let count : len_of g (splice_slots t) ≡ len_of g old = keeps.len ∙ ap (len_of g) slots in
+    let behind : spare_of g (splice_slots t) ≡ spare_of g old = keeps.spare ∙ ap (spare_of g) slots in (
       rule.0,
-      (rule.1.0 ∙ ap (λ n. n - items_len v) count, rule.1.1),
-      rule.2 ∙ ap (λ n. rule.0 ++ drop (items_len v - n) (spare (splice_slots t))) count ∙ ap (λ l. rule.0 ++ drop (items_len v - items_len old) l) behind,
+      (rule.1.0 ∙ ap (λ n. n - len_of g v) count, rule.1.1),
+      rule.2 ∙ ap (λ n. rule.0 ++ drop (len_of g v - n) (spare_of g (splice_slots t))) count ∙ ap (λ l. rule.0 ++ drop (len_of g v - len_of g old) l) behind,
     )
+
+-- as many slots as at its start
+pub ended_count : {S T L I : Type 0} (g : Storage.Ghosts S T L) (s t : ArrayVecSplice S (Fuse I) T L) (old v : ArrayVec S L) → SpliceKeeps g s t
+    → splice_slots s ≡ old → SameLender g (splice_slots t) v → length (slots_of g v) ≡ length (slots_of g old)
+ended_count g s t old v keeps slots lender =
+    let count : len_of g (splice_slots t) ≡ len_of g old = keeps.len ∙ ap (len_of g) slots in
+    let behind : length (spare_of g (splice_slots t)) ≡ length (spare_of g old) = ap length (keeps.spare ∙ ap (spare_of g) slots) in
+    omega (arith, lender.slot_count, count, behind, parts_of g (splice_slots t), parts_of g old)
 
 -- what was taken from an end
 module _ {S I T : Type 0} (view : S → SpliceView I T) (keeps : S → S → Type 0) (gives : I → Option T → I → Type 0) (s t : S) where

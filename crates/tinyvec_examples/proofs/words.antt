@@ -4,16 +4,15 @@ pub mod Clones
 pub mod Ranges
 pub mod Iterators
 pub mod Splices
+pub mod ArrayVec
 pub mod ArrayDrain
 pub mod SliceVec
 pub mod Extracting
-pub mod SliceDrain
 pub mod TinyVec
 pub mod ArraySplice
 pub mod TinySplice
 pub mod TinyDrain
 pub mod Lends
-pub mod SliceLends
 pub mod InlineText
 pub mod Counted
 pub mod Borsh

@@ -35,10 +35,18 @@ month_text n =
 abbrev pub day_text : Bool → ℕ → List ℕ
 day_text pad n = if pad || nat_le 10 n then two_digits n else (48 + n) ∷ []
 
+-- `Sat, 13`
+abbrev pub weekday_and_day_text : Bool → DateTime → List ℕ
+weekday_and_day_text pad dt = weekday_text dt.weekday ++ codes ", " ++ day_text pad dt.day
+
+-- `Jul 2024`
+abbrev pub month_and_year_text : DateTime → List ℕ
+month_and_year_text dt = month_text dt.month ++ 32 ∷ [] ++ four_digits dt.year
+
+-- `15:09:59`
+abbrev pub time_text : DateTime → List ℕ
+time_text dt = two_digits dt.hour ++ 58 ∷ [] ++ two_digits dt.minute ++ 58 ∷ [] ++ two_digits dt.second
+
 -- `Sat, 13 Jul 2024 15:09:59`
 abbrev pub date_and_time_text : Bool → DateTime → List ℕ
-date_and_time_text pad dt =
-    weekday_text dt.weekday ++ codes ", " ++ day_text pad dt.day ++ 32 ∷ []
-    ++ month_text dt.month ++ 32 ∷ [] ++ four_digits dt.year
-    ++ 32 ∷ [] ++ two_digits dt.hour ++ 58 ∷ [] ++ two_digits dt.minute ++ 58 ∷ []
-    ++ two_digits dt.second
+date_and_time_text pad dt = weekday_and_day_text pad dt ++ 32 ∷ [] ++ month_and_year_text dt ++ 32 ∷ [] ++ time_text dt

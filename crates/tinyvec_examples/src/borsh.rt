@@ -1,7 +1,7 @@
 //! What callers can prove of every type that can be written and read.
 ghost use Rattle.std.specs.Prelude.{◌≡◌, ◌⊎◌, ◌++◌, ℕ, List, map, IfErr, IfOk};
-ghost use Rattle.tinyvec_slots.specs.Slots.{items};
-ghost use Rattle.tinyvec.specs.TinyVec.{tiny_items};
+ghost use Rattle.tinyvec_array.specs.ArrayVec.{items, items_of};
+ghost use Rattle.tinyvec.specs.TinyVec.{tiny_items, tiny_items_of};
 ghost use Rattle.tinyvec_borsh.specs.Code.{TellsApart};
 ghost use Rattle.tinyvec_borsh.specs.Reading.{ReadsBack};
 
@@ -43,7 +43,7 @@ pub fn copied_array<A: Array>(alloc: Global, v: &ArrayVec<A>) -> Result<ArrayVec
 where
     A::Item: BorshSerialize + BorshDeserialize,
     requires { TellsApart A.Item.content_of }
-    ensures same { IfOk result (λ w. items w ≡ items v.now) }
+    ensures same { IfOk result (λ w. items_of A.Slots w ≡ items_of A.Slots v.now) }
     ensures err { IfErr result (λ e. (e ≡ BorshError.Io) ⊎ (e ≡ BorshError.Memory)) }
 {
     copied(alloc, v)
@@ -54,7 +54,7 @@ pub fn copied_tiny<A: Array>(alloc: Global, v: &TinyVec<A>) -> Result<TinyVec<A>
 where
     A::Item: BorshSerialize + BorshDeserialize,
     requires { TellsApart A.Item.content_of }
-    ensures same { IfOk result (λ w. tiny_items w ≡ tiny_items v.now) }
+    ensures same { IfOk result (λ w. tiny_items_of A.Slots w ≡ tiny_items_of A.Slots v.now) }
     ensures err { IfErr result (λ e. (e ≡ BorshError.Io) ⊎ (e ≡ BorshError.Memory)) }
 {
     copied(alloc, v)
@@ -68,7 +68,7 @@ pub fn copied_lists<A: Array, const N: usize>(
 where
     A::Item: BorshSerialize + BorshDeserialize,
     requires { TellsApart A.Item.content_of }
-    ensures same { IfOk result (λ w. map items (tiny_items w) ≡ map items (tiny_items v.now)) }
+    ensures same { IfOk result (λ w. map (items_of A.Slots) (tiny_items w) ≡ map (items_of A.Slots) (tiny_items v.now)) }
     ensures err { IfErr result (λ e. (e ≡ BorshError.Io) ⊎ (e ≡ BorshError.Memory)) }
 {
     copied(alloc, v)

@@ -1,7 +1,7 @@
 //! Clones, of items that own memory and of numbers.
 ghost use Rattle.std.specs.Prelude.{◌≡◌, ◌+◌, ◌-◌, ◌≤◌, length, IfOk, OnOk};
 ghost use Rattle.std.specs.List.{AppendsClones};
-ghost use Rattle.tinyvec.specs.Slots.{items, items_len};
+ghost use Rattle.tinyvec_array.specs.ArrayVec.{items, items_of, len_of};
 ghost use Rattle.tinyvec.specs.TinyVec.{tiny_items, tiny_len};
 
 use std::alloc::AllocError;
@@ -11,10 +11,12 @@ use tinyvec::{Array, ArrayVec, TinyVec};
 pub fn appended<A: Array>(v: &mut ArrayVec<A>, more: &[A::Item]) -> Result<(), AllocError>
 where
     A::Item: Clone,
-    requires { length more.now ≤ A.CAPACITY - items_len v.old }
-    ensures items { OnOk result (AppendsClones A.Item.is_clone (items v.old) (items v.new) more.now) }
-    ensures len { OnOk result (items_len v.new ≡ items_len v.old + length more.now) }
+    requires { length more.now ≤ A.CAPACITY - len_of A.Slots v.old }
+    ensures items { OnOk result (AppendsClones A.Item.is_clone (items_of A.Slots v.old) (items_of A.Slots v.new) more.now) }
+    ensures len { OnOk result (len_of A.Slots v.new ≡ len_of A.Slots v.old + length more.now) }
 {
+    // For the proof: how many slots there are.
+    let _slots = v.capacity();
     v.extend_from_slice(more)
 }
 

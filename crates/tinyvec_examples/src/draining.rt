@@ -1,6 +1,7 @@
 //! Callers of a drain.
 ghost use Rattle.std.specs.Prelude.{◌≡◌, ◌-◌, ◌++◌, ◌∷◌, [], pos, Some, slice_get};
-ghost use Rattle.tinyvec_array.specs.Slots.{items, SlotRule};
+ghost use Rattle.tinyvec_array.specs.ArrayVec.{items, items_of, view_of};
+ghost use Rattle.tinyvec_array.specs.Slots.{SlotRule};
 ghost use Rattle.tinyvec_array.specs.Ranges.{IsRangeOf, before, removed, after};
 
 use std::ops::RangeBounds;
@@ -61,10 +62,10 @@ pub fn counted() -> (usize, (usize, Option<usize>))
 /// Any range of any vector: what preceded and followed it is left.
 pub fn cut<A: Array, R: RangeBounds<usize>>(v: &mut ArrayVec<A>, range: R)
     requires not_exhausted { R.has_bounds range }
-    requires in_list { IsRangeOf (items v.old) (R.start_bound range) (R.end_bound range) }
-    ensures items { items v.new
-        ≡ before (items v.old) (R.start_bound range) ++ after (items v.old) (R.end_bound range) }
-    ensures slot_rule { SlotRule A.Item.is_default v.old v.new }
+    requires in_list { IsRangeOf (items_of A.Slots v.old) (R.start_bound range) (R.end_bound range) }
+    ensures items { items_of A.Slots v.new
+        ≡ before (items_of A.Slots v.old) (R.start_bound range) ++ after (items_of A.Slots v.old) (R.end_bound range) }
+    ensures slot_rule { SlotRule A.Item.is_default (view_of A.Slots v.old) (view_of A.Slots v.new) }
 {
     drop(v.drain(range));
 }
@@ -76,10 +77,10 @@ pub fn nth_of<A: Array, R: RangeBounds<usize>>(
     n: usize,
 ) -> Option<A::Item>
     requires not_exhausted { R.has_bounds range }
-    requires in_list { IsRangeOf (items v.old) (R.start_bound range) (R.end_bound range) }
-    ensures item { result ≡ slice_get (removed (items v.old) (R.start_bound range) (R.end_bound range)) n }
-    ensures left { items v.new ≡ before (items v.old) (R.start_bound range) ++ after (items v.old) (R.end_bound range) }
-    ensures slot_rule { SlotRule A.Item.is_default v.old v.new }
+    requires in_list { IsRangeOf (items_of A.Slots v.old) (R.start_bound range) (R.end_bound range) }
+    ensures item { result ≡ slice_get (removed (items_of A.Slots v.old) (R.start_bound range) (R.end_bound range)) n }
+    ensures left { items_of A.Slots v.new ≡ before (items_of A.Slots v.old) (R.start_bound range) ++ after (items_of A.Slots v.old) (R.end_bound range) }
+    ensures slot_rule { SlotRule A.Item.is_default (view_of A.Slots v.old) (view_of A.Slots v.new) }
 {
     let mut d = v.drain(range);
     d.nth(n)
@@ -87,10 +88,12 @@ pub fn nth_of<A: Array, R: RangeBounds<usize>>(
 
 /// Moves all items to an empty vector.
 pub fn move_all<A: Array>(from: &mut ArrayVec<A>, to: &mut ArrayVec<A>)
-    requires { items to.old ≡ [] }
-    ensures moved { items to.new ≡ items from.old }
-    ensures left { items from.new ≡ [] }
+    requires { items_of A.Slots to.old ≡ [] }
+    ensures moved { items_of A.Slots to.new ≡ items_of A.Slots from.old }
+    ensures left { items_of A.Slots from.new ≡ [] }
 {
+    // For the proof: both have as many slots.
+    let _both = (from.len(), to.len());
     for x in from.drain(..) {
         to.push(x);
     }

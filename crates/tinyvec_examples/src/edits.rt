@@ -1,6 +1,6 @@
 //! Callers of edits.
 ghost use Rattle.std.specs.Prelude.{◌≡◌, ◌≤◌, ◌<◌, ◌∷◌, [], pos, insert, remove};
-ghost use Rattle.tinyvec_array.specs.Slots.{items, items_len};
+ghost use Rattle.tinyvec_array.specs.ArrayVec.{items_of, len_of};
 
 use tinyvec_array::{Array, ArrayVec};
 
@@ -16,8 +16,8 @@ pub fn edited() -> [i32; 4]
 
 /// The list cut in two and joined again is the same list.
 pub fn cut_and_joined<A: Array>(v: &mut ArrayVec<A>, at: usize)
-    requires { at ≤ items_len v.old }
-    ensures { items v.new ≡ items v.old }
+    requires { at ≤ len_of A.Slots v.old }
+    ensures { items_of A.Slots v.new ≡ items_of A.Slots v.old }
 {
     let mut tail = v.split_off(at);
     v.append(&mut tail);

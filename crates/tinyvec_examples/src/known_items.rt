@@ -1,9 +1,9 @@
 //! Items that are known beforehand, and fit: `extend` succeeds, and the list is known.
 ghost use Rattle.std.specs.Prelude.{◌≡◌, ◌+◌, ◌-◌, ◌≤◌, ◌++◌, length, vec_len, IsOk, OnOk};
 ghost use Rattle.std.specs.List.{range_with_len};
-ghost use Rattle.tinyvec.specs.Slots.{items, items_len};
-ghost use Rattle.tinyvec.specs.TinyVec.{tiny_items};
-ghost use Rattle.tinyvec.specs.SliceVec.{items as slice_items, spare as slice_spare, name};
+ghost use Rattle.tinyvec_array.specs.ArrayVec.{items, items_of, len_of};
+ghost use Rattle.tinyvec_array.specs.SliceVec.{name, items as slice_items, spare as slice_spare};
+ghost use Rattle.tinyvec.specs.TinyVec.{tiny_items_of};
 
 use std::alloc::Global;
 use std::iter::Copied;
@@ -16,9 +16,11 @@ pub fn by_vec<A: Array>(
     v: &mut ArrayVec<A>,
     more: Vec<A::Item>,
 ) -> Result<(), NoRoom<A::Item, vec::IntoIter<A::Item, Global>>>
-    requires { vec_len more ≤ A.CAPACITY - items_len v.old }
-    ensures { IsOk result × (items v.new ≡ items v.old ++ more.items) }
+    requires { vec_len more ≤ A.CAPACITY - len_of A.Slots v.old }
+    ensures { IsOk result × (items_of A.Slots v.new ≡ items_of A.Slots v.old ++ more.items) }
 {
+    // For the proof: how many slots there are.
+    let _slots = v.capacity();
     v.extend(more)
 }
 
@@ -28,9 +30,11 @@ pub fn by_range<A: Array<Item = usize>>(
     start: usize,
     end: usize,
 ) -> Result<(), NoRoom<usize, Range<usize>>>
-    requires { end - start ≤ A.CAPACITY - items_len v.old }
-    ensures { IsOk result × (items v.new ≡ items v.old ++ range_with_len start (end - start)) }
+    requires { end - start ≤ A.CAPACITY - len_of A.Slots v.old }
+    ensures { IsOk result × (items_of A.Slots v.new ≡ items_of A.Slots v.old ++ range_with_len start (end - start)) }
 {
+    // For the proof: how many slots there are.
+    let _slots = v.capacity();
     v.extend(start..end)
 }
 
@@ -39,9 +43,11 @@ pub fn by_copies<'a, T: Copy + Default + Drop + 'a, A: Array<Item = T>>(
     v: &mut ArrayVec<A>,
     more: &'a [T],
 ) -> Result<(), NoRoom<T, Copied<slice::Iter<'a, T>>>>
-    requires { length more.now ≤ A.CAPACITY - items_len v.old }
-    ensures { IsOk result × (items v.new ≡ items v.old ++ more.now) }
+    requires { length more.now ≤ A.CAPACITY - len_of A.Slots v.old }
+    ensures { IsOk result × (items_of A.Slots v.new ≡ items_of A.Slots v.old ++ more.now) }
 {
+    // For the proof: how many slots there are.
+    let _slots = v.capacity();
     v.extend(more.iter().copied())
 }
 
@@ -62,7 +68,7 @@ pub fn by_length<A: Array>(
     v: &mut TinyVec<A>,
     more: Vec<A::Item>,
 ) -> Result<(), NoMemory<vec::IntoIter<A::Item, Global>>>
-    ensures { OnOk result (tiny_items v.new ≡ tiny_items v.old ++ more.items) }
+    ensures { OnOk result (tiny_items_of A.Slots v.new ≡ tiny_items_of A.Slots v.old ++ more.items) }
 {
     v.extend_exact_size(more)
 }

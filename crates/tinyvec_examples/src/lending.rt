@@ -1,6 +1,6 @@
 //! Callers that write through what a vector lends.
 ghost use Rattle.std.specs.Prelude.{◌≡◌, ◌<◌, ◌∷◌, [], pos, slice_set};
-ghost use Rattle.tinyvec_array.specs.Slots.{items, spare, items_len};
+ghost use Rattle.tinyvec_array.specs.ArrayVec.{items, spare, items_of, spare_of, len_of};
 
 use tinyvec_array::{Array, ArrayVec};
 
@@ -45,9 +45,9 @@ pub fn grabbed() -> [i32; 4]
 
 /// One item of any vector: that item, and nothing else.
 pub fn set<A: Array>(v: &mut ArrayVec<A>, i: usize, x: A::Item)
-    requires { i < items_len v.old }
-    ensures items { items v.new ≡ slice_set (items v.old) i x }
-    ensures spare { spare v.new ≡ spare v.old }
+    requires { i < len_of A.Slots v.old }
+    ensures items { items_of A.Slots v.new ≡ slice_set (items_of A.Slots v.old) i x }
+    ensures spare { spare_of A.Slots v.new ≡ spare_of A.Slots v.old }
 {
     v[i] = x;
 }

@@ -1,6 +1,6 @@
 //! Vectors made by `array_vec!` and `tiny_vec!`, in each form.
 ghost use Rattle.std.specs.Prelude.{◌≡◌, ◌<◌, ◌+◌, ◌∷◌, [], pos, IfOk};
-ghost use Rattle.tinyvec.specs.Slots.{items, spare};
+ghost use Rattle.tinyvec_array.specs.ArrayVec.{items, spare};
 ghost use Rattle.tinyvec.specs.TinyVec.{tiny_items, tiny_spare, IsInline};
 
 use std::alloc::{AllocError, Global};

@@ -1,6 +1,7 @@
 //! Vectors made of arrays, and given back.
 ghost use Rattle.std.specs.Prelude.{◌≡◌, length, []};
-ghost use Rattle.tinyvec_array.specs.Slots.{items, spare, items_len, AreDefaults};
+ghost use Rattle.tinyvec_array.specs.ArrayVec.{items, spare, items_of, spare_of, len_of};
+ghost use Rattle.tinyvec_array.specs.Slots.{AreDefaults};
 
 use std::convert::AsSlice;
 use std::mem;
@@ -15,11 +16,11 @@ pub fn converted<S, T: From<S>>(source: S) -> T
 
 /// The whole array is the list.
 pub fn full_list<A: Array>(array: A) -> ArrayVec<A>
-    ensures items { items result ≡ A.slots array }
-    ensures spare { spare result ≡ [] }
+    ensures items { items_of A.Slots result ≡ A.Slots.slots array }
+    ensures spare { spare_of A.Slots result ≡ [] }
 {
     // How many slots the array has is known once a call says so.
-    let _slots = array.as_slice();
+    let _slots = array.all();
     converted(array)
 }
 
@@ -32,8 +33,8 @@ pub fn default_of<T: Default>() -> T
 
 /// A vector's default has no items, and defaults in each slot.
 pub fn no_items<A: Array>() -> ArrayVec<A>
-    ensures items { items result ≡ [] }
-    ensures spare { AreDefaults A.Item.is_default A.CAPACITY (spare result) }
+    ensures items { items_of A.Slots result ≡ [] }
+    ensures spare { AreDefaults A.Item.is_default A.CAPACITY (spare_of A.Slots result) }
 {
     default_of()
 }
@@ -41,7 +42,7 @@ pub fn no_items<A: Array>() -> ArrayVec<A>
 /// Takes the vector, and leaves an empty one.
 pub fn taken<A: Array>(v: &mut ArrayVec<A>) -> ArrayVec<A>
     ensures value { result ≡ v.old }
-    ensures left { items v.new ≡ [] }
+    ensures left { items_of A.Slots v.new ≡ [] }
 {
     mem::take(v)
 }
@@ -55,7 +56,7 @@ pub fn count<T, L: AsSlice<T>>(list: &L) -> usize
 
 /// A vector lends its items.
 pub fn count_items<A: Array>(v: &ArrayVec<A>) -> usize
-    ensures { result ≡ items_len v.now }
+    ensures { result ≡ len_of A.Slots v.now }
 {
     count(v)
 }

@@ -2,9 +2,9 @@
 ghost use Rattle.std.specs.Prelude.{◌≡◌, ◌++◌, List, ℕ, Some, IfOk, string_bytes, codes, false};
 ghost use Rattle.std.specs.Fmt.{decimal};
 ghost use Rattle.std.specs.List.{join_by};
-ghost use Rattle.tinyvec.specs.Slots.{items};
+ghost use Rattle.tinyvec_array.specs.ArrayVec.{items_of};
 ghost use Rattle.tinyvec.specs.Texts.{list_in_radix};
-ghost use Rattle.tinyvec.specs.TinyVec.{tiny_items};
+ghost use Rattle.tinyvec.specs.TinyVec.{tiny_items_of};
 
 use std::alloc::{AllocError, Global};
 use std::fmt;
@@ -24,7 +24,7 @@ pub fn displayed_items<A: Array>(alloc: Global, v: &ArrayVec<A>) -> Result<Strin
 where
     A::Item: fmt::Display,
     ensures { (text : A.Item → List ℕ) → ((x : A.Item) → A.Item.output x ≡ Some (text x))
-        → IfOk result (λ s. string_bytes s ≡ codes "[" ++ (join_by text (codes ", ") (items v.now) ++ codes "]")) }
+        → IfOk result (λ s. string_bytes s ≡ codes "[" ++ (join_by text (codes ", ") (items_of A.Slots v.now) ++ codes "]")) }
 {
     format!(in alloc; "{}", *v)
 }
@@ -35,7 +35,7 @@ pub fn displayed_numbers<A: Array<Item = u32>>(
     v: &TinyVec<A>,
 ) -> Result<String, AllocError>
     ensures { IfOk result (λ s. string_bytes s
-        ≡ codes "[" ++ (join_by decimal (codes ", ") (tiny_items v.now) ++ codes "]")) }
+        ≡ codes "[" ++ (join_by decimal (codes ", ") (tiny_items_of A.Slots v.now) ++ codes "]")) }
 {
     format!(in alloc; "{}", *v)
 }
@@ -48,7 +48,7 @@ impl<'a, A: Array> fmt::Display for InHex<'a, A>
 where
     A::Item: HasDigits + Copy,
 {
-    ghost output = { λ shown. list_in_radix A.Item.word 16 false (items shown.0.now) };
+    ghost output = { λ shown. list_in_radix A.Item.word 16 false (items_of A.Slots shown.0.now) };
 
     fn fmt<W: fmt::Write>(&self, f: &mut fmt::Formatter<W>) -> fmt::Result {
         fmt::LowerHex::fmt(self.0, f)

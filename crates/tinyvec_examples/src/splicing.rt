@@ -1,7 +1,8 @@
 //! Callers of a splice.
 ghost use Rattle.std.specs.Prelude.{◌≡◌, ◌≤◌, ◌+◌, ◌-◌, ◌++◌, ◌∷◌, [], List, length, take, drop, max, IsOk, OnOk, OnErr, IfErr, ◌↔◌};
 ghost use Rattle.std.specs.Iterator.Adapters.{fuse_steps};
-ghost use Rattle.tinyvec_array.specs.Slots.{items, items_len, SlotRule};
+ghost use Rattle.tinyvec_array.specs.ArrayVec.{items_of, view_of, len_of};
+ghost use Rattle.tinyvec_array.specs.Slots.{SlotRule};
 ghost use Rattle.tinyvec_array.specs.Ends.{front, back, given_items, RunsWord, TakesFromEnds};
 ghost use Rattle.tinyvec_array.specs.Fused.{fused_rest, HasTwoEnds};
 ghost use Rattle.tinyvec_array.specs.Splice.{splice_view, splice_left, SpliceKeeps, SpliceCanStep, SpliceSteps, SpliceStepsBack};
@@ -14,15 +15,15 @@ use tinyvec_array::{Array, ArrayVec, ArrayVecSplice, SpliceRest};
 pub fn one_from_each_end<A: Array, I: DoubleEndedIterator<Item = A::Item>>(
     splice: &mut ArrayVecSplice<'_, A, Fuse<I>>,
 ) -> (Option<A::Item>, Option<A::Item>)
-    requires ready { SpliceCanStep splice.old }
+    requires ready { SpliceCanStep A.Slots splice.old }
     requires can { (s : I) → I.can_next s × I.can_next_back s }
-    ensures asked { RunsWord (SpliceSteps (fuse_steps I.next_gives)) (SpliceStepsBack (fuse_steps I.next_back_gives))
+    ensures asked { RunsWord (SpliceSteps A.Slots (fuse_steps I.next_gives)) (SpliceStepsBack A.Slots (fuse_steps I.next_back_gives))
         splice.old (front ∷ back ∷ []) (result.0 ∷ result.1 ∷ []) splice.new }
-    ensures yields { TakesFromEnds (splice_left splice.old) (front ∷ back ∷ [])
-        (result.0 ∷ result.1 ∷ []) (splice_left splice.new) }
+    ensures yields { TakesFromEnds (splice_left A.Slots splice.old) (front ∷ back ∷ [])
+        (result.0 ∷ result.1 ∷ []) (splice_left A.Slots splice.new) }
     ensures spliced { (rest : I → List A.Item) → HasTwoEnds I.next_gives I.next_back_gives rest
-        → SplicedByWord splice_view SpliceKeeps (fused_rest rest) splice.old (front ∷ back ∷ []) splice.new }
-    ensures ready { SpliceCanStep splice.new }
+        → SplicedByWord (splice_view A.Slots) (SpliceKeeps A.Slots) (fused_rest rest) splice.old (front ∷ back ∷ []) splice.new }
+    ensures ready { SpliceCanStep A.Slots splice.new }
 {
     let first = splice.next();
     let last = splice.next_back();
@@ -31,9 +32,11 @@ pub fn one_from_each_end<A: Array, I: DoubleEndedIterator<Item = A::Item>>(
 
 /// Replaces the whole list of any vector, as far as there is room.
 pub fn replace_all<A: Array>(vec: &mut ArrayVec<A>, replacement: Vec<A::Item>)
-    ensures fits { items_len vec.new ≤ A.CAPACITY }
-    ensures slot_rule { SlotRule A.Item.is_default vec.old vec.new }
+    ensures fits { len_of A.Slots vec.new ≤ A.CAPACITY }
+    ensures slot_rule { SlotRule A.Item.is_default (view_of A.Slots vec.old) (view_of A.Slots vec.new) }
 {
+    // For the proof: how many slots there are.
+    let _slots = vec.capacity();
     let splice = vec.splice(.., replacement);
     let _finished = splice.finish();
 }
@@ -46,18 +49,20 @@ pub fn replace<A: Array, I: DoubleEndedIterator<Item = A::Item>>(
     replacement: I,
 ) -> Result<(), SpliceRest<A::Item, Fuse<I>>>
     requires start_le_end { start ≤ end }
-    requires in_bounds { end ≤ items_len vec.old }
+    requires in_bounds { end ≤ len_of A.Slots vec.old }
     requires can { (s : I) → I.can_next s × I.can_next_back s }
     ensures list { (rest : I → List A.Item) → HasTwoEnds I.next_gives I.next_back_gives rest
-        → (IsOk result ↔ (start + length (rest replacement) + (items_len vec.old - end) ≤ A.CAPACITY))
-        × OnOk result (items vec.new ≡ take start (items vec.old) ++ rest replacement ++ drop end (items vec.old))
+        → (IsOk result ↔ (start + length (rest replacement) + (len_of A.Slots vec.old - end) ≤ A.CAPACITY))
+        × OnOk result (items_of A.Slots vec.new ≡ take start (items_of A.Slots vec.old) ++ rest replacement ++ drop end (items_of A.Slots vec.old))
         × IfErr result
         (λ refused. IsSpliceRefused (front ∷ back ∷ []) (end - start)
-        (take start (items vec.old)) (drop end (items vec.old)) (rest replacement)
-        (items vec.new) (refused.item ∷ fused_rest rest refused.rest)) }
-    ensures full { OnErr result (items_len vec.new ≡ A.CAPACITY) }
-    ensures slot_rule { SlotRule A.Item.is_default vec.old vec.new }
+        (take start (items_of A.Slots vec.old)) (drop end (items_of A.Slots vec.old)) (rest replacement)
+        (items_of A.Slots vec.new) (refused.item ∷ fused_rest rest refused.rest)) }
+    ensures full { OnErr result (len_of A.Slots vec.new ≡ A.CAPACITY) }
+    ensures slot_rule { SlotRule A.Item.is_default (view_of A.Slots vec.old) (view_of A.Slots vec.new) }
 {
+    // For the proof: how many slots there are.
+    let _slots = vec.capacity();
     let mut splice = vec.splice(start..end, replacement);
     let _ends = one_from_each_end(&mut splice);
     splice.finish()
@@ -72,13 +77,13 @@ pub fn touches_of_replace<A: Array, I: DoubleEndedIterator<Item = A::Item>>(
     replacement: I,
 ) -> (Option<A::Item>, Option<A::Item>, u128)
     requires start_le_end { start ≤ end }
-    requires in_bounds { end ≤ items_len vec.old }
+    requires in_bounds { end ≤ len_of A.Slots vec.old }
     requires can { (s : I) → I.can_next s × I.can_next_back s }
-    ensures kept { items_len vec.old - (end - start) ≤ items_len vec.new }
+    ensures kept { len_of A.Slots vec.old - (end - start) ≤ len_of A.Slots vec.new }
     ensures at_least { length (given_items (result.0 ∷ result.1 ∷ []))
-        + (items_len vec.new - (items_len vec.old - (end - start))) ≤ result.2 }
-    ensures at_most { result.2 ≤ (end - start) + (items_len vec.new - (items_len vec.old - (end - start)))
-        + max (items_len vec.old) (items_len vec.new) }
+        + (len_of A.Slots vec.new - (len_of A.Slots vec.old - (end - start))) ≤ result.2 }
+    ensures at_most { result.2 ≤ (end - start) + (len_of A.Slots vec.new - (len_of A.Slots vec.old - (end - start)))
+        + max (len_of A.Slots vec.old) (len_of A.Slots vec.new) }
 {
     let mut splice = vec.splice(start..end, replacement);
     let (first, last) = one_from_each_end(&mut splice);

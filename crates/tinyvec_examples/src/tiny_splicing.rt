@@ -5,7 +5,8 @@ ghost use Rattle.std.specs.Iterator.Adapters.{fuse_steps};
 ghost use Rattle.tinyvec.specs.Ends.{front, back, RunsWord};
 ghost use Rattle.tinyvec.specs.Fused.{fused_rest, FusedFinite, HasTwoEnds};
 ghost use Rattle.tinyvec.specs.SplicedByWord.{IsSpliceRefused, SplicedByWord};
-ghost use Rattle.tinyvec.specs.TinyVec.{tiny_items, tiny_len, tiny_capacity, IsInline, PlaceRule, TinySlotRule};
+ghost use Rattle.tinyvec.specs.TinyVec.{tiny_items, tiny_items_of, tiny_len_of, tiny_capacity, IsInline, tiny_view_of};
+ghost use Rattle.tinyvec.specs.View.{PlaceRule, TinySlotRule};
 ghost use Rattle.tinyvec.specs.TinyVecSplice.{splice_view, splice_replacement, SpliceKeeps, SpliceCanStep, SpliceSteps, SpliceStepsBack};
 
 use crate::tiny_vec::three;
@@ -31,14 +32,14 @@ pub fn replaced_inline(alloc: Global) -> (Option<i32>, bool, TinyVec<[i32; 4]>)
 pub fn one_from_each_end<A: Array, I: DoubleEndedIterator<Item = A::Item>>(
     splice: &mut TinyVecSplice<'_, A, Fuse<I>>,
 ) -> (Option<A::Item>, Option<A::Item>)
-    requires ready { SpliceCanStep splice.old }
+    requires ready { SpliceCanStep A.Slots splice.old }
     requires can { (s : I) → I.can_next s × I.can_next_back s }
-    ensures asked { RunsWord (SpliceSteps (fuse_steps I.next_gives)) (SpliceStepsBack (fuse_steps I.next_back_gives))
+    ensures asked { RunsWord (SpliceSteps A.Slots (fuse_steps I.next_gives)) (SpliceStepsBack A.Slots (fuse_steps I.next_back_gives))
         splice.old (front ∷ back ∷ []) (result.0 ∷ result.1 ∷ []) splice.new }
     ensures spliced { (rest : I → List A.Item) → HasTwoEnds I.next_gives I.next_back_gives rest
-        → SplicedByWord splice_view SpliceKeeps (fused_rest rest) splice.old (front ∷ back ∷ []) splice.new }
-    ensures kept { SpliceKeeps splice.old splice.new }
-    ensures ready { SpliceCanStep splice.new }
+        → SplicedByWord (splice_view A.Slots) (SpliceKeeps A.Slots) (fused_rest rest) splice.old (front ∷ back ∷ []) splice.new }
+    ensures kept { SpliceKeeps A.Slots splice.old splice.new }
+    ensures ready { SpliceCanStep A.Slots splice.new }
     ensures finite { FusedFinite I.remaining (splice_replacement splice.old)
         → FusedFinite I.remaining (splice_replacement splice.new) }
 {
@@ -55,22 +56,22 @@ pub fn replace<A: Array, I: DoubleEndedIterator<Item = A::Item>>(
     replacement: I,
 ) -> Result<(), SpliceRest<A::Item, Fuse<I>>>
     requires start_le_end { start ≤ end }
-    requires in_bounds { end ≤ tiny_len vec.old }
+    requires in_bounds { end ≤ tiny_len_of A.Slots vec.old }
     requires can { (s : I) → I.can_next s × I.can_next_back s }
     requires finite { IsFinite (I.remaining replacement) }
     ensures list { (rest : I → List A.Item) → HasTwoEnds I.next_gives I.next_back_gives rest
         → OnOk result
-        (tiny_items vec.new ≡ take start (tiny_items vec.old) ++ rest replacement ++ drop end (tiny_items vec.old))
+        (tiny_items_of A.Slots vec.new ≡ take start (tiny_items_of A.Slots vec.old) ++ rest replacement ++ drop end (tiny_items_of A.Slots vec.old))
         × IfErr result
-        (λ refused. IsSpliceRefused (front ∷ back ∷ []) (end - start) (take start (tiny_items vec.old))
-        (drop end (tiny_items vec.old)) (rest replacement) (tiny_items vec.new)
+        (λ refused. IsSpliceRefused (front ∷ back ∷ []) (end - start) (take start (tiny_items_of A.Slots vec.old))
+        (drop end (tiny_items_of A.Slots vec.old)) (rest replacement) (tiny_items_of A.Slots vec.new)
         (refused.item ∷ fused_rest rest refused.rest)) }
     ensures succeeds { (rest : I → List A.Item) → HasTwoEnds I.next_gives I.next_back_gives rest
-        → start + length (rest replacement) + (tiny_len vec.old - end) ≤ tiny_capacity A.CAPACITY vec.old
+        → start + length (rest replacement) + (tiny_len_of A.Slots vec.old - end) ≤ tiny_capacity A.CAPACITY vec.old
         → IsOk result }
-    ensures full { OnErr result (tiny_len vec.new ≡ tiny_capacity A.CAPACITY vec.new) }
-    ensures place { PlaceRule A.CAPACITY (tiny_len vec.new) vec.old vec.new }
-    ensures slot_rule { TinySlotRule A.Item.is_default vec.old vec.new }
+    ensures full { OnErr result (tiny_len_of A.Slots vec.new ≡ tiny_capacity A.CAPACITY vec.new) }
+    ensures place { PlaceRule A.CAPACITY (tiny_len_of A.Slots vec.new) (tiny_view_of A.Slots vec.old) (tiny_view_of A.Slots vec.new) }
+    ensures slot_rule { TinySlotRule A.Item.is_default (tiny_view_of A.Slots vec.old) (tiny_view_of A.Slots vec.new) }
 {
     let mut splice = vec.splice(start..end, replacement);
     let _ends = one_from_each_end(&mut splice);

@@ -1,7 +1,8 @@
 //! Callers of a `TinyVec`: one list, and where it is.
 ghost use Rattle.std.specs.Prelude.{◌≡◌, ◌+◌, ◌-◌, ◌<◌, ◌≤◌, ◌++◌, ◌∷◌, [], pos, slice_get, slice_set, false, IsTrue, IsOk, OnOk, OnErr};
 ghost use Rattle.tinyvec.specs.Ranges.{IsRangeOf, before, removed, after};
-ghost use Rattle.tinyvec.specs.TinyVec.{tiny_items, tiny_len, tiny_spare, is_inline, IsInline, Becomes, Unchanged};
+ghost use Rattle.tinyvec.specs.TinyVec.{tiny_items, tiny_items_of, tiny_len, tiny_len_of, tiny_spare, tiny_spare_of, is_inline, IsInline, tiny_view_of};
+ghost use Rattle.tinyvec.specs.View.{Becomes, Unchanged};
 
 use std::alloc::{AllocError, Global};
 use std::ops::RangeBounds;
@@ -21,18 +22,18 @@ pub fn three(alloc: Global) -> TinyVec<[i32; 4]>
 
 /// A full inline list moves to the heap, or nothing changes if memory is refused.
 pub fn one_too_many<A: Array>(v: &mut TinyVec<A>, x: A::Item) -> bool
-    requires { tiny_len v.old ≡ A.CAPACITY }
+    requires { tiny_len_of A.Slots v.old ≡ A.CAPACITY }
     ensures heap { IsTrue result → is_inline v.new ≡ false }
-    ensures items { IsTrue result → tiny_items v.new ≡ tiny_items v.old ++ x ∷ [] }
-    ensures kept { result ≡ false → Unchanged v.old v.new }
+    ensures items { IsTrue result → tiny_items_of A.Slots v.new ≡ tiny_items_of A.Slots v.old ++ x ∷ [] }
+    ensures kept { result ≡ false → Unchanged (tiny_view_of A.Slots v.old) (tiny_view_of A.Slots v.new) }
 {
     v.push(x).is_ok()
 }
 
 /// Once there is room, two pushes succeed.
 pub fn two_more<A: Array>(v: &mut TinyVec<A>, x: A::Item, y: A::Item) -> Result<(), AllocError>
-    ensures items { OnOk result (tiny_items v.new ≡ (tiny_items v.old ++ x ∷ []) ++ y ∷ []) }
-    ensures kept { OnErr result (Unchanged v.old v.new) }
+    ensures items { OnOk result (tiny_items_of A.Slots v.new ≡ (tiny_items_of A.Slots v.old ++ x ∷ []) ++ y ∷ []) }
+    ensures kept { OnErr result (Unchanged (tiny_view_of A.Slots v.old) (tiny_view_of A.Slots v.new)) }
 {
     v.reserve(2)?;
     let _first = v.push(x);
@@ -46,8 +47,8 @@ pub fn push_then_write<A: Array>(
     x: A::Item,
     y: A::Item,
 ) -> Result<(), NoMemory<A::Item>>
-    ensures items { OnOk result (tiny_items v.new ≡ tiny_items v.old ++ y ∷ []) }
-    ensures kept { OnErr result (Unchanged v.old v.new) }
+    ensures items { OnOk result (tiny_items_of A.Slots v.new ≡ tiny_items_of A.Slots v.old ++ y ∷ []) }
+    ensures kept { OnErr result (Unchanged (tiny_view_of A.Slots v.old) (tiny_view_of A.Slots v.new)) }
 {
     *v.push_mut(x)? = y;
     Ok(())
@@ -65,7 +66,7 @@ pub fn insert_then_write(v: &mut TinyVec<[u8; 4]>, x: u8, y: u8) -> Result<(), N
 
 /// To the heap and back: the same list, inline if it was inline.
 pub fn there_and_back<A: Array>(v: &mut TinyVec<A>) -> Result<(), AllocError>
-    ensures items { tiny_items v.new ≡ tiny_items v.old }
+    ensures items { tiny_items_of A.Slots v.new ≡ tiny_items_of A.Slots v.old }
     ensures place { IsInline v.old → IsInline v.new }
 {
     // A vector that was lent is not known to fit until a call says so.
@@ -77,9 +78,9 @@ pub fn there_and_back<A: Array>(v: &mut TinyVec<A>) -> Result<(), AllocError>
 
 /// One item of any vector is written: that item, and nothing else.
 pub fn set<A: Array>(v: &mut TinyVec<A>, i: usize, x: A::Item)
-    requires { i < tiny_len v.old }
-    ensures items { tiny_items v.new ≡ slice_set (tiny_items v.old) i x }
-    ensures spare { tiny_spare v.new ≡ tiny_spare v.old }
+    requires { i < tiny_len_of A.Slots v.old }
+    ensures items { tiny_items_of A.Slots v.new ≡ slice_set (tiny_items_of A.Slots v.old) i x }
+    ensures spare { tiny_spare_of A.Slots v.new ≡ tiny_spare_of A.Slots v.old }
     ensures place { is_inline v.new ≡ is_inline v.old }
 {
     v[i] = x;
@@ -88,9 +89,9 @@ pub fn set<A: Array>(v: &mut TinyVec<A>, i: usize, x: A::Item)
 /// Any range of any vector: what preceded and followed it is left, in its place.
 pub fn cut<A: Array, R: RangeBounds<usize>>(v: &mut TinyVec<A>, range: R)
     requires not_exhausted { R.has_bounds range }
-    requires in_list { IsRangeOf (tiny_items v.old) (R.start_bound range) (R.end_bound range) }
-    ensures { Becomes A.Item.is_default A.CAPACITY v.old v.new
-        (before (tiny_items v.old) (R.start_bound range) ++ after (tiny_items v.old) (R.end_bound range)) }
+    requires in_list { IsRangeOf (tiny_items_of A.Slots v.old) (R.start_bound range) (R.end_bound range) }
+    ensures { Becomes A.Item.is_default A.CAPACITY (tiny_view_of A.Slots v.old) (tiny_view_of A.Slots v.new)
+        (before (tiny_items_of A.Slots v.old) (R.start_bound range) ++ after (tiny_items_of A.Slots v.old) (R.end_bound range)) }
 {
     drop(v.drain(range));
 }
@@ -102,10 +103,10 @@ pub fn nth_of<A: Array, R: RangeBounds<usize>>(
     n: usize,
 ) -> Option<A::Item>
     requires not_exhausted { R.has_bounds range }
-    requires in_list { IsRangeOf (tiny_items v.old) (R.start_bound range) (R.end_bound range) }
-    ensures item { result ≡ slice_get (removed (tiny_items v.old) (R.start_bound range) (R.end_bound range)) n }
-    ensures left { Becomes A.Item.is_default A.CAPACITY v.old v.new
-        (before (tiny_items v.old) (R.start_bound range) ++ after (tiny_items v.old) (R.end_bound range)) }
+    requires in_list { IsRangeOf (tiny_items_of A.Slots v.old) (R.start_bound range) (R.end_bound range) }
+    ensures item { result ≡ slice_get (removed (tiny_items_of A.Slots v.old) (R.start_bound range) (R.end_bound range)) n }
+    ensures left { Becomes A.Item.is_default A.CAPACITY (tiny_view_of A.Slots v.old) (tiny_view_of A.Slots v.new)
+        (before (tiny_items_of A.Slots v.old) (R.start_bound range) ++ after (tiny_items_of A.Slots v.old) (R.end_bound range)) }
 {
     let mut d = v.drain(range);
     d.nth(n)
@@ -127,8 +128,8 @@ pub fn middle_drained(alloc: Global) -> TinyVec<[i32; 4]>
 
 /// The list cut in two and joined again is the same list.
 pub fn cut_and_joined<A: Array>(v: &mut TinyVec<A>, at: usize) -> Result<(), AllocError>
-    requires { at ≤ tiny_len v.old }
-    ensures { OnOk result (tiny_items v.new ≡ tiny_items v.old) }
+    requires { at ≤ tiny_len_of A.Slots v.old }
+    ensures { OnOk result (tiny_items_of A.Slots v.new ≡ tiny_items_of A.Slots v.old) }
 {
     let mut tail = v.split_off(at)?;
     v.append(&mut tail)
@@ -139,8 +140,8 @@ pub fn moved_by_iterator<A: Array>(
     from: TinyVec<A>,
     to: &mut TinyVec<A>,
 ) -> Result<(), NoRoom<A::Item, TinyVecIterator<A>>>
-    requires { tiny_items to.old ≡ [] }
-    ensures { OnOk result (tiny_items to.new ≡ tiny_items from) }
+    requires { tiny_items_of A.Slots to.old ≡ [] }
+    ensures { OnOk result (tiny_items_of A.Slots to.new ≡ tiny_items_of A.Slots from) }
 {
     to.extend(from)
 }

@@ -1,4 +1,5 @@
 //! Nodes of trees, as they can be built here.
+ghost use Rattle.std.specs.Prelude.{◌≡◌};
 
 use std::alloc::{AllocError, Global};
 use tinyvec::TinyVec;
@@ -36,4 +37,29 @@ pub fn over_leaves(alloc: Global, values: &[u32]) -> Result<Node, AllocError> {
         value: 0,
         children: children.into_vec()?,
     })
+}
+
+/// A number, or a sum of such terms, the first two of which are in the array of its vector.
+#[derive(Drop, Debug)]
+pub enum Term {
+    Leaf(u32),
+    Sum(Box<TinyVec<[Term; 2]>>),
+}
+
+impl Default for Term {
+    ghost use Rattle.tinyvec_examples.specs.declared.trees.Term.TheVariants.{Leaf};
+
+    ghost is_default = { λ term. term ≡ Leaf 0 };
+
+    fn default() -> Term {
+        Term::Leaf(0)
+    }
+}
+
+/// How many terms `term` is the sum of.
+pub fn summed(term: &Term) -> usize {
+    match term {
+        Term::Leaf(_) => 0,
+        Term::Sum(all) => all.as_slice().len(),
+    }
 }

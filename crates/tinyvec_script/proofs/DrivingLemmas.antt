@@ -16,10 +16,9 @@ use Rattle.tinyvec_slots.specs.declared.no_room.SpliceRest.{SpliceRest}
 use Rattle.tinyvec_slots.proofs.EndsLemmas.{RunsWord-front, RunsWord-back, items_given, given_is_taken}
 use Rattle.tinyvec_slots.proofs.Lists.{length-slice_range}
 use Rattle.tinyvec_slots.proofs.AnySpliceLemmas.{spliced_len, spliced_all, spliced_refused}
-use Rattle.tinyvec.specs.TinyVec.{SameFrame}
+use Rattle.tinyvec.specs.View.{TinyView, SameFrame}
 use Rattle.tinyvec.specs.Room.{Grows}
 use Rattle.tinyvec.proofs.TinyLemmas.{tiny_slots_framed}
-use Rattle.tinyvec.specs.declared.tiny_vec.TinyVec.{TinyVec}
 use Rattle.tinyvec_script.specs.Driving.{letter, word_of, TakesAt, refused_items, ListSplices, SpliceComputes, unplaced_from, unplaced_to}
 use Rattle.tinyvec_script.specs.declared.call.Answer.{Answer}
 use Rattle.tinyvec_script.specs.declared.call.Answer.TheVariants as answers
@@ -65,7 +64,7 @@ pub slots_framed : {T : Type 0} (D : T → Type 0) (old mid new : Slots T) → i
 slots_framed D old mid new count behind h = rw (sym count, sym behind) h
 
 -- and growth no more than its frame
-pub grows_framed : {A T : Type 0} (D : T → Type 0) (slots : ℕ) (old mid new : TinyVec A T) → SameFrame old mid → Grows D slots mid new → Grows D slots old new
+pub grows_framed : {T : Type 0} (D : T → Type 0) (slots : ℕ) (old mid new : TinyView T) → SameFrame old mid → Grows D slots mid new → Grows D slots old new
 grows_framed D slots old mid new frame h = record {
   place = rw (sym frame.place) h.place;
   slot_rule = tiny_slots_framed D old mid new frame h.slot_rule;

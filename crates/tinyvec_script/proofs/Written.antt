@@ -1,5 +1,5 @@
 -- What was gathered is written.
-use Rattle.std.proofs.Common.{◌≡◌, ℕ, ◌+◌, ◌-◌, ◌≤◌, inl, inr, List, [], ◌++◌, Option, None, Some, ap, sym, refl, subst, ◌∙◌, append-nil, append_assoc, arith, le_refl, le_trans, Result, Ok, Err, IsErr, true, true≢false, is_err}
+use Rattle.std.proofs.Common.{◌≡◌, ℕ, ◌≤◌, inl, inr, List, [], ◌++◌, Option, None, Some, ap, sym, refl, subst, ◌∙◌, append-nil, append_assoc, arith, le_refl, le_trans, Result, Ok, Err, IsErr, true, true≢false, is_err}
 use Rattle.std.specs.Io.KnownBytes.{Appends, Keeps}
 use Rattle.std.proofs.KnownBytes.{Appends-nil, Appends-trans, Appends-kept}
 use Rattle.tinyvec_io.specs.Counted.{CountedView, CountsFault, AppendsFront, Reported}

@@ -7,7 +7,8 @@ use Rattle.tinyvec_slots.specs.Ends.{front, back, RunsWord, GivenByWord, taken}
 use Rattle.tinyvec_slots.specs.Ends as ends
 use Rattle.tinyvec_slots.specs.SplicedByWord.{IsSpliceRefused, placed_back}
 use Rattle.tinyvec_slots.specs.declared.no_room.SpliceRest.{SpliceRest}
-use Rattle.tinyvec.specs.View.{TinyView, view_len, view_capacity, ViewGrows}
+use Rattle.tinyvec.specs.View.{TinyView, view_len, view_capacity}
+use Rattle.tinyvec.specs.Room.{Grows}
 use Rattle.tinyvec_script.specs.declared.call.Answer.{Answer}
 use Rattle.tinyvec_script.specs.declared.call.Answer.TheVariants as answers
 use Rattle.tinyvec_script.specs.declared.call.End.{End}
@@ -59,7 +60,7 @@ pub record ArraySplices {T : Type 0} (D : T → Type 0) (capacity : ℕ) (old : 
 pub record TinySplices {T : Type 0} (D : T → Type 0) (slots : ℕ) (old : TinyView T) (start end : ℕ) (word : List End)
     (replacement yields rest : List T) (new : TinyView T) : Type 0 where
   pub list : ListSplices (view_capacity slots new) old.items start end word replacement yields rest new.items
-  pub grows : ViewGrows D slots old new
+  pub grows : Grows D slots old new
   pub no_shorter : view_capacity slots new < start + length replacement + (view_len old - end) → view_len old ≤ view_len new
 
 -- How a splice of a range that is in a list of this length is answered: by what was taken, and by what found no room if

@@ -11,3 +11,4 @@ pub mod State
 pub mod TinyCalls
 pub mod TextCalls
 pub mod Reason
+pub mod ErrorText

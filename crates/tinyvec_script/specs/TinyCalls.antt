@@ -2,7 +2,8 @@
 use Rattle.std.specs.Prelude.{◌≡◌, ℕ, ◌+◌, ◌-◌, ◌<◌, ◌≤◌, ◌↔◌, [], ◌∷◌, ◌++◌, take, insert, remove, slice_get, Some, false}
 use Rattle.std.specs.List.{swap_remove}
 use Rattle.tinyvec_slots.specs.Slots.{AreDefaults}
-use Rattle.tinyvec.specs.View.{TinyView, lies_inline, view_len, view_capacity, ViewInline, ViewPlaceRule, ViewSlotRule, ViewKeepsRoom, ViewDoubles, ViewGrowsFor, ViewBecomes}
+use Rattle.tinyvec.specs.View.{TinyView, lies_inline, view_len, view_capacity, ViewInline, PlaceRule, TinySlotRule, Becomes}
+use Rattle.tinyvec.specs.Room.{KeepsRoom, Doubles, GrowsFor}
 use Rattle.tinyvec_script.specs.Driving.{IsRange, ListDrains, TinySplices, SpliceAnswers}
 use Rattle.tinyvec_script.specs.declared.call.Call.{Call}
 use Rattle.tinyvec_script.specs.declared.call.Call.TheVariants.{Push, Pop, Insert, Remove, SwapRemove, Truncate, Drain, Splice, SetLen, Reserve, Heap, Shrink}
@@ -12,9 +13,9 @@ use Rattle.tinyvec_script.specs.declared.call.Answer.TheVariants as answers
 module _ {T : Type 0} (D : T → Type 0) (slots : ℕ) where
   -- a call that needs room for `need` items, and grows by the rule `G` if there is less
   pub record NeedsRoom (G : ℕ → ℕ → TinyView T → TinyView T → Type 0) (need : ℕ) (old new : TinyView T) : Type 0 where
-    pub place : ViewPlaceRule slots need old new
-    pub slot_rule : ViewSlotRule D old new
-    pub same_room : ViewKeepsRoom slots need old new
+    pub place : PlaceRule slots need old new
+    pub slot_rule : TinySlotRule D old new
+    pub same_room : KeepsRoom slots need old new
     pub grown : G slots need old new
 
   -- A move to the heap left the list there, with room for no more. A list on the heap stays as it is.
@@ -36,31 +37,31 @@ module _ {T : Type 0} (D : T → Type 0) (slots : ℕ) where
   -- of its own: `Memory` only if there is no room for the items, for the move of an inline list of items to the heap, for those
   -- that a drain or a splice takes, or for those that a splice may return.
   abbrev pub TinyAnswers : TinyView T → Call T → Answer T → TinyView T → Type 0
-  TinyAnswers old (Push x) answers.Done new = (new.items ≡ old.items ++ x ∷ []) × NeedsRoom ViewDoubles (view_len old + 1) old new
+  TinyAnswers old (Push x) answers.Done new = (new.items ≡ old.items ++ x ∷ []) × NeedsRoom Doubles (view_len old + 1) old new
   TinyAnswers old (Push x) answers.Memory new = (view_len old ≡ view_capacity slots old) × (new ≡ old)
-  TinyAnswers old Pop (answers.Some x) new = (old.items ≡ new.items ++ x ∷ []) × ViewBecomes D slots old new (take (view_len old - 1) old.items)
+  TinyAnswers old Pop (answers.Some x) new = (old.items ≡ new.items ++ x ∷ []) × Becomes D slots old new (take (view_len old - 1) old.items)
   TinyAnswers old Pop answers.None new = (old.items ≡ []) × (new ≡ old)
   TinyAnswers old (Insert i x) answers.Done new = (i ≤ view_len old) × (new.items ≡ insert old.items i x)
-      × NeedsRoom ViewDoubles (view_len old + 1) old new
+      × NeedsRoom Doubles (view_len old + 1) old new
   TinyAnswers old (Insert i x) answers.Range new = (view_len old < i) × (new ≡ old)
   TinyAnswers old (Insert i x) answers.Memory new = (i ≤ view_len old) × (view_len old ≡ view_capacity slots old) × (new ≡ old)
   TinyAnswers old (Remove i) (answers.Some x) new = (slice_get old.items i ≡ Some x)
-      × ViewBecomes D slots old new (remove old.items i)
+      × Becomes D slots old new (remove old.items i)
   TinyAnswers old (Remove i) answers.Range new = (view_len old ≤ i) × (new ≡ old)
   TinyAnswers old (SwapRemove i) (answers.Some x) new = (slice_get old.items i ≡ Some x)
-      × ViewBecomes D slots old new (swap_remove old.items i x)
+      × Becomes D slots old new (swap_remove old.items i x)
   TinyAnswers old (SwapRemove i) answers.Range new = (view_len old ≤ i) × (new ≡ old)
-  TinyAnswers old (Truncate n) answers.Done new = ViewBecomes D slots old new (take n old.items)
+  TinyAnswers old (Truncate n) answers.Done new = Becomes D slots old new (take n old.items)
   TinyAnswers old (Drain start end) answers.Range new = (IsRange old.items start end → ⊥) × (new ≡ old)
   TinyAnswers old (Drain start end) answers.Memory new = IsRange old.items start end × (start < end) × (new ≡ old)
   TinyAnswers old (Drain start end) (answers.Items given) new = IsRange old.items start end
-      × ListDrains old.items start end given.items new.items × ViewBecomes D slots old new new.items
+      × ListDrains old.items start end given.items new.items × Becomes D slots old new new.items
   TinyAnswers old (Splice start end word replacement) answers.Range new = (IsRange old.items start end → ⊥) × (new ≡ old)
   TinyAnswers old (Splice start end word replacement) answer new = IsRange old.items start end
       × SpliceAnswers (view_capacity slots new) (view_len old) start end replacement.items (new ≡ old)
       (λ yields rest. TinySplices D slots old start end word.items replacement.items yields rest new) answer
   TinyAnswers old (Reserve n) answers.Done new = (new.items ≡ old.items) × (view_len old + n ≤ view_capacity slots new)
-      × NeedsRoom ViewGrowsFor (view_len old + n) old new
+      × NeedsRoom GrowsFor (view_len old + n) old new
   TinyAnswers old (Reserve n) answers.Memory new = (view_capacity slots old < view_len old + n) × (new ≡ old)
   TinyAnswers old Heap answers.Done new = Moved old new
   TinyAnswers old Heap answers.Memory new = ViewInline old × (0 < view_len old) × (new ≡ old)

@@ -1,6 +1,6 @@
 //! Bytes that are gathered before they are written.
 ghost use Rattle.std.specs.Prelude.{◌≡◌, [], Some};
-ghost use Rattle.tinyvec_slots.specs.Slots.{items};
+ghost use Rattle.tinyvec_array.specs.ArrayVec.{items, view};
 ghost use Rattle.tinyvec_script.specs.Writes.{Gathers, Sends, gathered_of};
 
 use std::io;
@@ -22,7 +22,7 @@ pub(crate) struct Gathered {
 
 impl Model for Gathered {
     ghost use Rattle.std.specs.Prelude.{List, ℕ, Option};
-    ghost use Rattle.tinyvec_slots.specs.Slots.{items};
+    ghost use Rattle.tinyvec_array.specs.ArrayVec.{items, view};
     ghost use Rattle.tinyvec_script.specs.Writes.{gathered_of};
 
     ghost Value = { Option (List ℕ) };
@@ -75,7 +75,7 @@ impl Gathered {
             self.error = Some(error);
             return;
         }
-        if text.len() <= ROOM {
+        if text.len() <= self.bytes.capacity() {
             self.bytes.extend_from_slice_copy(text);
             return;
         }

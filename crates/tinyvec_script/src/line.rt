@@ -1,6 +1,6 @@
 //! The part of a line that was read so far.
 ghost use Rattle.std.specs.Prelude.{◌≡◌, ◌↔◌, List, ℕ, [], None, Some, MatchOption, IsTrue, if◌then◌else◌, Option};
-ghost use Rattle.tinyvec_slots.specs.Slots.{items};
+ghost use Rattle.tinyvec_array.specs.ArrayVec.{items, view};
 ghost use Rattle.tinyvec_script.specs.History.{extend_kept};
 
 use std::marker::Model;

@@ -17,7 +17,7 @@ use crate::vectors::Vectors;
 use std::alloc::Global;
 use std::io::{Read, Write};
 use std::{error, fmt, io};
-use tinyvec::{ArrayVec, Lent, SliceVec, TinyVec};
+use tinyvec::{ArrayVec, SliceVec, Slots, TinyVec};
 use tinyvec_io::Counted;
 use tinyvec_text::InlineText;
 
@@ -36,6 +36,10 @@ pub enum RunError {
 }
 
 impl fmt::Display for RunError {
+    ghost use Rattle.tinyvec_script.specs.ErrorText.{run_error_text};
+
+    ghost output = { run_error_text };
+
     fn fmt<W: fmt::Write>(&self, f: &mut fmt::Formatter<W>) -> fmt::Result {
         match self {
             RunError::Read(error) => write!(f, "cannot read input: {error}"),
@@ -123,7 +127,7 @@ pub fn run<R: Read, W: Write>(
 }
 
 // Answers the lines that these bytes of the input end, and writes the answers.
-fn answer_chunk<W: Write, B: Lent<Item = i32>>(
+fn answer_chunk<W: Write, B: Slots<Item = i32>>(
     alloc: Global,
     vectors: &mut Vectors<B>,
     line: &mut Line,
@@ -133,7 +137,7 @@ fn answer_chunk<W: Write, B: Lent<Item = i32>>(
 ) -> io::Result<()>
     requires { gathered.old ≡ Some [] }
     ensures writes { (output : List ℕ) × Writes W.contents writer.old writer.new result output
-        × Feeds (state_of B.Lent vectors.old) line.old bytes.now output (state_of B.Lent vectors.new) line.new }
+        × Feeds (state_of B.Slots vectors.old) line.old bytes.now output (state_of B.Slots vectors.new) line.new }
     ensures gathered { OnOk result (gathered.new ≡ Some []) }
 {
     feed(alloc, vectors, line, gathered, writer, bytes);
@@ -141,7 +145,7 @@ fn answer_chunk<W: Write, B: Lent<Item = i32>>(
 }
 
 // Answers the last line, if it has bytes, writes the answer and flushes.
-fn finish<W: Write, B: Lent<Item = i32>>(
+fn finish<W: Write, B: Slots<Item = i32>>(
     alloc: Global,
     vectors: &mut Vectors<B>,
     line: &Line,
@@ -150,7 +154,7 @@ fn finish<W: Write, B: Lent<Item = i32>>(
 ) -> io::Result<()>
     requires { gathered.old ≡ Some [] }
     ensures { (output : List ℕ) × Writes W.contents writer.old writer.new result output
-        × Ends (state_of B.Lent vectors.old) line.now output }
+        × Ends (state_of B.Slots vectors.old) line.now output }
 {
     answer_last(alloc, vectors, line, gathered, writer);
     match gathered.send(writer) {
@@ -160,7 +164,7 @@ fn finish<W: Write, B: Lent<Item = i32>>(
 }
 
 // Answers the last line, if it has bytes.
-fn answer_last<W: Write, B: Lent<Item = i32>>(
+fn answer_last<W: Write, B: Slots<Item = i32>>(
     alloc: Global,
     vectors: &mut Vectors<B>,
     line: &Line,
@@ -168,7 +172,7 @@ fn answer_last<W: Write, B: Lent<Item = i32>>(
     writer: &mut Counted<W>,
 )
     ensures { (output : List ℕ) × Gathers W.contents writer.old gathered.old writer.new gathered.new output
-        × Ends (state_of B.Lent vectors.old) line.now output }
+        × Ends (state_of B.Slots vectors.old) line.now output }
 {
     if line.is_empty() {
         return;
@@ -177,7 +181,7 @@ fn answer_last<W: Write, B: Lent<Item = i32>>(
 }
 
 // Answers the lines that these bytes of the input end.
-fn feed<W: Write, B: Lent<Item = i32>>(
+fn feed<W: Write, B: Slots<Item = i32>>(
     alloc: Global,
     vectors: &mut Vectors<B>,
     line: &mut Line,
@@ -186,7 +190,7 @@ fn feed<W: Write, B: Lent<Item = i32>>(
     bytes: &[u8],
 )
     ensures { (output : List ℕ) × Gathers W.contents writer.old gathered.old writer.new gathered.new output
-        × Feeds (state_of B.Lent vectors.old) line.old bytes.now output (state_of B.Lent vectors.new) line.new }
+        × Feeds (state_of B.Slots vectors.old) line.old bytes.now output (state_of B.Slots vectors.new) line.new }
 {
     let mut rest = bytes;
     while let Some((front, after)) = split_at_byte(rest, b'\n') {
@@ -199,7 +203,7 @@ fn feed<W: Write, B: Lent<Item = i32>>(
 }
 
 // Answers a complete line.
-fn answer_line<W: Write, B: Lent<Item = i32>>(
+fn answer_line<W: Write, B: Slots<Item = i32>>(
     alloc: Global,
     vectors: &mut Vectors<B>,
     line: &Line,
@@ -208,7 +212,7 @@ fn answer_line<W: Write, B: Lent<Item = i32>>(
 )
     ensures { (text : List ℕ) × Gathers W.contents writer.old gathered.old writer.new gathered.new (text ++ 10 ∷ [])
         × ((rest : List ℕ) → line.now ≡ kept rest
-        → Answered (state_of B.Lent vectors.old) rest text (state_of B.Lent vectors.new)) }
+        → Answered (state_of B.Slots vectors.old) rest text (state_of B.Slots vectors.new)) }
 {
     let Some(text) = line.as_slice() else {
         gathered.put(writer, b"bad: a line has at most 128 bytes\n");

@@ -1,7 +1,7 @@
 //! The text of a splice.
 ghost use Rattle.std.specs.Prelude.{◌≡◌, ◌≢◌, ◌+◌, ◌*◌, ◌<◌, ◌≤◌, ◌^◌, ◌++◌, [], List, ℕ, ℤ, All, length, false, IsTrue, MatchOption, IfOk, OnErr, FitsSigned};
 ghost use Rattle.std.specs.Int.{w32};
-ghost use Rattle.tinyvec_slots.specs.Slots.{items, items_len};
+ghost use Rattle.tinyvec_array.specs.ArrayVec.{items, items_len};
 ghost use Rattle.tinyvec_script.specs.Command.{letter_code, word_text, numbers_text, splice_text};
 ghost use Rattle.tinyvec_script.specs.Words.{StartsBlank, IsLetter};
 ghost use Rattle.tinyvec_script.specs.declared.call.End.{End};
@@ -89,6 +89,8 @@ fn parse_numbers(text: &[u8], numbers: &mut Numbers) -> bool
     let Some(number) = parse_number(number) else {
         return false;
     };
+    // Tells the proof how many slots there are.
+    let _slots = numbers.capacity();
     numbers.push(number);
     parse_numbers(rest, numbers)
 }

@@ -1,6 +1,6 @@
 //! One call of a `TinyVec`, answered.
 ghost use Rattle.std.specs.Prelude.{◌≤◌};
-ghost use Rattle.tinyvec.specs.TinyVec.{tiny_view, tiny_len, tiny_capacity};
+ghost use Rattle.tinyvec.specs.TinyVec.{tiny_view_of, tiny_len_of, tiny_capacity};
 ghost use Rattle.tinyvec_script.specs.TinyCalls.{TinyAnswers};
 
 use crate::driving::answer_driven;
@@ -14,8 +14,8 @@ pub(crate) fn answer_tiny<A: Array>(
     vec: &mut TinyVec<A>,
     call: Call<A::Item>,
 ) -> Answer<A::Item>
-    ensures answered { TinyAnswers A.Item.is_default A.CAPACITY (tiny_view vec.old) call result (tiny_view vec.new) }
-    ensures fits { tiny_len vec.new ≤ tiny_capacity A.CAPACITY vec.new }
+    ensures answered { TinyAnswers A.Item.is_default A.CAPACITY (tiny_view_of A.Slots vec.old) call result (tiny_view_of A.Slots vec.new) }
+    ensures fits { tiny_len_of A.Slots vec.new ≤ tiny_capacity A.CAPACITY vec.new }
 {
     let len = vec.len();
     match call {

@@ -15,28 +15,32 @@ use crate::tiny_step::answer_tiny;
 use crate::{Answer, Call};
 use std::alloc::Global;
 use std::io::Write;
-use tinyvec::{ArrayVec, GenericSliceVec, Lent, TinyVec};
+use tinyvec::{ArrayVec, Slots, TinyVec};
 use tinyvec_io::Counted;
 use tinyvec_text::InlineText;
 
 // The vectors of a script, each under its name.
 #[derive(Drop)]
-pub(crate) struct Vectors<B: Lent<Item = i32>> {
+pub(crate) struct Vectors<B: Slots<Item = i32>> {
     pub a: ArrayVec<[i32; 4]>,
-    pub s: GenericSliceVec<B>,
+    pub s: ArrayVec<B>,
     pub t: TinyVec<[i32; 4]>,
     pub x: InlineText<4>,
 }
 
-impl<B: Lent<Item = i32>> Vectors<B> {
+impl<B: Slots<Item = i32>> Vectors<B> {
     ghost use Rattle.tinyvec_script.specs.State.{state_of};
 
     // Makes the call of the vector of that name.
     pub(crate) fn answer(&mut self, alloc: Global, name: Name, call: Call<i32>) -> Answer<i32>
-        ensures { Steps name (state_of B.Lent self.old) call result (state_of B.Lent self.new) }
+        ensures { Steps name (state_of B.Slots self.old) call result (state_of B.Slots self.new) }
     {
         match name {
-            Name::A => answer_array(alloc, &mut self.a, call),
+            Name::A => {
+                // Tells the proof how many slots there are.
+                let _slots = self.a.capacity();
+                answer_array(alloc, &mut self.a, call)
+            }
             Name::S => answer_slice(alloc, &mut self.s, call),
             Name::T => answer_tiny(alloc, &mut self.t, call),
         }
@@ -44,7 +48,7 @@ impl<B: Lent<Item = i32>> Vectors<B> {
 
     // Makes the call of the text.
     pub(crate) fn answer_text(&mut self, call: TextCall<'_>) -> Answer<i32>
-        ensures { TextSteps (state_of B.Lent self.old) (call_of call.entry) result (state_of B.Lent self.new) }
+        ensures { TextSteps (state_of B.Slots self.old) (call_of call.entry) result (state_of B.Slots self.new) }
     {
         answer_text(&mut self.x, call)
     }
@@ -74,7 +78,7 @@ impl<B: Lent<Item = i32>> Vectors<B> {
         name: Name,
     )
         ensures { Gathers W.contents writer.old gathered.old writer.new gathered.new
-            (answer_text answer.now ++ codes " " ++ text_of name (state_of B.Lent self.now) ++ 10 ∷ []) }
+            (answer_text answer.now ++ codes " " ++ text_of name (state_of B.Slots self.now) ++ 10 ∷ []) }
     {
         write_answer(gathered, writer, answer);
         gathered.put(writer, b" ");
@@ -84,7 +88,7 @@ impl<B: Lent<Item = i32>> Vectors<B> {
 
     fn write_vector<W: Write>(&self, gathered: &mut Gathered, writer: &mut Counted<W>, name: Name)
         ensures { Gathers W.contents writer.old gathered.old writer.new gathered.new
-            (text_of name (state_of B.Lent self.now)) }
+            (text_of name (state_of B.Slots self.now)) }
     {
         match name {
             Name::A => write_state(

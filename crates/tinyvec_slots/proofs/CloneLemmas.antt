@@ -21,7 +21,7 @@ module _ {X : Type 0} where
   pub length-part : (xs : List X) (a k : ℕ) → a + k ≤ length xs → length (take k (drop a xs)) ≡ k
   length-part xs a k fits = length-take-le k (drop a xs) (omega (arith, length-drop a xs))
 
-  -- What j writes at the front of the k slots from a on leave of all the slots. They were seen before, as the part held the writes before what it held.
+  -- what j writes at the front of the k slots from a on leave of all the slots, which were `seen` before the call
   pub written_part : (xs seen ws new : List X) (a k j : ℕ) → xs ≡ seen → new ≡ ws ++ drop j (take k (drop a xs)) → j ≤ k → a + k ≤ length xs
       → take a xs ++ (new ++ post_of a k xs) ≡ take a seen ++ ws ++ drop (a + j) seen
   written_part xs seen ws new a k j same is le fits =

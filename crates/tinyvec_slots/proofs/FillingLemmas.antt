@@ -1,15 +1,14 @@
 -- Lemmas on items that are placed one by one.
-use Rattle.std.proofs.Common.{◌≡◌, ℕ, ◌+◌, ◌-◌, ◌<◌, ◌≤◌, List, ◌∷◌, ◌++◌, [], Option, Some, None, length, get_or, take, drop, set, inl, inr, true≢false, refl, sym, ap, subst, ◌∙◌, arith, length-take, length-drop, length-append, drop-set-lt, append-nil, take_at, map, map-id}
+use Rattle.std.proofs.Common.{◌≡◌, ℕ, ◌+◌, ◌-◌, ◌<◌, ◌≤◌, List, ◌∷◌, ◌++◌, [], Option, Some, None, length, get_or, take, drop, set, inl, inr, true≢false, refl, sym, ap, subst, ◌∙◌, arith, length-drop, length-append, drop-set-lt, append-nil, take_at, map, map-id}
 use Rattle.std.proofs.lemmas.Bool.{cases_lt}
 use Rattle.std.proofs.lemmas.Grind.{drop_more_same}
-use Rattle.std.proofs.lemmas.List.{drop-drop, drop_at, drop_all, take_all, length_push, take_more, nil_from_length}
+use Rattle.std.proofs.lemmas.List.{drop-drop, drop_at, drop_all, take_all, length_push, take_more}
 use Rattle.std.proofs.iter.Yields.{gives_left, gives_Drains}
 use Rattle.std.specs.Iterator.{Yields, YieldsThen, AlwaysYields}
 use Rattle.std.specs.Prelude.{Ok, Err}
 use Rattle.tinyvec_slots.specs.Filling.{YieldsUpTo, ShowsItems, Fills, Extends}
-use Rattle.tinyvec_slots.specs.Slots.{Slots, Vacates, SlotRule, items, spare, items_len}
+use Rattle.tinyvec_slots.specs.Slots.{Slots, items, spare, items_len}
 use Rattle.tinyvec_slots.proofs.Lists.{same_at}
-use Rattle.tinyvec_slots.proofs.SlotsLemmas.{slots_used, slots_freed}
 
 -- one more item used up one more spare slot
 pub spare_after : {T : Type 0} (old mid new : Slots T) (x : T) → items_len old ≤ items_len mid → items new ≡ items mid ++ x ∷ []
@@ -45,23 +44,6 @@ module _ {X : Type 0} (from first : List X) (i : ℕ) where
   -- what lies behind it stays as it was
   pub rest_after_one : (d : X) → drop i from ≡ drop i first → drop (i + 1) (set from i d) ≡ drop (i + 1) first
   rest_after_one d rest = drop-set-lt (i + 1) from i d (omega arith) ∙ drop_more_same from first i rest
-
--- a list that is cut to n items, and then filled up to as many
-pub slots_resized : {T : Type 0} (D : T → Type 0) (old mid new : Slots T) (n : ℕ) → items mid ≡ take n (items old)
-    → Vacates D (items_len old - n) old mid → items_len mid ≤ items_len new → items_len new ≡ n
-    → spare new ≡ drop (items_len new - items_len mid) (spare mid) → SlotRule D old new
-slots_resized D old mid new n cut frees le long used =
-    let short = ap length cut ∙ length-take n (items old) in
-    elim (cases_lt (items_len old) n) [
-      | inl more ↦
-          let none : items_len old - n ≡ 0 = omega (arith, more) in
-          let same : spare mid ≡ spare old = frees.2 ∙ rw (nil_from_length frees.0 (frees.1.0 ∙ none)) in
-          let count : items_len new - items_len mid ≡ n - items_len old = omega (arith, more, short, long) in
-          slots_used D old new (n - items_len old) (omega (arith, more, long)) (used ∙ rw (same, count))
-      | inr less ↦
-          let none : items_len new - items_len mid ≡ 0 = omega (arith, less, short, long) in
-          slots_freed D old new (items_len old - n) (omega (arith, less, long)) (frees.0, frees.1, rw (used, none) frees.2)
-    ]
 
 -- of an iterator whose items `rest` shows
 module _ {S A : Type 0} (steps : S → Option A → S → Type 0) (rest : S → List A) (shows : ShowsItems steps rest) where

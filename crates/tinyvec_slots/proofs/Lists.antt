@@ -143,13 +143,6 @@ insert_over xs ys i n x y le lt is =
     same_lists _ _ (search (rules, places)) (λ k e h. grind (arith, places, cases_lt k i, cases_eq k (n + 1), get_or_default xs n e y)) in
     (same_from_push ys (insert (take n xs) i x) y (get_or xs n y) (is ∙ more)).0
 
--- behind the first n and one that was put in among them lie the others but for the first
-pub drop-inserted : {X : Type 0} (xs : List X) (i n : ℕ) (x : X) → i ≤ n → n < length xs
-    → drop (n + 1) (insert (take n xs) i x ++ drop (n + 1) xs) ≡ drop 1 (drop n xs)
-drop-inserted xs i n x le lt =
-    let long : length (insert (take n xs) i x) ≡ n + 1 = search (rules, places) in
-    drop_at (insert (take n xs) i x) (drop (n + 1) xs) (n + 1) long ∙ sym (drop-drop 1 n xs)
-
 -- the first n but for one
 pub take-removed : {X : Type 0} (xs : List X) (i n : ℕ) (d : X) → i < n → n ≤ length xs
     → take (n - 1) (remove (take n xs) i ++ d ∷ drop n xs) ≡ remove (take n xs) i

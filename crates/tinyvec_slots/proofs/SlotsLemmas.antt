@@ -1,21 +1,13 @@
 -- Lemmas on the list and the spare slots.
-use Rattle.std.proofs.Common.{◌≡◌, ℕ, ◌+◌, ◌-◌, List, [], ◌++◌, length, drop, replicate, sym, ap, ◌∙◌, ◌<◌, slice_set, drop-set-lt, arith, rules, take-append-drop}
+use Rattle.std.proofs.Common.{◌≡◌, ℕ, ◌+◌, ◌-◌, List, [], ◌++◌, drop, replicate, sym, ap, ◌∙◌, ◌<◌, slice_set, drop-set-lt, arith, rules, take-append-drop}
 use Rattle.std.proofs.Math.Seq.{take-set-lt}
 use Rattle.std.proofs.lemmas.List.Elements.{All-nil}
 use Rattle.std.proofs.lemmas.List.{same_lists, places, get_or-replicate, length-replicate}
-use Rattle.tinyvec_slots.specs.Slots.{Slots, AreDefaults, Vacates, SlotRule, Shortens, SameSpare, items_len, all_slots, items, spare, with_items, with_slot}
+use Rattle.tinyvec_slots.specs.Slots.{Slots, AreDefaults, Vacates, SlotRule, Shortens, SameSpare, items_len, all_slots, items, spare, with_slot}
 
 -- the slots are the list and what stands behind it
 pub slots_are : {T : Type 0} (v : Slots T) → all_slots v ≡ items v ++ spare v
 slots_are v = sym (take-append-drop v.len v.slots)
-
--- a write through the slice of the items, which keeps its length, leaves what the slice shows
-pub items-with_items : {T : Type 0} (v : Slots T) (ws : List T) → length ws ≡ items_len v → items (with_items v ws) ≡ ws
-items-with_items v ws e = same_lists _ _ (search (rules, places, e)) (λ k d h. grind (arith, places, e))
-
--- and leaves the slots behind
-pub spare-with_items : {T : Type 0} (v : Slots T) (ws : List T) → length ws ≡ items_len v → spare (with_items v ws) ≡ spare v
-spare-with_items v ws e = same_lists _ _ (search (rules, places, e)) (λ k d h. grind (arith, places, e))
 
 -- a write of one slot of the list writes that item
 pub items-with_slot : {T : Type 0} (v : Slots T) (i : ℕ) (x : T) → i < items_len v → items (with_slot v i x) ≡ slice_set (items v) i x

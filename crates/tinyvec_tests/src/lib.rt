@@ -38,6 +38,8 @@ mod refusals;
 #[cfg(test)]
 mod steps;
 #[cfg(test)]
+mod trees;
+#[cfg(test)]
 mod unequal;
 #[cfg(test)]
 mod values;

@@ -1,18 +1,19 @@
 -- Lists of bytes as texts.
-use Rattle.std.proofs.Common.{◌≡◌, ℕ, ◌≤◌, List, All, IsUtf8, IsTrue, subst, sym, ◌∙◌, refl, arith}
+use Rattle.std.proofs.Common.{◌≡◌, ℕ, ◌≤◌, List, All, IsUtf8, IsTrue, subst, sym, ◌∙◌, refl, arith, ap, length}
 use Rattle.std.specs.Prelude.{Bool, true, false, Ok}
 use Rattle.std.proofs.lemmas.List.Elements.{All-append, All-drop}
 use Rattle.std.proofs.lemmas.Str.{IsUtf8-had}
 use Rattle.tinyvec_slots.specs.Slots.{AreDefaults}
+use Rattle.tinyvec_array.proofs.Named.{array_slots}
 use Rattle.tinyvec.specs.SpliceLaws.{frame_becomes}
-use Rattle.tinyvec.specs.TinyVec.{tiny_items, tiny_len, tiny_spare, tiny_capacity, is_inline, IsInline, TinySlotRule, SameFrame, Becomes, Unchanged}
+use Rattle.tinyvec.specs.Lends.{tiny_with_items}
+use Rattle.tinyvec.specs.TinyVec.{tiny_items, tiny_len, tiny_spare, tiny_capacity, is_inline, IsInline, tiny_view}
+use Rattle.tinyvec.specs.View.{TinySlotRule, SameFrame, Becomes, Unchanged, TinyView, Place, in_array, on_heap, lies_inline, capacity_in, PlaceRule}
 use Rattle.tinyvec.specs.Room.{GrowsFor, RoomGrows, MakesRoom}
-use Rattle.tinyvec.specs.declared.tiny_vec.TinyVec.{TinyVec}
 use Rattle.tinyvec.specs.declared.tiny_vec.TinyVec.TheVariants.{Inline, Heap}
 use Rattle.std.specs.String.Boundary.{IsSplitPoint}
-use Rattle.tinyvec.specs.View.{Place, in_array, on_heap, lies_inline, capacity_in, ViewPlaceRule}
-use Rattle.tinyvec.proofs.TinyLemmas.{tiny_slots_then_framed}
-use Rattle.tinyvec_text.specs.InlineText.{Text, IsText, text_of, text_view, text_chars, text_len, TextMakesRoom, IsBoundary}
+use Rattle.tinyvec.proofs.TinyLemmas.{tiny_slots_then_framed, tiny_items-with, tiny_framed-with}
+use Rattle.tinyvec_text.specs.InlineText.{Text, Bytes, IsText, text_of, text_view, text_chars, text_len, TextMakesRoom, IsBoundary}
 use Rattle.tinyvec_text.proofs.Boundaries.{split_from_boundary}
 
 -- a and b are boundaries of the bytes, in this order
@@ -32,98 +33,110 @@ pub room_inline : (slots : ℕ) (p : Place) → IsTrue (lies_inline p) → capac
 room_inline slots in_array is = refl
 room_inline slots (on_heap n) is = absurd (let no = is in cc)
 
-module _ {A : Type 0} where
-  pub text_utf8 : (v : TinyVec A ℕ) → IsText v → IsUtf8 (tiny_items v)
-  text_utf8 v is = IsUtf8-had _ is.0
+pub text_utf8 : {k : ℕ} (v : Bytes k) → IsText v → IsUtf8 (tiny_items v)
+text_utf8 v is = IsUtf8-had _ is.0
 
-  -- a boundary of the text is one of its bytes
-  pub text_cut : (v : TinyVec A ℕ) (t : Text) → text_of v ≡ t → IsText v → (i : ℕ) → IsBoundary (text_chars t) i
-      → IsSplitPoint (tiny_items v) i
-  text_cut v t same is i cut =
-      split_from_boundary (tiny_items v) (text_utf8 v is) i (subst (λ (u : Text). IsBoundary (text_chars u) i) (sym same) cut)
+-- a boundary of the text is one of its bytes
+pub text_cut : {k : ℕ} (v : Bytes k) (t : Text) → text_of v ≡ t → IsText v → (i : ℕ) → IsBoundary (text_chars t) i
+    → IsSplitPoint (tiny_items v) i
+text_cut v t same is i cut =
+    split_from_boundary (tiny_items v) (text_utf8 v is) i (subst (λ (u : Text). IsBoundary (text_chars u) i) (sym same) cut)
 
-  -- what a call leaves in the list of a text: spare slots that it vacates are zero
-  zero_spare : (old new : TinyVec A ℕ) → (IsInline new → IsInline old) → TinySlotRule (λ b. b ≡ 0) old new
-      → All (λ b. b ≡ 0) (tiny_spare old) → All (λ b. b ≡ 0) (tiny_spare new)
-  zero_spare (Inline v a) (Inline w b) place rule zero =
-      let h = rule refl refl in
-      subst (All (λ b. b ≡ 0)) (sym h.2) (All-append (λ b. b ≡ 0) h.0 _ h.1.1 (All-drop (λ b. b ≡ 0) _ _ zero))
-  zero_spare old (Heap w) place rule zero = λ k d few. absurd (omega (arith, few))
-  zero_spare (Heap v) (Inline w b) place rule zero = absurd (let no = place refl in cc)
+-- what a call leaves in the list of a text: spare slots that it vacates are zero
+zero_spare : {k : ℕ} (old new : Bytes k) → (IsInline new → IsInline old) → TinySlotRule (λ b. b ≡ 0) (tiny_view old) (tiny_view new)
+    → All (λ b. b ≡ 0) (tiny_spare old) → All (λ b. b ≡ 0) (tiny_spare new)
+zero_spare (Inline v a) (Inline w b) place rule zero =
+    let h = rule refl refl in
+    subst (All (λ b. b ≡ 0)) (sym h.2) (All-append (λ b. b ≡ 0) h.0 _ h.1.1 (All-drop (λ b. b ≡ 0) _ _ zero))
+zero_spare old (Heap w) place rule zero = λ k d few. absurd (omega (arith, few))
+zero_spare (Heap v) (Inline w b) place rule zero = absurd (let no = place refl in cc)
 
-  pub zero_becomes : (slots : ℕ) (old new : TinyVec A ℕ) (bs : List ℕ) → Becomes (λ b. b ≡ 0) slots old new bs
-      → All (λ b. b ≡ 0) (tiny_spare old) → All (λ b. b ≡ 0) (tiny_spare new)
-  zero_becomes slots old new bs made = zero_spare old new (λ i. subst IsTrue made.place i) made.slot_rule
+pub zero_becomes : {k : ℕ} (slots : ℕ) (old new : Bytes k) (bs : List ℕ) → Becomes (λ b. b ≡ 0) slots (tiny_view old) (tiny_view new) bs
+    → All (λ b. b ≡ 0) (tiny_spare old) → All (λ b. b ≡ 0) (tiny_spare new)
+zero_becomes slots old new bs made = zero_spare old new (λ i. subst IsTrue made.place i) made.slot_rule
 
-  pub text_kept : (old new : TinyVec A ℕ) → (IsInline new → IsInline old) → TinySlotRule (λ b. b ≡ 0) old new
-      → IsText old → IsUtf8 (tiny_items new) → IsText new
-  text_kept old new place rule h utf8 = (∣ utf8 ∣₁, zero_spare old new place rule h.1)
+pub text_kept : {k : ℕ} (old new : Bytes k) → (IsInline new → IsInline old) → TinySlotRule (λ b. b ≡ 0) (tiny_view old) (tiny_view new)
+    → IsText old → IsUtf8 (tiny_items new) → IsText new
+text_kept old new place rule h utf8 = (∣ utf8 ∣₁, zero_spare old new place rule h.1)
 
-  pub text_stays : (slots : ℕ) (old new : TinyVec A ℕ) (bs : List ℕ) → Becomes (λ b. b ≡ 0) slots old new bs → IsText old → IsUtf8 bs → IsText new
-  text_stays slots old new bs made is utf8 = text_kept old new (λ i. subst IsTrue made.place i) made.slot_rule is (subst IsUtf8 (sym made.items) utf8)
+pub text_stays : {k : ℕ} (slots : ℕ) (old new : Bytes k) (bs : List ℕ) → Becomes (λ b. b ≡ 0) slots (tiny_view old) (tiny_view new) bs → IsText old → IsUtf8 bs → IsText new
+text_stays slots old new bs made is utf8 = text_kept old new (λ i. subst IsTrue made.place i) made.slot_rule is (subst IsUtf8 (sym made.items) utf8)
 
-  -- the same of a call that first wrote over the bytes
-  pub text_rewritten : (slots : ℕ) (old mid new : TinyVec A ℕ) (bs : List ℕ) → SameFrame old mid → Becomes (λ b. b ≡ 0) slots mid new bs
-      → IsText old → IsUtf8 bs → IsText new
-  text_rewritten slots old mid new bs frame made = text_stays slots old new bs (frame_becomes (λ b. b ≡ 0) slots old mid new bs frame made)
+pub text_same : {k : ℕ} (old new : Bytes k) → Unchanged (tiny_view old) (tiny_view new) → IsText old → IsText new
+text_same old new h is = (subst (λ bs. ∥ IsUtf8 bs ∥₁) (sym h.items) is.0, subst (All (λ b. b ≡ 0)) (sym h.spare) is.1)
 
-  pub text_same : (old new : TinyVec A ℕ) → Unchanged old new → IsText old → IsText new
-  text_same old new h is = (subst (λ bs. ∥ IsUtf8 bs ∥₁) (sym h.items) is.0, subst (All (λ b. b ≡ 0)) (sym h.spare) is.1)
+-- a list that was made of a text's bytes
+pub text_made : {k : ℕ} (n : ℕ) (v : Bytes k) → IsUtf8 (tiny_items v) → (IsInline v → AreDefaults (λ b. b ≡ 0) n (tiny_spare v)) → IsText v
+text_made n (Inline v a) utf8 spare = (∣ utf8 ∣₁, (spare refl).1)
+text_made n (Heap v) utf8 spare = (∣ utf8 ∣₁, λ k d few. absurd (omega (arith, few)))
 
-  -- a list that was made of a text's bytes
-  pub text_made : (n : ℕ) (v : TinyVec A ℕ) → IsUtf8 (tiny_items v) → (IsInline v → AreDefaults (λ b. b ≡ 0) n (tiny_spare v)) → IsText v
-  text_made n (Inline v a) utf8 spare = (∣ utf8 ∣₁, (spare refl).1)
-  text_made n (Heap v) utf8 spare = (∣ utf8 ∣₁, λ k d few. absurd (omega (arith, few)))
+-- a text that was moved into its array, or whose allocation was shrunk
+pub text_shrunk : {k : ℕ} (n : ℕ) (old new : Bytes k) → IsText old → tiny_items new ≡ tiny_items old → (IsInline old → new ≡ old)
+    → (is_inline old ≡ false → IsInline new → AreDefaults (λ b. b ≡ 0) n (tiny_spare new)) → IsText new
+text_shrunk n (Inline v a) new is items kept spare = subst IsText (sym (kept refl)) is
+text_shrunk {k} n (Heap v) new is items kept spare = text_made n new (subst IsUtf8 (sym items) (text_utf8 {k = k} (Heap v) is)) (spare refl)
 
-  -- a text that was moved into its array, or whose allocation was shrunk
-  pub text_shrunk : (n : ℕ) (old new : TinyVec A ℕ) → IsText old → tiny_items new ≡ tiny_items old → (IsInline old → new ≡ old)
-      → (is_inline old ≡ false → IsInline new → AreDefaults (λ b. b ≡ 0) n (tiny_spare new)) → IsText new
-  text_shrunk n (Inline v a) new is items kept spare = subst IsText (sym (kept refl)) is
-  text_shrunk n (Heap v) new is items kept spare = text_made n new (subst IsUtf8 (sym items) (text_utf8 (Heap v) is)) (spare refl)
+-- the ends of a range are boundaries of the bytes
+pub text_range : {k : ℕ} (v : Bytes k) (t : Text) → text_of v ≡ t → IsText v → (a : ℕ) (end : ℕ → ℕ) → a ≤ end (text_len t)
+    → IsBoundary (text_chars t) a → IsBoundary (text_chars t) (end (text_len t)) → CutsAt (tiny_items v) a (end (tiny_len v))
+text_range v t same is a end order first last =
+    let utf8 = text_utf8 v is in
+    record {
+      order = subst (λ (u : Text). a ≤ end (text_len u)) (sym same) order;
+      first = split_from_boundary (tiny_items v) utf8 a (subst (λ (u : Text). IsBoundary (text_chars u) a) (sym same) first);
+      last = split_from_boundary (tiny_items v) utf8 (end (tiny_len v)) (subst (λ (u : Text). IsBoundary (text_chars u) (end (text_len u))) (sym same) last);
+    }
 
-  -- the ends of a range are boundaries of the bytes
-  pub text_range : (v : TinyVec A ℕ) (t : Text) → text_of v ≡ t → IsText v → (a : ℕ) (end : ℕ → ℕ) → a ≤ end (text_len t)
-      → IsBoundary (text_chars t) a → IsBoundary (text_chars t) (end (text_len t)) → CutsAt (tiny_items v) a (end (tiny_len v))
-  text_range v t same is a end order first last =
-      let utf8 = text_utf8 v is in
-      record {
-        order = subst (λ (u : Text). a ≤ end (text_len u)) (sym same) order;
-        first = split_from_boundary (tiny_items v) utf8 a (subst (λ (u : Text). IsBoundary (text_chars u) a) (sym same) first);
-        last = split_from_boundary (tiny_items v) utf8 (end (tiny_len v)) (subst (λ (u : Text). IsBoundary (text_chars u) (end (text_len u))) (sym same) last);
-      }
+-- a call that made the room that it needs
+pub made_room : {k : ℕ} {X E : Type 0} (slots need : ℕ) (old new : Bytes k) (t : Text) (x : X) → text_of old ≡ t → tiny_len new ≡ need
+    → RoomGrows {X = X} {E = E} GrowsFor (λ b. b ≡ 0) slots (tiny_len new) (tiny_view old) (tiny_view new) (Ok x)
+    → TextMakesRoom {X = X} {E = E} (lies_inline t.place) slots need t (text_of new) (Ok x)
+made_room {X} {E} slots need old new t x same len room =
+    subst (λ (u : Text). TextMakesRoom {X = X} {E = E} (lies_inline u.place) slots need u (text_of new) (Ok x)) same
+    (subst (λ n. TextMakesRoom {X = X} {E = E} (is_inline old) slots n (text_of old) (text_of new) (Ok x)) len record {
+      place = room.place;
+      capacity = room.capacity;
+      same_room = room.same_room;
+      grown = room.grown;
+      fits = room.fits;
+      succeeds = λ _. refl;
+      inline_succeeds = λ _ _. refl;
+      full = tt;
+      refused = tt;
+    })
 
-  -- a call that made the room that it needs
-  pub made_room : {X E : Type 0} (slots need : ℕ) (old new : TinyVec A ℕ) (t : Text) (x : X) → text_of old ≡ t → tiny_len new ≡ need
-      → RoomGrows {X = X} {E = E} GrowsFor (λ b. b ≡ 0) slots (tiny_len new) old new (Ok x)
-      → TextMakesRoom {X = X} {E = E} (lies_inline t.place) slots need t (text_of new) (Ok x)
-  made_room {X} {E} slots need old new t x same len room =
-      subst (λ (u : Text). TextMakesRoom {X = X} {E = E} (lies_inline u.place) slots need u (text_of new) (Ok x)) same
-      (subst (λ n. TextMakesRoom {X = X} {E = E} (is_inline old) slots n (text_of old) (text_of new) (Ok x)) len record {
-        place = room.place;
-        capacity = room.capacity;
-        same_room = room.same_room;
-        grown = room.grown;
-        fits = room.fits;
-        succeeds = λ _. refl;
-        inline_succeeds = λ _ _. refl;
-        full = tt;
-        refused = tt;
-      })
+-- a write through the slice of the bytes leaves what the slice shows, and spare slots, place and room
+module _ (slots : ℕ) (old : Bytes slots) (ws : List ℕ) (long : length ws ≡ tiny_len old) where
+  abbrev pub written : Bytes slots
+  written = tiny_with_items (array_slots slots) old ws
+
+  pub bytes_written : tiny_items written ≡ ws
+  bytes_written = tiny_items-with (array_slots slots) old ws long
+
+  pub frame_written : SameFrame (tiny_view old) (tiny_view written)
+  frame_written = tiny_framed-with (array_slots slots) old ws long
+
+  -- a call after it left what `kept` says of the bytes
+  pub overwritten : (new : Bytes slots) (kept : List ℕ → List ℕ) → Becomes (λ b. b ≡ 0) slots (tiny_view written) (tiny_view new) (kept (tiny_items written))
+      → Becomes (λ b. b ≡ 0) slots (tiny_view old) (tiny_view new) (kept ws)
+  overwritten new kept made =
+      subst (Becomes (λ b. b ≡ 0) slots (tiny_view old) (tiny_view new)) (ap kept bytes_written)
+      (frame_becomes (λ b. b ≡ 0) slots (tiny_view old) (tiny_view written) (tiny_view new) (kept (tiny_items written)) frame_written made)
 
 -- a call with room leaves a text in its place
 pub place_stays : (slots need : ℕ) (old new : Text) → need ≤ capacity_in slots old.place
-    → ViewPlaceRule slots need (text_view old) (text_view new) → lies_inline new.place ≡ lies_inline old.place
+    → PlaceRule slots need (text_view old) (text_view new) → lies_inline new.place ≡ lies_inline old.place
 place_stays slots need old new enough rule =
     same_truth (lies_inline new.place) (lies_inline old.place) (λ is. (rule.0 is).0) (λ is. rule.1 (is, omega (arith, enough, room_inline slots old.place is)))
 
 -- a call that had room, after which items were written
-pub room_rewritten : {A X E : Type 0} {G : ℕ → ℕ → TinyVec A ℕ → TinyVec A ℕ → Type 0} (slots need : ℕ) (old mid new : TinyVec A ℕ) (x : X) → need ≤ tiny_capacity slots old
-    → MakesRoom {X = X} {E = E} G (λ b. b ≡ 0) slots need old mid (Ok x) → SameFrame mid new → Becomes (λ b. b ≡ 0) slots old new (tiny_items new)
+pub room_rewritten : {k : ℕ} {X E : Type 0} {G : ℕ → ℕ → TinyView ℕ → TinyView ℕ → Type 0} (slots need : ℕ) (old mid new : Bytes k) (x : X) → need ≤ tiny_capacity slots old
+    → MakesRoom {X = X} {E = E} G (λ b. b ≡ 0) slots need (tiny_view old) (tiny_view mid) (Ok x) → SameFrame (tiny_view mid) (tiny_view new) → Becomes (λ b. b ≡ 0) slots (tiny_view old) (tiny_view new) (tiny_items new)
 room_rewritten slots need old mid new x enough made frame =
     let same = frame.capacity slots in record {
       items = refl;
       place = frame.place ∙ place_stays slots need (text_of old) (text_of mid) enough made.place;
-      slot_rule = tiny_slots_then_framed (λ b. b ≡ 0) old mid new made.slot_rule frame;
+      slot_rule = tiny_slots_then_framed (λ b. b ≡ 0) (tiny_view old) (tiny_view mid) (tiny_view new) made.slot_rule frame;
       capacity = same ∙ made.same_room enough;
       fits = let fits = made.fits in let len = frame.len in omega (arith, same, len, fits);
     }

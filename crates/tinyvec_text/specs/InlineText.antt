@@ -1,7 +1,9 @@
 -- What a contract sees of an `InlineText`: its bytes, and where they are.
 use Rattle.std.specs.Prelude.{◌≡◌, ℕ, ◌+◌, ◌*◌, ◌<◌, ◌≤◌, ◌↔◌, ◌&&◌, nat_le, if◌then◌else◌, max, List, [], ◌∷◌, ◌++◌, length, take, drop, All, Bool, false, IsTrue, Result, IsOk, OnOk, OnErr, chars, encode_utf8, encode_utf8_all, IsUtf8}
 use Rattle.std.specs.Char.{IsScalar}
-use Rattle.tinyvec.specs.View.{Place, in_array, on_heap, lies_inline, capacity_in, TinyView, ViewPlaceRule, ViewKeepsRoom, ViewGrowsInSteps}
+use Rattle.tinyvec_array.specs.declared.bound.UpTo.{UpTo}
+use Rattle.tinyvec.specs.View.{Place, in_array, on_heap, lies_inline, capacity_in, TinyView, PlaceRule}
+use Rattle.tinyvec.specs.Room.{KeepsRoom, GrowsInSteps}
 use Rattle.tinyvec.specs.TinyVec.{tiny_items, tiny_spare, place_of}
 use Rattle.tinyvec.specs.declared.tiny_vec.TinyVec.{TinyVec}
 
@@ -10,12 +12,16 @@ pub record Text : Type 0 where
   pub bytes : List ℕ
   pub place : Place
 
+-- the list of a text in an array of n bytes
+abbrev pub Bytes : ℕ → Type 0
+Bytes n = TinyVec (List ℕ) ℕ (UpTo n)
+
 -- a list of bytes as a text
-abbrev pub text_of : {A : Type 0} → TinyVec A ℕ → Text
+abbrev pub text_of : {n : ℕ} → Bytes n → Text
 text_of v = record { bytes = tiny_items v; place = place_of v }
 
 -- what holds of the list of each text: its bytes are UTF-8, and its spare slots are zero
-abbrev pub IsText : {A : Type 0} → TinyVec A ℕ → Type 0
+abbrev pub IsText : {n : ℕ} → Bytes n → Type 0
 IsText v = ∥ IsUtf8 (tiny_items v) ∥₁ × All (λ b. b ≡ 0) (tiny_spare v)
 
 -- a text as a view of its list, without the spare slots
@@ -33,9 +39,9 @@ text_len t = length t.bytes
 -- A call that needs room for `need` bytes took `old` to `new`, with this result. If there was less, a text got just that room if
 -- `moves` holds, else twice the old room, or `need` if that is more.
 pub record TextMakesRoom {X E : Type 0} (moves : Bool) (slots need : ℕ) (old new : Text) (result : Result X E) : Type 0 where
-  pub place : OnOk result (ViewPlaceRule slots need (text_view old) (text_view new))
+  pub place : OnOk result (PlaceRule slots need (text_view old) (text_view new))
   pub capacity : capacity_in slots old.place ≤ capacity_in slots new.place
-  pub same_room : ViewKeepsRoom slots need (text_view old) (text_view new)
+  pub same_room : KeepsRoom slots need (text_view old) (text_view new)
   pub grown : OnOk result (capacity_in slots old.place < need
       → capacity_in slots new.place ≡ (if moves then need else max (2 * capacity_in slots old.place) need))
   pub fits : text_len new ≤ capacity_in slots new.place
@@ -73,10 +79,10 @@ empty_text = record { bytes = []; place = in_array }
 -- than twice its bytes; one on the heap that grew at least doubled its room.
 pub record TextExtends (slots : ℕ) (old new : Text) : Type 0 where
   pub longer : text_len old ≤ text_len new
-  pub place : ViewPlaceRule slots (text_len new) (text_view old) (text_view new)
+  pub place : PlaceRule slots (text_len new) (text_view old) (text_view new)
   pub capacity : capacity_in slots old.place ≤ capacity_in slots new.place
-  pub same_room : ViewKeepsRoom slots (text_len new) (text_view old) (text_view new)
-  pub grown : ViewGrowsInSteps slots (text_view old) (text_view new)
+  pub same_room : KeepsRoom slots (text_len new) (text_view old) (text_view new)
+  pub grown : GrowsInSteps slots (text_view old) (text_view new)
   pub doubled : lies_inline old.place ≡ false → capacity_in slots old.place < capacity_in slots new.place
       → 2 * capacity_in slots old.place ≤ capacity_in slots new.place
   pub fits : text_len new ≤ capacity_in slots new.place

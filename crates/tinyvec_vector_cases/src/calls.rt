@@ -142,14 +142,15 @@ macro_rules! extend_slots {
                 tinyvec_rows::done($out, $v.extend_from_slice(items.as_slice()))
             }
             Extend::FromWithin(range)
-                if is_within(range, $v.len()) && tinyvec_rows::has_at_most(range, $v.len(), $v.remaining_capacity()) => {
+                if tinyvec_rows::is_within(range, $v.len())
+                    && tinyvec_rows::has_at_most(range, $v.len(), $v.remaining_capacity()) => {
                 tinyvec_rows::done($out, $v.extend_from_within(range))
             }
             Extend::Resize(n, x) if n <= $v.capacity() => tinyvec_rows::done($out, $v.resize(n, x)),
             Extend::ResizeWith(n, mut counter) => {
                 $crate::calls::needs!(n <= $v.capacity());
                 $v.resize_with(n, || counter.next());
-                say($out, &counter.calls())
+                tinyvec_rows::say($out, &counter.calls())
             }
             $($arm)*
         }
@@ -199,16 +200,16 @@ macro_rules! drain {
     };
 }
 
-// Calls of a range of a vector that owns its items. `$spliced` steps a splice.
+// Calls of a range of any vector. `$spliced` steps a splice, and `DrainEach` is the caller's.
 macro_rules! ranged {
-    ($v:ident, $ranged:ident, $spliced:ident, $out:ident) => {
+    ($v:ident, $ranged:ident, $spliced:ident, $out:ident, $($arm:tt)*) => {
         $crate::calls::drain!($v, $ranged, $out,
             Ranged::Splice(range, items, steps) => $spliced($v, range, (items, steps), $out),
             Ranged::SpliceAll(range, items) => {
                 $crate::calls::needs!(is_within(range, $v.len()));
                 $crate::calls::say_spliced($v.splice_all(range, items), $out)
             }
-            Ranged::DrainEach(_, _) => Err(Wrong::Call),
+            $($arm)*
         )
     };
 }

@@ -5,7 +5,7 @@ use std::fmt::Write as _;
 use std::hash::Hash;
 use std::io::Write as _;
 use std::{fmt, io};
-use tinyvec::{Array, ArrayVec, SliceVec, TinyVec};
+use tinyvec::{Array, TinyVec};
 use tinyvec_rows::call::{Held, Writing};
 use tinyvec_rows::{Item, Said, Span, Wide, Wrong, done, say};
 
@@ -82,19 +82,8 @@ pub trait Writes {
     fn write(&mut self, writing: Writing, out: &mut String) -> Said;
 }
 
-impl<A: Array<Item = u8>> Writes for ArrayVec<A> {
-    fn write(&mut self, writing: Writing, out: &mut String) -> Said {
-        write_text(self, writing, out)
-    }
-}
-
-impl<'s> Writes for SliceVec<'s, u8> {
-    fn write(&mut self, writing: Writing, out: &mut String) -> Said {
-        write_text(self, writing, out)
-    }
-}
-
-fn write_text<V: fmt::Write>(v: &mut V, writing: Writing, out: &mut String) -> Said {
+/// Makes the calls of `fmt::Write`.
+pub fn write_text<V: fmt::Write>(v: &mut V, writing: Writing, out: &mut String) -> Said {
     match writing {
         Writing::Text(text) => done(out, v.write_str(text.as_str())),
         Writing::Letter(letter) => done(out, v.write_char(letter)),

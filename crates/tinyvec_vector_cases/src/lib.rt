@@ -6,6 +6,7 @@ mod calls;
 pub mod compare;
 pub mod held;
 mod slice;
+mod slots;
 pub mod starts;
 mod steps;
 pub mod tiny;

@@ -1,5 +1,6 @@
 //! The vectors that rows begin with.
 use crate::held::HeldBy;
+use crate::slots::Storage;
 use crate::vector::Calls;
 use crate::{array, compare, tiny, vector};
 use std::alloc::Global;
@@ -73,7 +74,7 @@ fn answer_slice(item: &str, words: &mut Words<'_>, calls: &mut Calls<'_>) -> Sai
     }
 }
 
-fn compare_arrays<T: Read + Ord + Hash, A: Array<Item = T>>(
+fn compare_arrays<T: Read + Default + Ord + Hash, A: Array<Item = T>>(
     words: &mut Words<'_>,
     calls: &mut Calls<'_>,
 ) -> Said {
@@ -84,7 +85,7 @@ fn compare_arrays<T: Read + Ord + Hash, A: Array<Item = T>>(
     compare::say_compared(&v, &w, v.as_slice(), calls.out)
 }
 
-fn show_array<T: Read + PartialOrd + fmt::Display + fmt::Debug, A: Array<Item = T>>(
+fn show_array<T: Read + Default + PartialOrd + fmt::Display + fmt::Debug, A: Array<Item = T>>(
     words: &mut Words<'_>,
     calls: &mut Calls<'_>,
 ) -> Said {
@@ -92,7 +93,7 @@ fn show_array<T: Read + PartialOrd + fmt::Display + fmt::Debug, A: Array<Item = 
     compare::answer(&v, &w, calls.text, calls.out)
 }
 
-fn show_tiny<T: Read + PartialOrd + fmt::Display + fmt::Debug, A: Array<Item = T>>(
+fn show_tiny<T: Read + Default + PartialOrd + fmt::Display + fmt::Debug, A: Array<Item = T>>(
     words: &mut Words<'_>,
     calls: &mut Calls<'_>,
 ) -> Said {
@@ -110,7 +111,7 @@ fn show_slice(words: &mut Words<'_>, calls: &mut Calls<'_>) -> Said {
     compare::answer(&v, &w, calls.text, calls.out)
 }
 
-fn of_array<T: HeldBy<ArrayVec<A>>, A: Array<Item = T>>(
+fn of_array<T: HeldBy<ArrayVec<A>>, A: Array<Item = T> + Storage>(
     words: &mut Words<'_>,
     calls: &mut Calls<'_>,
 ) -> Said {
@@ -239,7 +240,7 @@ fn tiny_start_in<'a>(words: &mut Words<'a>) -> Result<TinyStart<'a>, Wrong> {
     Ok((place, room, words.word()?))
 }
 
-fn arrays<T: Read, A: Array<Item = T>>(
+fn arrays<T: Read + Default, A: Array<Item = T>>(
     alloc: Global,
     starts: Starts<'_>,
 ) -> Result<(ArrayVec<A>, ArrayVec<A>), Wrong> {
@@ -251,7 +252,7 @@ fn arrays<T: Read, A: Array<Item = T>>(
     Ok((v, other))
 }
 
-fn tinies<T: Read, A: Array<Item = T>>(
+fn tinies<T: Read + Default, A: Array<Item = T>>(
     alloc: Global,
     starts: (TinyStart<'_>, Option<TinyStart<'_>>),
 ) -> Result<(TinyVec<A>, TinyVec<A>), Wrong> {
@@ -263,7 +264,7 @@ fn tinies<T: Read, A: Array<Item = T>>(
     Ok((v, other))
 }
 
-fn tiny_of<T: Read, A: Array<Item = T>>(
+fn tiny_of<T: Read + Default, A: Array<Item = T>>(
     alloc: Global,
     start: TinyStart<'_>,
 ) -> Result<TinyVec<A>, Wrong> {

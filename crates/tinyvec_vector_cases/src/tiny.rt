@@ -18,7 +18,7 @@ use tinyvec_rows::{
 };
 
 /// A list inline, before the slots after it.
-pub fn inline<T: Read, A: Array<Item = T>>(
+pub fn inline<T: Read + Default, A: Array<Item = T>>(
     alloc: Global,
     slots: Slots<T>,
 ) -> Result<TinyVec<A>, Wrong> {
@@ -26,7 +26,7 @@ pub fn inline<T: Read, A: Array<Item = T>>(
 }
 
 /// A list on the heap, with room for this many items or for all of them.
-pub fn heap<T: Read, A: Array<Item = T>>(
+pub fn heap<T: Read + Default, A: Array<Item = T>>(
     alloc: Global,
     list: Vec<T>,
     room: usize,
@@ -168,7 +168,7 @@ fn replace<T: Item, A: Array<Item = T>>(
     ranged: Ranged<T>,
     out: &mut String,
 ) -> Said {
-    ranged!(v, ranged, spliced, out)
+    ranged!(v, ranged, spliced, out, Ranged::DrainEach(_, _) => Err(Wrong::Call),)
 }
 
 fn spliced<T: Item, A: Array<Item = T>>(
@@ -312,10 +312,13 @@ impl<T: Item + Copy, A: Array<Item = T>> Copies for TinyVec<A> {
     }
 }
 
-impl<'a, T: Item, A: Array<Item = T>> Steps for TinyVecDrain<'a, A> {
+impl<'a, A: Array> Steps for TinyVecDrain<'a, A>
+where
+    A::Item: Item,
+{
     ghost use Rattle.tinyvec.specs.Drain.{DrainCanStep};
 
-    ghost Ready = { DrainCanStep };
+    ghost Ready = { DrainCanStep A.Slots };
 
     fn step(&mut self, step: Step, out: &mut String) -> Said {
         step_at_ends!(self, step, out,
@@ -325,10 +328,13 @@ impl<'a, T: Item, A: Array<Item = T>> Steps for TinyVecDrain<'a, A> {
     }
 }
 
-impl<'a, T: Item, A: Array<Item = T>> Steps for TinyVecSplice<'a, A, Fuse<vec::IntoIter<T>>> {
+impl<'a, A: Array> Steps for TinyVecSplice<'a, A, Fuse<vec::IntoIter<A::Item>>>
+where
+    A::Item: Item,
+{
     ghost use Rattle.tinyvec.specs.TinyVecSplice.{SpliceCanStep};
 
-    ghost Ready = { SpliceCanStep };
+    ghost Ready = { SpliceCanStep A.Slots };
 
     fn step(&mut self, step: Step, out: &mut String) -> Said {
         step_at_ends!(self, step, out,

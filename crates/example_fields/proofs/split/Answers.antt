@@ -1,16 +1,17 @@
-use Rattle.std.proofs.Common.{rules, arith, below_more, ◌≡◌, refl, ap, length}
-use Rattle.std.proofs.lemmas.List.{length-map}
+use Rattle.std.proofs.Common.{rules, arith, below_more, ◌≡◌, ◌<◌, ◌∙◌, refl, ap, length}
+use Rattle.std.proofs.lemmas.List.{length-map, length_push}
 use Rattle.std.proofs.lemmas.List.Elements.{All-push, All-same}
-use Rattle.tinyvec_array.specs.Slots.{items, items_len}
+use Rattle.tinyvec_array.specs.ArrayVec.{items, items_len, spare}
 use Rattle.example_fields.specs.Fields.{bytes_of, IsIn}
-use Rattle.example_fields.proofs.Parts.{pushed, pushed_last, fewer}
+use Rattle.example_fields.proofs.Parts.{pushed, pushed_last, fewer, are_all}
 use Rattle.example_fields.proofs.split.Goals as goal
 use Rattle.example_fields.proofs.split.Goals.{then-byte-separator+else-is_full, else-byte-separator}
 
 -- a full vector, at a separator
 pub returns-then-is_full-clause-refused : goal.returns-then-is_full-clause-refused
 returns-then-is_full-clause-refused c =
-    let full : items_len c.loop-index.fields ≡ 8 = search rules in
+    let none : length (spare c.loop-index.fields) ≡ 0 = search rules in
+    let full : items_len c.loop-index.fields ≡ 8 = omega (arith, none, are_all c.loop-index.fields, c.is_full.ensures.slot_count) in
     let less = fewer c.args.separator c.args.line.now _ (items c.loop-index.fields) c.loop-index.invariant.so_far in
     (λ _. omega arith, λ _. refl)
 
@@ -37,7 +38,8 @@ loop-index-preserved c =
 -- a full vector, at the end of the line
 pub returns-then-is_full-2-clause-refused : goal.returns-then-is_full-2-clause-refused
 returns-then-is_full-2-clause-refused c =
-    let full : items_len c.loop-index.fields ≡ 8 = search rules in
+    let none : length (spare c.loop-index.fields) ≡ 0 = search rules in
+    let full : items_len c.loop-index.fields ≡ 8 = omega (arith, none, are_all c.loop-index.fields, c.is_full-2.ensures.slot_count) in
     let less = fewer c.args.separator c.args.line.now _ (items c.loop-index.fields) c.loop-index.invariant.so_far in
     (λ _. omega arith, λ _. refl)
 
@@ -60,4 +62,7 @@ pub returns-clause-refused : goal.returns-clause-refused
 returns-clause-refused c =
     let count = ap length (returns-clause-fields c) in
     let mapped = length-map (items c.push-2.new.self) (bytes_of c.args.line.now) in
-    (λ wrong. absurd (cc), λ more. absurd (omega arith))
+    let some : 0 < length (spare c.loop-index.fields) = search rules in
+    let long = ap length c.push-2.ensures.items ∙ length_push (items c.loop-index.fields) _ in
+    let all = are_all c.loop-index.fields in
+    (λ wrong. absurd (cc), λ more. absurd (omega (arith, more, count, mapped, some, all, c.is_full-2.ensures.slot_count, long)))

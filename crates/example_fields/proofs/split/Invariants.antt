@@ -1,5 +1,5 @@
 use Rattle.std.proofs.Common.{◌≡◌, ◌≢◌, ℕ, ◌<◌, ◌≤◌, ◌++◌, map, All, drop, get_or}
-use Rattle.tinyvec_array.specs.Slots.{items}
+use Rattle.tinyvec_array.specs.ArrayVec.{items}
 use Rattle.example_fields.specs.Fields.{bytes_of, parts, IsIn}
 use Rattle.example_fields.proofs.split.Given as goal
 

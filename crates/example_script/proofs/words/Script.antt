@@ -1,14 +1,16 @@
 -- Examples of calls as values, of runs and of scripts.
-use Rattle.std.proofs.Common.{◌≡◌, ℕ, List, [], ◌∷◌, ◌++◌, length, rules, arith}
+use Rattle.std.proofs.Common.{◌≡◌, ℕ, List, [], ◌∷◌, ◌++◌, Some, codes, length, refl, rules, arith}
 use Rattle.tinyvec_slots.specs.Slots.{Slots, split_at}
-use Rattle.tinyvec.specs.View.{TinyView, in_array, view_len, ViewPlaceRule}
+use Rattle.tinyvec.specs.View.{TinyView, in_array, view_len, PlaceRule}
 use Rattle.tinyvec_script.specs.declared.call.Call.TheVariants.{Push, Pop}
 use Rattle.tinyvec_script.specs.declared.call.Answer.TheVariants as answers
 use Rattle.tinyvec_script.specs.declared.call.End.TheVariants.{Front}
-use Rattle.tinyvec_script.specs.Step.{ArrayStep, SliceStep, Run}
+use Rattle.tinyvec_script.specs.Step.{ArrayStep, SlotsStep, Run}
 use Rattle.tinyvec_script.specs.TinyCalls.{TinyStep}
 use Rattle.tinyvec_script.specs.Driving.{ArraySplices, TinySplices, SpliceComputes}
 use Rattle.tinyvec_script.specs.Script.{Script, CompleteLines}
+use Rattle.tinyvec_script.specs.ErrorText.{run_error_text}
+use Rattle.tinyvec_script.specs.declared.script.RunError.TheVariants.{TooLong}
 
 -- the items are numbers, whose default is 0
 abbrev pub D : ℕ → Type 0
@@ -25,8 +27,8 @@ inline xs ys = record { items = xs; spare = ys; place = in_array }
 pub example-ArrayStep : ArrayStep D 4 (over (1 ∷ []) (0 ∷ 0 ∷ 0 ∷ [])) (Push 2) answers.Done (over (1 ∷ 2 ∷ []) (0 ∷ 0 ∷ []))
 example-ArrayStep = search rules
 
-pub example-SliceStep : SliceStep D (over [] (0 ∷ 0 ∷ [])) Pop answers.None (over [] (0 ∷ 0 ∷ []))
-example-SliceStep = search rules
+pub example-SlotsStep : SlotsStep D (over [] (0 ∷ 0 ∷ [])) Pop answers.None (over [] (0 ∷ 0 ∷ []))
+example-SlotsStep = search rules
 
 pub example-TinyStep : TinyStep D 4 (inline [] (0 ∷ 0 ∷ 0 ∷ 0 ∷ [])) Pop answers.None (inline [] (0 ∷ 0 ∷ 0 ∷ 0 ∷ []))
 example-TinyStep = search rules
@@ -40,7 +42,7 @@ example-SpliceComputes = search rules
 pub example-ArraySplices : (yields rest : List ℕ) (new : Slots ℕ) → ArraySplices D 8 (over (1 ∷ 2 ∷ 3 ∷ 4 ∷ []) (0 ∷ [])) 1 3 (Front ∷ []) (7 ∷ []) yields rest new → rest ≡ []
 example-ArraySplices yields rest new h = (h.list.placed (omega arith)).0
 
-pub example-TinySplices : (yields rest : List ℕ) (old new : TinyView ℕ) → TinySplices D 4 old 1 3 (Front ∷ []) (7 ∷ []) yields rest new → ViewPlaceRule 4 (view_len new) old new
+pub example-TinySplices : (yields rest : List ℕ) (old new : TinyView ℕ) → TinySplices D 4 old 1 3 (Front ∷ []) (7 ∷ []) yields rest new → PlaceRule 4 (view_len new) old new
 example-TinySplices yields rest old new h = h.grows.place
 
 pub example-Script : Script [] []
@@ -48,3 +50,6 @@ example-Script = search rules
 
 pub example-CompleteLines : CompleteLines [] []
 example-CompleteLines = search rules
+
+pub example-run_error_text : run_error_text TooLong ≡ Some (codes "cannot read input: input too long")
+example-run_error_text = refl

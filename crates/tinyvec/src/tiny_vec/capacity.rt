@@ -1,23 +1,26 @@
 //! Room on the heap, and moves between the array and the heap.
 ghost use Rattle.std.specs.Prelude.{◌≡◌, ◌+◌, ◌*◌, ◌<◌, ◌≤◌, max, min, false, OnOk, OnErr, vec_len, vec_capacity, ◌-◌, ◌↔◌, IsOk, IfOk, IfErr};
-ghost use Rattle.tinyvec.specs.TinyVec.{tiny_items, tiny_len, is_inline, tiny_capacity, tiny_spare, IsInline};
+ghost use Rattle.tinyvec.specs.TinyVec.{tiny_items_of, tiny_len_of, is_inline, tiny_capacity, tiny_spare_of, IsInline, tiny_view_of};
 ghost use Rattle.tinyvec.specs.Room.{Doubles, GrowsFor, GrowsExactly, MakesRoom, MovesToHeap, MovesToHeapWithRoom};
 ghost use Rattle.std.specs.Box.{boxed_slice_items};
-ghost use Rattle.tinyvec_slots.specs.Slots.{AreDefaults, items, spare};
+ghost use Rattle.tinyvec_slots.specs.Slots.{AreDefaults};
+ghost use Rattle.tinyvec_array.specs.ArrayVec.{items_of, spare_of};
 
 use crate::TinyVec;
 use std::alloc::AllocError;
 use std::boxed::BoxedSlice;
-use tinyvec_array::{Array, ArrayVec, NoMemory};
+use tinyvec_array::{Array, ArrayVec};
+use tinyvec_slots::NoMemory;
 
 impl<A: Array> TinyVec<A> {
     // Doubles the capacity of a full list. Inlined, since `grow` is a call of its own.
     #[inline(always)]
     pub(crate) fn grow_one(&mut self) -> Result<(), AllocError>
-        requires { tiny_capacity A.CAPACITY self.old ≤ tiny_len self.old }
-        ensures items { tiny_items self.new ≡ tiny_items self.old }
+        requires { tiny_capacity A.CAPACITY self.old ≤ tiny_len_of A.Slots self.old }
+        ensures items { tiny_items_of A.Slots self.new ≡ tiny_items_of A.Slots self.old }
         ensures place { OnOk result (is_inline self.new ≡ false) }
-        ensures room { MakesRoom Doubles A.Item.is_default A.CAPACITY (tiny_len self.old + 1) self.old self.new result }
+        ensures room { MakesRoom Doubles A.Item.is_default A.CAPACITY (tiny_len_of A.Slots self.old + 1)
+            (tiny_view_of A.Slots self.old) (tiny_view_of A.Slots self.new) result }
     {
         let len = self.len();
         self.grow(len.max(1))
@@ -27,13 +30,14 @@ impl<A: Array> TinyVec<A> {
     /// already, it allocates nothing.
     #[inline(always)]
     pub fn reserve(&mut self, additional: usize) -> Result<(), AllocError>
-        ensures items { tiny_items self.new ≡ tiny_items self.old }
-        ensures room { MakesRoom GrowsFor A.Item.is_default A.CAPACITY (tiny_len self.old + additional)
-            self.old self.new result }
-        ensures enough { OnOk result (tiny_len self.old + additional ≤ tiny_capacity A.CAPACITY self.new) }
+        ensures items { tiny_items_of A.Slots self.new ≡ tiny_items_of A.Slots self.old }
+        ensures room { MakesRoom GrowsFor A.Item.is_default A.CAPACITY (tiny_len_of A.Slots self.old + additional)
+            (tiny_view_of A.Slots self.old) (tiny_view_of A.Slots self.new) result }
+        ensures enough { OnOk result (tiny_len_of A.Slots self.old + additional ≤ tiny_capacity A.CAPACITY self.new) }
 
         // A list that has room, or is inline after the call, is unchanged.
-        ensures kept { tiny_len self.old + additional ≤ tiny_capacity A.CAPACITY self.old → self.new ≡ self.old }
+        ensures kept { tiny_len_of A.Slots self.old + additional ≤ tiny_capacity A.CAPACITY self.old → self.new
+            ≡ self.old }
         ensures stays { IsInline self.new → self.new ≡ self.old }
     {
         if additional <= self.capacity() - self.len() {
@@ -46,14 +50,14 @@ impl<A: Array> TinyVec<A> {
     #[cold]
     #[inline(never)]
     pub(crate) fn grow(&mut self, n: usize) -> Result<(), AllocError>
-        requires { tiny_capacity A.CAPACITY self.old < tiny_len self.old + n }
-        ensures items { tiny_items self.new ≡ tiny_items self.old }
-        ensures room { MakesRoom GrowsFor A.Item.is_default A.CAPACITY (tiny_len self.old + n)
-            self.old self.new result }
-        ensures enough { OnOk result (tiny_len self.old + n ≤ tiny_capacity A.CAPACITY self.new) }
+        requires { tiny_capacity A.CAPACITY self.old < tiny_len_of A.Slots self.old + n }
+        ensures items { tiny_items_of A.Slots self.new ≡ tiny_items_of A.Slots self.old }
+        ensures room { MakesRoom GrowsFor A.Item.is_default A.CAPACITY (tiny_len_of A.Slots self.old + n)
+            (tiny_view_of A.Slots self.old) (tiny_view_of A.Slots self.new) result }
+        ensures enough { OnOk result (tiny_len_of A.Slots self.old + n ≤ tiny_capacity A.CAPACITY self.new) }
 
         // A list that has room, or is inline after the call, is unchanged.
-        ensures kept { tiny_len self.old + n ≤ tiny_capacity A.CAPACITY self.old → self.new ≡ self.old }
+        ensures kept { tiny_len_of A.Slots self.old + n ≤ tiny_capacity A.CAPACITY self.old → self.new ≡ self.old }
         ensures stays { IsInline self.new → self.new ≡ self.old }
     {
         // Shows the proof that the list fits.
@@ -67,9 +71,12 @@ impl<A: Array> TinyVec<A> {
     // Moves an inline list to the heap, with room for `n` items more.
     fn leave_array(&mut self, n: usize) -> Result<(), AllocError>
         requires { IsInline self.old }
-        ensures moves { MovesToHeapWithRoom A.CAPACITY n self.old self.new result }
+        ensures moves { MovesToHeapWithRoom A.CAPACITY n (tiny_view_of A.Slots self.old)
+            (tiny_view_of A.Slots self.new) result }
         ensures kept { IsInline self.new → self.new ≡ self.old }
     {
+        // Tells the proof how many slots there are.
+        let _len = self.len();
         if let TinyVec::Inline(v, alloc) = self {
             let heap = v.drain_to_vec_and_reserve(*alloc, n)?;
             *self = TinyVec::Heap(heap);
@@ -79,13 +86,14 @@ impl<A: Array> TinyVec<A> {
 
     /// The same as `reserve`.
     pub fn try_reserve(&mut self, additional: usize) -> Result<(), AllocError>
-        ensures items { tiny_items self.new ≡ tiny_items self.old }
-        ensures room { MakesRoom GrowsFor A.Item.is_default A.CAPACITY (tiny_len self.old + additional)
-            self.old self.new result }
-        ensures enough { OnOk result (tiny_len self.old + additional ≤ tiny_capacity A.CAPACITY self.new) }
+        ensures items { tiny_items_of A.Slots self.new ≡ tiny_items_of A.Slots self.old }
+        ensures room { MakesRoom GrowsFor A.Item.is_default A.CAPACITY (tiny_len_of A.Slots self.old + additional)
+            (tiny_view_of A.Slots self.old) (tiny_view_of A.Slots self.new) result }
+        ensures enough { OnOk result (tiny_len_of A.Slots self.old + additional ≤ tiny_capacity A.CAPACITY self.new) }
 
         // A list that has room, or is inline after the call, is unchanged.
-        ensures kept { tiny_len self.old + additional ≤ tiny_capacity A.CAPACITY self.old → self.new ≡ self.old }
+        ensures kept { tiny_len_of A.Slots self.old + additional ≤ tiny_capacity A.CAPACITY self.old → self.new
+            ≡ self.old }
         ensures stays { IsInline self.new → self.new ≡ self.old }
     {
         self.reserve(additional)
@@ -93,16 +101,17 @@ impl<A: Array> TinyVec<A> {
 
     /// Reserves room for `additional` items more, and on the heap for no further ones.
     pub fn reserve_exact(&mut self, additional: usize) -> Result<(), AllocError>
-        ensures items { tiny_items self.new ≡ tiny_items self.old }
-        ensures room { MakesRoom GrowsExactly A.Item.is_default A.CAPACITY (tiny_len self.old + additional)
-            self.old self.new result }
-        ensures enough { OnOk result (tiny_len self.old + additional ≤ tiny_capacity A.CAPACITY self.new) }
+        ensures items { tiny_items_of A.Slots self.new ≡ tiny_items_of A.Slots self.old }
+        ensures room { MakesRoom GrowsExactly A.Item.is_default A.CAPACITY (tiny_len_of A.Slots self.old + additional)
+            (tiny_view_of A.Slots self.old) (tiny_view_of A.Slots self.new) result }
+        ensures enough { OnOk result (tiny_len_of A.Slots self.old + additional ≤ tiny_capacity A.CAPACITY self.new) }
 
         // A list that has room, or is inline after the call, is unchanged.
-        ensures kept { tiny_len self.old + additional ≤ tiny_capacity A.CAPACITY self.old → self.new ≡ self.old }
+        ensures kept { tiny_len_of A.Slots self.old + additional ≤ tiny_capacity A.CAPACITY self.old → self.new
+            ≡ self.old }
         ensures stays { IsInline self.new → self.new ≡ self.old }
         ensures exact { OnOk result (tiny_capacity A.CAPACITY self.new
-            ≡ max (tiny_capacity A.CAPACITY self.old) (tiny_len self.old + additional)) }
+            ≡ max (tiny_capacity A.CAPACITY self.old) (tiny_len_of A.Slots self.old + additional)) }
     {
         match self {
             TinyVec::Inline(_, _) => self.reserve(additional),
@@ -117,16 +126,17 @@ impl<A: Array> TinyVec<A> {
 
     /// The same as `reserve_exact`.
     pub fn try_reserve_exact(&mut self, additional: usize) -> Result<(), AllocError>
-        ensures items { tiny_items self.new ≡ tiny_items self.old }
-        ensures room { MakesRoom GrowsExactly A.Item.is_default A.CAPACITY (tiny_len self.old + additional)
-            self.old self.new result }
-        ensures enough { OnOk result (tiny_len self.old + additional ≤ tiny_capacity A.CAPACITY self.new) }
+        ensures items { tiny_items_of A.Slots self.new ≡ tiny_items_of A.Slots self.old }
+        ensures room { MakesRoom GrowsExactly A.Item.is_default A.CAPACITY (tiny_len_of A.Slots self.old + additional)
+            (tiny_view_of A.Slots self.old) (tiny_view_of A.Slots self.new) result }
+        ensures enough { OnOk result (tiny_len_of A.Slots self.old + additional ≤ tiny_capacity A.CAPACITY self.new) }
 
         // A list that has room, or is inline after the call, is unchanged.
-        ensures kept { tiny_len self.old + additional ≤ tiny_capacity A.CAPACITY self.old → self.new ≡ self.old }
+        ensures kept { tiny_len_of A.Slots self.old + additional ≤ tiny_capacity A.CAPACITY self.old → self.new
+            ≡ self.old }
         ensures stays { IsInline self.new → self.new ≡ self.old }
         ensures exact { OnOk result (tiny_capacity A.CAPACITY self.new
-            ≡ max (tiny_capacity A.CAPACITY self.old) (tiny_len self.old + additional)) }
+            ≡ max (tiny_capacity A.CAPACITY self.old) (tiny_len_of A.Slots self.old + additional)) }
     {
         self.reserve_exact(additional)
     }
@@ -134,8 +144,8 @@ impl<A: Array> TinyVec<A> {
     // Moves the items of `heap` into an array.
     fn to_inline(heap: &mut Vec<A::Item>) -> ArrayVec<A>
         requires { vec_len heap.old ≤ A.CAPACITY }
-        ensures items { items result ≡ heap.old.items }
-        ensures spare { AreDefaults A.Item.is_default (A.CAPACITY - vec_len heap.old) (spare result) }
+        ensures items { items_of A.Slots result ≡ heap.old.items }
+        ensures spare { AreDefaults A.Item.is_default (A.CAPACITY - vec_len heap.old) (spare_of A.Slots result) }
     {
         let mut v = ArrayVec::new();
         for x in heap.drain(..) {
@@ -146,7 +156,8 @@ impl<A: Array> TinyVec<A> {
 
     /// Moves an inline list to the heap, with a capacity of its length. A list on the heap stays as it is.
     pub fn move_to_the_heap(&mut self) -> Result<(), AllocError>
-        ensures { MovesToHeap A.CAPACITY self.old self.new result }
+        ensures moves { MovesToHeap A.CAPACITY (tiny_view_of A.Slots self.old) (tiny_view_of A.Slots self.new) result }
+        ensures kept { is_inline self.old ≡ false → self.new ≡ self.old }
     {
         if self.is_inline() {
             return self.leave_array(0);
@@ -156,14 +167,18 @@ impl<A: Array> TinyVec<A> {
 
     /// The same as `move_to_the_heap`.
     pub fn try_move_to_the_heap(&mut self) -> Result<(), AllocError>
-        ensures { MovesToHeap A.CAPACITY self.old self.new result }
+        ensures moves { MovesToHeap A.CAPACITY (tiny_view_of A.Slots self.old) (tiny_view_of A.Slots self.new) result }
+        ensures kept { is_inline self.old ≡ false → self.new ≡ self.old }
     {
         self.move_to_the_heap()
     }
 
     /// Moves an inline list to the heap, and reserves room there for `additional` items more.
     pub fn move_to_the_heap_and_reserve(&mut self, additional: usize) -> Result<(), AllocError>
-        ensures { MovesToHeapWithRoom A.CAPACITY additional self.old self.new result }
+        ensures moves { MovesToHeapWithRoom A.CAPACITY additional (tiny_view_of A.Slots self.old)
+            (tiny_view_of A.Slots self.new) result }
+        ensures kept { is_inline self.old ≡ false
+            → tiny_len_of A.Slots self.old + additional ≤ tiny_capacity A.CAPACITY self.old → self.new ≡ self.old }
     {
         match self {
             TinyVec::Inline(_, _) => self.leave_array(additional),
@@ -173,7 +188,10 @@ impl<A: Array> TinyVec<A> {
 
     /// The same as `move_to_the_heap_and_reserve`.
     pub fn try_move_to_the_heap_and_reserve(&mut self, additional: usize) -> Result<(), AllocError>
-        ensures { MovesToHeapWithRoom A.CAPACITY additional self.old self.new result }
+        ensures moves { MovesToHeapWithRoom A.CAPACITY additional (tiny_view_of A.Slots self.old)
+            (tiny_view_of A.Slots self.new) result }
+        ensures kept { is_inline self.old ≡ false
+            → tiny_len_of A.Slots self.old + additional ≤ tiny_capacity A.CAPACITY self.old → self.new ≡ self.old }
     {
         self.move_to_the_heap_and_reserve(additional)
     }
@@ -181,30 +199,32 @@ impl<A: Array> TinyVec<A> {
     /// Moves a list on the heap into the array if it fits, which allocates nothing. Otherwise shrinks the allocation; if
     /// the allocator refuses, nothing changes and no error is returned.
     pub fn shrink_to_fit(&mut self)
-        ensures items { tiny_items self.new ≡ tiny_items self.old }
-        ensures place { IsInline self.new ↔ (tiny_len self.old ≤ A.CAPACITY) }
+        ensures items { tiny_items_of A.Slots self.new ≡ tiny_items_of A.Slots self.old }
+        ensures place { IsInline self.new ↔ (tiny_len_of A.Slots self.old ≤ A.CAPACITY) }
         ensures spare { is_inline self.old ≡ false → IsInline self.new
-            → AreDefaults A.Item.is_default (A.CAPACITY - tiny_len self.old) (tiny_spare self.new) }
+            → AreDefaults A.Item.is_default (A.CAPACITY - tiny_len_of A.Slots self.old)
+            (tiny_spare_of A.Slots self.new) }
         ensures kept { IsInline self.old → self.new ≡ self.old }
         ensures capacity { is_inline self.new ≡ false
             → tiny_capacity A.CAPACITY self.new ≤ tiny_capacity A.CAPACITY self.old }
-        ensures fits { tiny_len self.new ≤ tiny_capacity A.CAPACITY self.new }
+        ensures fits { tiny_len_of A.Slots self.new ≤ tiny_capacity A.CAPACITY self.new }
     {
         self.shrink_to(0);
     }
 
     /// As `shrink_to_fit`, but keeps room for `min_capacity` items, if there was that room.
     pub fn shrink_to(&mut self, min_capacity: usize)
-        ensures items { tiny_items self.new ≡ tiny_items self.old }
+        ensures items { tiny_items_of A.Slots self.new ≡ tiny_items_of A.Slots self.old }
         ensures place { is_inline self.old ≡ false
-            → (IsInline self.new ↔ (max (tiny_len self.old) min_capacity ≤ A.CAPACITY)) }
+            → (IsInline self.new ↔ (max (tiny_len_of A.Slots self.old) min_capacity ≤ A.CAPACITY)) }
         ensures spare { is_inline self.old ≡ false → IsInline self.new
-            → AreDefaults A.Item.is_default (A.CAPACITY - tiny_len self.old) (tiny_spare self.new) }
+            → AreDefaults A.Item.is_default (A.CAPACITY - tiny_len_of A.Slots self.old)
+            (tiny_spare_of A.Slots self.new) }
         ensures kept { IsInline self.old → self.new ≡ self.old }
         ensures capacity { is_inline self.new ≡ false
             → tiny_capacity A.CAPACITY self.new ≤ tiny_capacity A.CAPACITY self.old }
         ensures lower_bound { min min_capacity (tiny_capacity A.CAPACITY self.old) ≤ tiny_capacity A.CAPACITY self.new }
-        ensures fits { tiny_len self.new ≤ tiny_capacity A.CAPACITY self.new }
+        ensures fits { tiny_len_of A.Slots self.new ≤ tiny_capacity A.CAPACITY self.new }
     {
         let wanted = self.len().max(min_capacity);
         if let TinyVec::Heap(v) = self {
@@ -221,11 +241,11 @@ impl<A: Array> TinyVec<A> {
     /// Converts to a `Vec`. A list on the heap keeps its allocation; an inline one gets a capacity of its length. If the
     /// allocator refuses, the vector is returned.
     pub fn into_vec(self) -> Result<Vec<A::Item>, NoMemory<Self>>
-        ensures items { IfOk result (λ v. v.items ≡ tiny_items self) }
-        ensures capacity { IfOk result (λ v. IsInline self → vec_capacity v ≡ tiny_len self) }
+        ensures items { IfOk result (λ v. v.items ≡ tiny_items_of A.Slots self) }
+        ensures capacity { IfOk result (λ v. IsInline self → vec_capacity v ≡ tiny_len_of A.Slots self) }
         ensures same_room { IfOk result (λ v. is_inline self ≡ false → vec_capacity v ≡ tiny_capacity A.CAPACITY self) }
         ensures succeeds { is_inline self ≡ false → IsOk result }
-        ensures succeeds_empty { tiny_len self ≡ 0 → IsOk result }
+        ensures succeeds_empty { tiny_len_of A.Slots self ≡ 0 → IsOk result }
         ensures value_returned { IfErr result (λ refused. refused.0 ≡ self) }
     {
         match self {
@@ -239,9 +259,9 @@ impl<A: Array> TinyVec<A> {
 
     /// Converts to a boxed slice. If the allocator refuses, the vector is returned.
     pub fn into_boxed_slice(self) -> Result<BoxedSlice<A::Item>, NoMemory<Self>>
-        ensures items { IfOk result (λ b. boxed_slice_items b ≡ tiny_items self) }
+        ensures items { IfOk result (λ b. boxed_slice_items b ≡ tiny_items_of A.Slots self) }
         ensures succeeds { is_inline self ≡ false → IsOk result }
-        ensures succeeds_empty { tiny_len self ≡ 0 → IsOk result }
+        ensures succeeds_empty { tiny_len_of A.Slots self ≡ 0 → IsOk result }
         ensures value_returned { IfErr result (λ refused. refused.0 ≡ self) }
     {
         Ok(self.into_vec()?.into_boxed_slice())

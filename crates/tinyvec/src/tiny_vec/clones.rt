@@ -2,7 +2,8 @@
 ghost use Rattle.std.specs.Prelude.{◌≡◌, ◌≤◌, ◌++◌, ℕ, All, min, false, length, take, IfOk, OnOk, OnErr, IsOk};
 ghost use Rattle.std.specs.List.{AllZip};
 ghost use Rattle.tinyvec_slots.specs.Clones.{RefusedAt, AreClones, ClonesOver, ClonesInPart};
-ghost use Rattle.tinyvec.specs.TinyVec.{tiny_items, tiny_len, tiny_spare, is_inline, tiny_capacity, IsInline, SameFrame, IsTinyClone, IsTinyInfallible};
+ghost use Rattle.tinyvec.specs.TinyVec.{tiny_items_of, tiny_len_of, tiny_spare_of, is_inline, tiny_capacity, IsInline, tiny_view_of};
+ghost use Rattle.tinyvec.specs.View.{SameFrame, IsTinyClone, IsTinyInfallible};
 ghost use Rattle.tinyvec.specs.Refused.{RefusedFor};
 ghost use Rattle.tinyvec.specs.Room.{GrowsFor, RoomGrows};
 
@@ -19,12 +20,15 @@ impl<A: Array> TinyVec<A> {
     pub fn clone(&self) -> Result<Self, AllocError>
     where
         A::Item: Clone,
-        ensures copied { IfOk result (IsTinyClone A.Item.is_clone A.CAPACITY self.now) }
+        ensures copied { IfOk result (λ v. IsTinyClone A.Item.is_clone A.CAPACITY (tiny_view_of A.Slots self.now)
+            (tiny_view_of A.Slots v)) }
         ensures refused { OnErr result (IsInline self.now
-            → (j : ℕ) × RefusedAt A.Item.is_infallible (tiny_items self.now ++ tiny_spare self.now) j) }
+            → (j : ℕ) × RefusedAt A.Item.is_infallible (tiny_items_of A.Slots self.now
+            ++ tiny_spare_of A.Slots self.now) j) }
         ensures succeeds { IsInline self.now
-            → All A.Item.is_infallible (tiny_items self.now ++ tiny_spare self.now) → IsOk result }
-        ensures succeeds_empty { is_inline self.now ≡ false → tiny_len self.now ≡ 0 → IsOk result }
+            → All A.Item.is_infallible (tiny_items_of A.Slots self.now ++ tiny_spare_of A.Slots self.now)
+            → IsOk result }
+        ensures succeeds_empty { is_inline self.now ≡ false → tiny_len_of A.Slots self.now ≡ 0 → IsOk result }
     {
         let v = match self {
             TinyVec::Inline(v, alloc) => {
@@ -42,11 +46,12 @@ impl<A: Array> TinyVec<A> {
     fn overwrite(&mut self, source: &[A::Item]) -> Result<(), AllocError>
     where
         A::Item: Clone,
-        requires same_len { length source.now ≡ tiny_len self.old }
-        ensures ok { OnOk result (AllZip A.Item.is_clone source.now (tiny_items self.new)) }
+        requires same_len { length source.now ≡ tiny_len_of A.Slots self.old }
+        ensures ok { OnOk result (AllZip A.Item.is_clone source.now (tiny_items_of A.Slots self.new)) }
         ensures refused { OnErr result ((j : ℕ) × RefusedAt A.Item.is_infallible source.now j
-            × ClonesOver A.Item.is_clone (take j source.now) j (tiny_items self.old) (tiny_items self.new)) }
-        ensures frame { SameFrame self.old self.new }
+            × ClonesOver A.Item.is_clone (take j source.now) j (tiny_items_of A.Slots self.old)
+            (tiny_items_of A.Slots self.new)) }
+        ensures frame { SameFrame (tiny_view_of A.Slots self.old) (tiny_view_of A.Slots self.new) }
         ensures succeeds { All A.Item.is_infallible source.now → IsOk result }
     {
         clone_over(self.as_mut_slice(), source)
@@ -56,18 +61,20 @@ impl<A: Array> TinyVec<A> {
     pub fn clone_from(&mut self, source: &Self) -> Result<(), AllocError>
     where
         A::Item: Clone,
-        ensures items { OnOk result (AreClones A.Item.is_clone (tiny_items source.now) (tiny_items self.new)) }
-        ensures room { RoomGrows GrowsFor A.Item.is_default A.CAPACITY (tiny_len source.now) self.old self.new result }
+        ensures items { OnOk result (AreClones A.Item.is_clone (tiny_items_of A.Slots source.now)
+            (tiny_items_of A.Slots self.new)) }
+        ensures room { RoomGrows GrowsFor A.Item.is_default A.CAPACITY (tiny_len_of A.Slots source.now)
+            (tiny_view_of A.Slots self.old) (tiny_view_of A.Slots self.new) result }
 
         // If there is room only clones allocate.
-        ensures succeeds { tiny_len source.now ≤ tiny_capacity A.CAPACITY self.old
-            → All A.Item.is_infallible (tiny_items source.now) → IsOk result }
-        ensures refused { OnErr result (RefusedFor A.CAPACITY (tiny_len source.now)
+        ensures succeeds { tiny_len_of A.Slots source.now ≤ tiny_capacity A.CAPACITY self.old
+            → All A.Item.is_infallible (tiny_items_of A.Slots source.now) → IsOk result }
+        ensures refused { OnErr result (RefusedFor A.CAPACITY (tiny_len_of A.Slots source.now)
             (ClonesInPart A.Item.is_default A.Item.is_infallible A.Item.is_clone
-            (tiny_items source.now) (tiny_items self.old) (tiny_items self.new)
-            (min (tiny_len self.old) (tiny_len source.now))
-            (IsInline self.new) (tiny_spare self.old) (tiny_spare self.new))
-            self.old self.new) }
+            (tiny_items_of A.Slots source.now) (tiny_items_of A.Slots self.old) (tiny_items_of A.Slots self.new)
+            (min (tiny_len_of A.Slots self.old) (tiny_len_of A.Slots source.now))
+            (IsInline self.new) (tiny_spare_of A.Slots self.old) (tiny_spare_of A.Slots self.new))
+            (tiny_view_of A.Slots self.old) (tiny_view_of A.Slots self.new)) }
     {
         let len = self.len();
         let count = source.len();
@@ -85,9 +92,10 @@ impl<A: Array> Clone for TinyVec<A>
 where
     A::Item: Clone,
 {
-    ghost is_clone = { IsTinyClone A.Item.is_clone A.CAPACITY };
+    ghost is_clone = { λ v w. IsTinyClone A.Item.is_clone A.CAPACITY (tiny_view_of A.Slots v)
+        (tiny_view_of A.Slots w) };
 
-    ghost is_infallible = { IsTinyInfallible A.Item.is_infallible };
+    ghost is_infallible = { λ v. IsTinyInfallible A.Item.is_infallible (tiny_view_of A.Slots v) };
 
     /// Clones the vector, spare slots too. The clone is in the same place.
     fn clone(&self) -> Result<Self, AllocError> {

@@ -1,24 +1,31 @@
 //! Items that are pushed, popped, inserted, removed and cut off.
 ghost use Rattle.std.specs.Prelude.{◌≡◌, ◌+◌, ◌-◌, ◌<◌, ◌↔◌, [], ◌∷◌, ◌++◌, take, slice_get, IsSome, IfSome, IsOk, OnErr, IfErr, ◌≤◌, if◌then◌else◌, is_ok, insert, remove, slice_index_or, vec_len, IfOk, IfNone};
-ghost use Rattle.tinyvec.specs.TinyVec.{tiny_items, tiny_len, tiny_capacity, IsTail, Becomes, Unchanged, IsInline};
+ghost use Rattle.tinyvec.specs.TinyVec.{tiny_items_of, tiny_len_of, tiny_capacity, IsInline, tiny_view_of};
+ghost use Rattle.tinyvec.specs.View.{IsTail, Becomes, Unchanged};
 ghost use Rattle.tinyvec.specs.Room.{Doubles, MakesRoom};
 ghost use Rattle.tinyvec.specs.OnHeap.{HeapBecomes};
 ghost use Rattle.std.specs.List.{swap_remove};
 ghost use Rattle.std.specs.Borrow.{sem};
 
 use crate::TinyVec;
+use crate::tiny_vec::slot_count;
 use std::alloc::AllocError;
-use tinyvec_array::{Array, NoMemory};
-use tinyvec_slots::{move_to_end, remove_shifting};
+use tinyvec_array::Array;
+use tinyvec_slots::{NoMemory, move_to_end, remove_shifting};
 
 impl<A: Array> TinyVec<A> {
     /// Appends `value` to a list that has room. It allocates nothing, so it cannot fail.
     pub fn push_reserved(&mut self, value: A::Item)
-        requires { tiny_len self.old < tiny_capacity A.CAPACITY self.old }
-        ensures { Becomes A.Item.is_default A.CAPACITY self.old self.new (tiny_items self.old ++ value ∷ []) }
+        requires { tiny_len_of A.Slots self.old < tiny_capacity A.CAPACITY self.old }
+        ensures { Becomes A.Item.is_default A.CAPACITY (tiny_view_of A.Slots self.old)
+            (tiny_view_of A.Slots self.new) (tiny_items_of A.Slots self.old ++ value ∷ []) }
     {
         match self {
-            TinyVec::Inline(v, _) => v.push(value),
+            TinyVec::Inline(v, _) => {
+                // Tells the proof how many slots there are.
+                let _slots = slot_count(v);
+                v.push(value)
+            }
             TinyVec::Heap(v) => v.push_reserved(value),
         }
     }
@@ -26,14 +33,18 @@ impl<A: Array> TinyVec<A> {
     /// Appends `value`. A full list first doubles its capacity, which moves an inline one to the heap. If the allocator refuses,
     /// nothing changes and `value` is returned.
     pub fn push(&mut self, value: A::Item) -> Result<(), NoMemory<A::Item>>
-        ensures items { tiny_items self.new
-            ≡ (if is_ok result then tiny_items self.old ++ value ∷ [] else tiny_items self.old) }
-        ensures len { tiny_len self.new ≡ (if is_ok result then tiny_len self.old + 1 else tiny_len self.old) }
-        ensures room { MakesRoom Doubles A.Item.is_default A.CAPACITY (tiny_len self.old + 1) self.old self.new result }
-        ensures succeeds_inline { IsInline self.old → tiny_len self.old < A.CAPACITY → IsOk result }
-        ensures full { OnErr result (tiny_len self.old ≡ tiny_capacity A.CAPACITY self.old) }
+        ensures items { tiny_items_of A.Slots self.new
+            ≡ (if is_ok result then tiny_items_of A.Slots self.old ++ value ∷ [] else tiny_items_of A.Slots self.old) }
+        ensures len { tiny_len_of A.Slots self.new ≡
+            (if is_ok result then tiny_len_of A.Slots self.old + 1 else tiny_len_of A.Slots self.old) }
+        ensures room { MakesRoom Doubles A.Item.is_default A.CAPACITY (tiny_len_of A.Slots self.old + 1)
+            (tiny_view_of A.Slots self.old) (tiny_view_of A.Slots self.new) result }
+        ensures succeeds_inline { IsInline self.old → tiny_len_of A.Slots self.old < A.CAPACITY → IsOk result }
+        ensures full { OnErr result (tiny_len_of A.Slots self.old ≡ tiny_capacity A.CAPACITY self.old) }
         ensures value_returned { IfErr result (λ refused. refused.0 ≡ value) }
     {
+        // Tells the proof how many slots there are.
+        let _len = self.len();
         // One test of the variant; growing is kept out of the usual path.
         match self {
             TinyVec::Inline(v, _) if !v.is_full() => v.push(value),
@@ -53,12 +64,12 @@ impl<A: Array> TinyVec<A> {
     /// Appends `value`, and returns it for writing. A full list grows as by `push`. If the allocator refuses, nothing changes and
     /// `value` is returned.
     pub fn push_mut(&mut self, value: A::Item) -> Result<&mut A::Item, NoMemory<A::Item>>
-        ensures* writes_back { sem 𝓛 (lends_added A.row A.Item.row A.Array A.Item.Default self.entry
-            (λ x. tiny_items self.old ++ x ∷ []) result) }
+        ensures* writes_back { sem 𝓛 (lends_added A.row A.Len.row A.Item.row A.Slots self.entry A.Item.Default A.CAPACITY
+            (λ x. tiny_items_of A.Slots self.old ++ x ∷ []) result) }
         ensures value { IfOk result (λ x. x.now ≡ value) }
-        ensures succeeds { tiny_len self.old < tiny_capacity A.CAPACITY self.old → IsOk result }
-        ensures succeeds_inline { IsInline self.old → tiny_len self.old < A.CAPACITY → IsOk result }
-        ensures full { OnErr result (tiny_len self.old ≡ tiny_capacity A.CAPACITY self.old) }
+        ensures succeeds { tiny_len_of A.Slots self.old < tiny_capacity A.CAPACITY self.old → IsOk result }
+        ensures succeeds_inline { IsInline self.old → tiny_len_of A.Slots self.old < A.CAPACITY → IsOk result }
+        ensures full { OnErr result (tiny_len_of A.Slots self.old ≡ tiny_capacity A.CAPACITY self.old) }
         ensures value_returned { IfErr result (λ refused. refused.0 ≡ value) }
     {
         let at = self.len();
@@ -70,25 +81,36 @@ impl<A: Array> TinyVec<A> {
 
     /// Removes the last item and returns it. Its slot is reset to a default if the list is inline.
     pub fn pop(&mut self) -> Option<A::Item>
-        ensures variant { IsSome result ↔ (0 < tiny_len self.old) }
-        ensures some { IfSome result (λ x. tiny_items self.old ≡ tiny_items self.new ++ x ∷ []) }
-        ensures value { result ≡ slice_get (tiny_items self.old) (tiny_len self.old - 1) }
-        ensures becomes { Becomes A.Item.is_default A.CAPACITY self.old self.new (take (tiny_len self.old - 1) (tiny_items self.old)) }
+        ensures variant { IsSome result ↔ (0 < tiny_len_of A.Slots self.old) }
+        ensures some { IfSome result (λ x. tiny_items_of A.Slots self.old ≡ tiny_items_of A.Slots self.new ++ x ∷ []) }
+        ensures value { result ≡ slice_get (tiny_items_of A.Slots self.old) (tiny_len_of A.Slots self.old - 1) }
+        ensures becomes { Becomes A.Item.is_default A.CAPACITY (tiny_view_of A.Slots self.old)
+            (tiny_view_of A.Slots self.new) (take (tiny_len_of A.Slots self.old - 1)
+            (tiny_items_of A.Slots self.old)) }
     {
         match self {
-            TinyVec::Inline(v, _) => v.pop(),
+            TinyVec::Inline(v, _) => {
+                // Tells the proof how many slots there are.
+                let _slots = slot_count(v);
+                v.pop()
+            }
             TinyVec::Heap(v) => v.pop(),
         }
     }
 
     // `insert` into a list that has room.
     fn insert_reserved(&mut self, index: usize, element: A::Item)
-        requires in_list { index ≤ tiny_len self.old }
-        requires room { tiny_len self.old < tiny_capacity A.CAPACITY self.old }
-        ensures { Becomes A.Item.is_default A.CAPACITY self.old self.new (insert (tiny_items self.old) index element) }
+        requires in_list { index ≤ tiny_len_of A.Slots self.old }
+        requires room { tiny_len_of A.Slots self.old < tiny_capacity A.CAPACITY self.old }
+        ensures { Becomes A.Item.is_default A.CAPACITY (tiny_view_of A.Slots self.old)
+            (tiny_view_of A.Slots self.new) (insert (tiny_items_of A.Slots self.old) index element) }
     {
         match self {
-            TinyVec::Inline(v, _) => v.insert(index, element),
+            TinyVec::Inline(v, _) => {
+                // Tells the proof how many slots there are.
+                let _slots = slot_count(v);
+                v.insert(index, element)
+            }
             TinyVec::Heap(v) => {
                 let _room_was_there = v.insert(index, element);
             }
@@ -100,15 +122,20 @@ impl<A: Array> TinyVec<A> {
     // Inlined, so that the variant is tested once for this call and the next.
     #[inline(always)]
     pub fn insert(&mut self, index: usize, element: A::Item) -> Result<(), NoMemory<A::Item>>
-        requires { index ≤ tiny_len self.old }
-        ensures items { tiny_items self.new
-            ≡ (if is_ok result then insert (tiny_items self.old) index element else tiny_items self.old) }
-        ensures len { tiny_len self.new ≡ (if is_ok result then tiny_len self.old + 1 else tiny_len self.old) }
-        ensures room { MakesRoom Doubles A.Item.is_default A.CAPACITY (tiny_len self.old + 1) self.old self.new result }
-        ensures succeeds_inline { IsInline self.old → tiny_len self.old < A.CAPACITY → IsOk result }
-        ensures full { OnErr result (tiny_len self.old ≡ tiny_capacity A.CAPACITY self.old) }
+        requires { index ≤ tiny_len_of A.Slots self.old }
+        ensures items { tiny_items_of A.Slots self.new
+            ≡ (if is_ok result then insert
+            (tiny_items_of A.Slots self.old) index element else tiny_items_of A.Slots self.old) }
+        ensures len { tiny_len_of A.Slots self.new ≡
+            (if is_ok result then tiny_len_of A.Slots self.old + 1 else tiny_len_of A.Slots self.old) }
+        ensures room { MakesRoom Doubles A.Item.is_default A.CAPACITY (tiny_len_of A.Slots self.old + 1)
+            (tiny_view_of A.Slots self.old) (tiny_view_of A.Slots self.new) result }
+        ensures succeeds_inline { IsInline self.old → tiny_len_of A.Slots self.old < A.CAPACITY → IsOk result }
+        ensures full { OnErr result (tiny_len_of A.Slots self.old ≡ tiny_capacity A.CAPACITY self.old) }
         ensures value_returned { IfErr result (λ refused. refused.0 ≡ element) }
     {
+        // Tells the proof how many slots there are.
+        let _len = self.len();
         match self {
             TinyVec::Inline(v, _) if !v.is_full() => v.insert(index, element),
             TinyVec::Heap(v) if v.len() < v.capacity() => {
@@ -131,13 +158,13 @@ impl<A: Array> TinyVec<A> {
         index: usize,
         element: A::Item,
     ) -> Result<&mut A::Item, NoMemory<A::Item>>
-        requires { index ≤ tiny_len self.old }
-        ensures* writes_back { sem 𝓛 (lends_added A.row A.Item.row A.Array A.Item.Default self.entry
-            (insert (tiny_items self.old) index) result) }
+        requires { index ≤ tiny_len_of A.Slots self.old }
+        ensures* writes_back { sem 𝓛 (lends_added A.row A.Len.row A.Item.row A.Slots self.entry A.Item.Default A.CAPACITY
+            (insert (tiny_items_of A.Slots self.old) index) result) }
         ensures value { IfOk result (λ x. x.now ≡ element) }
-        ensures succeeds { tiny_len self.old < tiny_capacity A.CAPACITY self.old → IsOk result }
-        ensures succeeds_inline { IsInline self.old → tiny_len self.old < A.CAPACITY → IsOk result }
-        ensures full { OnErr result (tiny_len self.old ≡ tiny_capacity A.CAPACITY self.old) }
+        ensures succeeds { tiny_len_of A.Slots self.old < tiny_capacity A.CAPACITY self.old → IsOk result }
+        ensures succeeds_inline { IsInline self.old → tiny_len_of A.Slots self.old < A.CAPACITY → IsOk result }
+        ensures full { OnErr result (tiny_len_of A.Slots self.old ≡ tiny_capacity A.CAPACITY self.old) }
         ensures value_returned { IfErr result (λ refused. refused.0 ≡ element) }
     {
         if let Err(refused) = self.insert(index, element) {
@@ -150,24 +177,34 @@ impl<A: Array> TinyVec<A> {
     // Inlined like `insert`.
     #[inline(always)]
     pub fn remove(&mut self, index: usize) -> A::Item
-        requires { index < tiny_len self.old }
-        ensures value { result ≡ slice_index_or (tiny_items self.old) index result }
-        ensures becomes { Becomes A.Item.is_default A.CAPACITY self.old self.new (remove (tiny_items self.old) index) }
+        requires { index < tiny_len_of A.Slots self.old }
+        ensures value { result ≡ slice_index_or (tiny_items_of A.Slots self.old) index result }
+        ensures becomes { Becomes A.Item.is_default A.CAPACITY (tiny_view_of A.Slots self.old)
+            (tiny_view_of A.Slots self.new) (remove (tiny_items_of A.Slots self.old) index) }
     {
         match self {
-            TinyVec::Inline(v, _) => v.remove(index),
+            TinyVec::Inline(v, _) => {
+                // Tells the proof how many slots there are.
+                let _slots = slot_count(v);
+                v.remove(index)
+            }
             TinyVec::Heap(v) => remove_on_heap(v, index),
         }
     }
 
     /// Removes the item at `index` and returns it. The last one takes its place.
     pub fn swap_remove(&mut self, index: usize) -> A::Item
-        requires { index < tiny_len self.old }
-        ensures value { result ≡ slice_index_or (tiny_items self.old) index result }
-        ensures becomes { Becomes A.Item.is_default A.CAPACITY self.old self.new (swap_remove (tiny_items self.old) index result) }
+        requires { index < tiny_len_of A.Slots self.old }
+        ensures value { result ≡ slice_index_or (tiny_items_of A.Slots self.old) index result }
+        ensures becomes { Becomes A.Item.is_default A.CAPACITY (tiny_view_of A.Slots self.old)
+            (tiny_view_of A.Slots self.new) (swap_remove (tiny_items_of A.Slots self.old) index result) }
     {
         match self {
-            TinyVec::Inline(v, _) => v.swap_remove(index),
+            TinyVec::Inline(v, _) => {
+                // Tells the proof how many slots there are.
+                let _slots = slot_count(v);
+                v.swap_remove(index)
+            }
             TinyVec::Heap(v) => v.swap_remove(index),
         }
     }
@@ -176,20 +213,28 @@ impl<A: Array> TinyVec<A> {
     /// is inline.
     #[inline(always)]
     pub fn truncate(&mut self, new_len: usize)
-        ensures { Becomes A.Item.is_default A.CAPACITY self.old self.new (take new_len (tiny_items self.old)) }
+        ensures { Becomes A.Item.is_default A.CAPACITY (tiny_view_of A.Slots self.old)
+            (tiny_view_of A.Slots self.new) (take new_len (tiny_items_of A.Slots self.old)) }
     {
         match self {
-            TinyVec::Inline(v, _) => v.truncate(new_len),
+            TinyVec::Inline(v, _) => {
+                // Tells the proof how many slots there are.
+                let _slots = slot_count(v);
+                v.truncate(new_len)
+            }
             TinyVec::Heap(v) => v.truncate(new_len),
         }
     }
 
     /// Empties the list. Each vacated slot is reset to a default if the list is inline.
     pub fn clear(&mut self)
-        ensures { Becomes A.Item.is_default A.CAPACITY self.old self.new [] }
+        ensures { Becomes A.Item.is_default A.CAPACITY (tiny_view_of A.Slots self.old)
+            (tiny_view_of A.Slots self.new) [] }
     {
         match self {
             TinyVec::Inline(v, _) => {
+                // Tells the proof how many slots there are.
+                let _slots = slot_count(v);
                 v.clear();
                 // After these writes LLVM has lost variant and length; setting the length restores both.
                 match self {
@@ -204,16 +249,22 @@ impl<A: Array> TinyVec<A> {
     /// Splits the list at `at` and returns the items from `at` on. The result is in the same place. An inline list
     /// allocates nothing; one on the heap allocates room for those items.
     pub fn split_off(&mut self, at: usize) -> Result<Self, AllocError>
-        requires { at ≤ tiny_len self.old }
-        ensures becomes { Becomes A.Item.is_default A.CAPACITY self.old self.new
-            (if is_ok result then take at (tiny_items self.old) else tiny_items self.old) }
-        ensures tail { IfOk result (IsTail A.Item.is_default A.CAPACITY at self.old) }
+        requires { at ≤ tiny_len_of A.Slots self.old }
+        ensures becomes { Becomes A.Item.is_default A.CAPACITY (tiny_view_of A.Slots self.old)
+            (tiny_view_of A.Slots self.new)
+            (if is_ok result then take at (tiny_items_of A.Slots self.old) else tiny_items_of A.Slots self.old) }
+        ensures tail { IfOk result (λ v. IsTail A.Item.is_default A.CAPACITY at (tiny_view_of A.Slots self.old)
+            (tiny_view_of A.Slots v)) }
         ensures succeeds { IsInline self.old → IsOk result }
-        ensures succeeds_at_the_end { at ≡ tiny_len self.old → IsOk result }
+        ensures succeeds_at_the_end { at ≡ tiny_len_of A.Slots self.old → IsOk result }
         ensures refused { OnErr result (self.new ≡ self.old) }
     {
         match self {
-            TinyVec::Inline(v, alloc) => Ok(TinyVec::Inline(v.split_off(at), *alloc)),
+            TinyVec::Inline(v, alloc) => {
+                // Tells the proof how many slots there are.
+                let _slots = slot_count(v);
+                Ok(TinyVec::Inline(v.split_off(at), *alloc))
+            }
             TinyVec::Heap(v) => {
                 let mut back = TinyVec::Heap(Vec::with_capacity(*v.allocator(), v.len() - at)?);
                 back.append_slots(&mut v.as_mut_slice()[at..]);
@@ -225,10 +276,11 @@ impl<A: Array> TinyVec<A> {
 
     /// Removes the item at `index` and returns it, or returns `None` if the list has no such item. The later ones move down.
     pub fn pop_at(&mut self, index: usize) -> Option<A::Item>
-        ensures variant { IsSome result ↔ (index < tiny_len self.old) }
-        ensures value { result ≡ slice_get (tiny_items self.old) index }
-        ensures none { IfNone result (Unchanged self.old self.new) }
-        ensures becomes { Becomes A.Item.is_default A.CAPACITY self.old self.new (remove (tiny_items self.old) index) }
+        ensures variant { IsSome result ↔ (index < tiny_len_of A.Slots self.old) }
+        ensures value { result ≡ slice_get (tiny_items_of A.Slots self.old) index }
+        ensures none { IfNone result (Unchanged (tiny_view_of A.Slots self.old) (tiny_view_of A.Slots self.new)) }
+        ensures becomes { Becomes A.Item.is_default A.CAPACITY (tiny_view_of A.Slots self.old)
+            (tiny_view_of A.Slots self.new) (remove (tiny_items_of A.Slots self.old) index) }
     {
         if index >= self.len() {
             return None;

@@ -2,34 +2,42 @@
 ghost use Rattle.std.specs.Prelude.{◌≡◌, ◌+◌, ◌≤◌, ◌++◌, ℕ, All, length, take, drop, slice_range, IsOk, OnOk, OnErr, if◌then◌else◌, is_ok, ◌<◌, [], ◌-◌, ◌*◌, ◌↔◌, ◌∷◌, List, Some, MatchResult, IfOk, IfErr, vec_capacity, max, replicate};
 ghost use Rattle.std.specs.List.{AppendsClones, AppendsResults};
 ghost use Rattle.tinyvec_slots.specs.Clones.{ClonesAreEqual, AppendsAllOrNone};
-ghost use Rattle.tinyvec.specs.TinyVec.{tiny_items, tiny_len, tiny_capacity, IsInline, PlaceRule, StaysInPlace, Becomes};
+ghost use Rattle.tinyvec.specs.TinyVec.{tiny_items_of, tiny_len_of, tiny_capacity, IsInline, tiny_view_of};
+ghost use Rattle.tinyvec.specs.View.{PlaceRule, StaysInPlace, Becomes};
 ghost use Rattle.tinyvec.specs.Refused.{RefusedFor, ClonesBehind, ClonesInRoom, ClonesRefused};
 ghost use Rattle.tinyvec.specs.Room.{GrowsFor, RoomGrows, MakesRoom, Grows, Collects};
-ghost use Rattle.tinyvec_slots.specs.Slots.{AreDefaults, Gains, items, items_len};
+ghost use Rattle.tinyvec_slots.specs.Slots.{AreDefaults};
+ghost use Rattle.tinyvec_array.specs.ArrayVec.{items_of, len_of, Grows as GrowsInSlots};
 ghost use Rattle.std.specs.Iterator.{IsFinite, Drains, YieldsThen, size};
 ghost use Rattle.tinyvec_slots.specs.Ranges.{IsRangeOf, removed};
 ghost use Rattle.tinyvec_slots.specs.Filling.{ShowsItems, IntoIterYields, AppendsResultsTo};
 ghost use Rattle.tinyvec.specs.Following.{Follows, FillsRoom, PushesItems};
 
 use crate::TinyVec;
+use crate::tiny_vec::slot_count;
 use crate::tuned::{push_clones_of, push_clones_within, push_copies, push_many_clones};
 use std::alloc::{AllocError, Global};
 use std::iter::ExactSizeIterator;
 use std::mem;
 use std::ops::RangeBounds;
-use tinyvec_array::{Array, ArrayVec, FromIterRest, NoMemory, NoRoom};
-use tinyvec_slots::resolve_range;
+use tinyvec_array::{Array, ArrayVec};
+use tinyvec_slots::{FromIterRest, NoMemory, NoRoom, resolve_range};
 
 impl<A: Array> TinyVec<A> {
     // `extend_from_slice` of a list that has room.
     pub(crate) fn extend_reserved(&mut self, other: &[A::Item]) -> Result<(), AllocError>
     where
         A::Item: Clone,
-        requires room { tiny_len self.old + length other.now ≤ tiny_capacity A.CAPACITY self.old }
-        ensures { ClonesInRoom A.Item.Clone A.CAPACITY other.now self.old self.new result }
+        requires room { tiny_len_of A.Slots self.old + length other.now ≤ tiny_capacity A.CAPACITY self.old }
+        ensures { ClonesInRoom A.Item.Clone A.CAPACITY other.now (tiny_view_of A.Slots self.old)
+            (tiny_view_of A.Slots self.new) result }
     {
         match self {
-            TinyVec::Inline(v, _) => v.extend_from_slice(other),
+            TinyVec::Inline(v, _) => {
+                // Tells the proof how many slots there are.
+                let _slots = slot_count(v);
+                v.extend_from_slice(other)
+            }
             TinyVec::Heap(v) => push_many_clones(v, other),
         }
     }
@@ -41,15 +49,18 @@ impl<A: Array> TinyVec<A> {
     where
         A::Item: Clone,
         ensures clones { AppendsAllOrNone A.Item.is_clone other.now
-            result (tiny_items self.old) (tiny_items self.new) }
-        ensures room { RoomGrows GrowsFor A.Item.is_default A.CAPACITY (tiny_len self.old + length other.now)
-            self.old self.new result }
+            result (tiny_items_of A.Slots self.old) (tiny_items_of A.Slots self.new) }
+        ensures room { RoomGrows GrowsFor A.Item.is_default A.CAPACITY (tiny_len_of A.Slots self.old + length other.now)
+            (tiny_view_of A.Slots self.old) (tiny_view_of A.Slots self.new) result }
 
         // If there is room only clones allocate.
-        ensures succeeds { tiny_len self.old + length other.now ≤ tiny_capacity A.CAPACITY self.old
+        ensures succeeds { tiny_len_of A.Slots self.old + length other.now ≤ tiny_capacity A.CAPACITY self.old
             → All A.Item.is_infallible other.now → IsOk result }
-        ensures refused { OnErr result (ClonesRefused A.Item.Clone A.CAPACITY other.now self.old self.new) }
+        ensures refused { OnErr result (ClonesRefused A.Item.Clone A.CAPACITY other.now
+            (tiny_view_of A.Slots self.old) (tiny_view_of A.Slots self.new)) }
     {
+        // Tells the proof how many slots there are.
+        let _len = self.len();
         match self {
             TinyVec::Inline(v, _) if other.len() <= v.capacity() - v.len() => v.extend_from_slice(
                 other,
@@ -69,22 +80,25 @@ impl<A: Array> TinyVec<A> {
     where
         A::Item: Clone,
         requires not_exhausted { R.has_bounds range }
-        requires in_list { IsRangeOf (tiny_items self.old) (R.start_bound range) (R.end_bound range) }
+        requires in_list { IsRangeOf (tiny_items_of A.Slots self.old) (R.start_bound range) (R.end_bound range) }
         ensures clones { AppendsAllOrNone A.Item.is_clone
-            (removed (tiny_items self.old) (R.start_bound range) (R.end_bound range))
-            result (tiny_items self.old) (tiny_items self.new) }
+            (removed (tiny_items_of A.Slots self.old) (R.start_bound range) (R.end_bound range))
+            result (tiny_items_of A.Slots self.old) (tiny_items_of A.Slots self.new) }
         ensures room { RoomGrows GrowsFor A.Item.is_default A.CAPACITY
-            (tiny_len self.old + length (removed (tiny_items self.old) (R.start_bound range) (R.end_bound range)))
-            self.old self.new result }
+            (tiny_len_of A.Slots self.old + length (removed (tiny_items_of A.Slots self.old) (R.start_bound range)
+            (R.end_bound range)))
+            (tiny_view_of A.Slots self.old) (tiny_view_of A.Slots self.new) result }
 
         // If there is room only clones allocate.
-        ensures succeeds { tiny_len self.old
-            + length (removed (tiny_items self.old) (R.start_bound range) (R.end_bound range))
+        ensures succeeds { tiny_len_of A.Slots self.old
+            + length (removed (tiny_items_of A.Slots self.old) (R.start_bound range) (R.end_bound range))
             ≤ tiny_capacity A.CAPACITY self.old
-            → All A.Item.is_infallible (removed (tiny_items self.old) (R.start_bound range) (R.end_bound range))
+            → All A.Item.is_infallible (removed (tiny_items_of A.Slots self.old) (R.start_bound range)
+            (R.end_bound range))
             → IsOk result }
         ensures refused { OnErr result (ClonesRefused A.Item.Clone A.CAPACITY
-            (removed (tiny_items self.old) (R.start_bound range) (R.end_bound range)) self.old self.new) }
+            (removed (tiny_items_of A.Slots self.old) (R.start_bound range) (R.end_bound range))
+            (tiny_view_of A.Slots self.old) (tiny_view_of A.Slots self.new)) }
     {
         let part = resolve_range(range, self.len());
         self.reserve(part.end - part.start)?;
@@ -95,14 +109,19 @@ impl<A: Array> TinyVec<A> {
     fn clone_reserved(&mut self, start: usize, end: usize) -> Result<(), AllocError>
     where
         A::Item: Clone,
-        requires in_list { (start ≤ end) × (end ≤ tiny_len self.old) }
-        requires room { tiny_len self.old + length (slice_range (tiny_items self.old) start end)
+        requires in_list { (start ≤ end) × (end ≤ tiny_len_of A.Slots self.old) }
+        requires room { tiny_len_of A.Slots self.old + length (slice_range (tiny_items_of A.Slots self.old) start end)
             ≤ tiny_capacity A.CAPACITY self.old }
         ensures { ClonesInRoom A.Item.Clone A.CAPACITY
-            (slice_range (tiny_items self.old) start end) self.old self.new result }
+            (slice_range (tiny_items_of A.Slots self.old) start end) (tiny_view_of A.Slots self.old)
+            (tiny_view_of A.Slots self.new) result }
     {
         match self {
-            TinyVec::Inline(v, _) => v.extend_from_within(start..end),
+            TinyVec::Inline(v, _) => {
+                // Tells the proof how many slots there are.
+                let _slots = slot_count(v);
+                v.extend_from_within(start..end)
+            }
             TinyVec::Heap(v) => push_clones_within(v, start, end),
         }
     }
@@ -112,11 +131,16 @@ impl<A: Array> TinyVec<A> {
     fn copy_reserved(&mut self, other: &[A::Item])
     where
         A::Item: Copy,
-        requires room { tiny_len self.old + length other.now ≤ tiny_capacity A.CAPACITY self.old }
-        ensures { Becomes A.Item.is_default A.CAPACITY self.old self.new (tiny_items self.old ++ other.now) }
+        requires room { tiny_len_of A.Slots self.old + length other.now ≤ tiny_capacity A.CAPACITY self.old }
+        ensures { Becomes A.Item.is_default A.CAPACITY (tiny_view_of A.Slots self.old)
+            (tiny_view_of A.Slots self.new) (tiny_items_of A.Slots self.old ++ other.now) }
     {
         match self {
-            TinyVec::Inline(v, _) => v.extend_from_slice_copy(other),
+            TinyVec::Inline(v, _) => {
+                // Tells the proof how many slots there are.
+                let _slots = slot_count(v);
+                v.extend_from_slice_copy(other)
+            }
             TinyVec::Heap(v) => push_copies(v, other),
         }
     }
@@ -127,9 +151,11 @@ impl<A: Array> TinyVec<A> {
     pub fn extend_from_slice_copy(&mut self, other: &[A::Item]) -> Result<(), AllocError>
     where
         A::Item: Copy,
-        ensures items { tiny_items self.new
-            ≡ (if is_ok result then tiny_items self.old ++ other.now else tiny_items self.old) }
-        ensures room { MakesRoom GrowsFor A.Item.is_default A.CAPACITY (tiny_len self.old + length other.now) self.old self.new result }
+        ensures items { tiny_items_of A.Slots self.new
+            ≡ (if is_ok result then tiny_items_of A.Slots self.old ++ other.now else tiny_items_of A.Slots self.old) }
+        ensures room { MakesRoom GrowsFor A.Item.is_default A.CAPACITY
+            (tiny_len_of A.Slots self.old + length other.now) (tiny_view_of A.Slots self.old)
+            (tiny_view_of A.Slots self.new) result }
     {
         self.reserve(other.len())?;
         self.copy_reserved(other);
@@ -138,8 +164,9 @@ impl<A: Array> TinyVec<A> {
 
     // Moves the items of `from` to a list that has room, and leaves defaults.
     pub(crate) fn append_slots(&mut self, from: &mut [A::Item])
-        requires { tiny_len self.old + length from.old ≤ tiny_capacity A.CAPACITY self.old }
-        ensures becomes { Becomes A.Item.is_default A.CAPACITY self.old self.new (tiny_items self.old ++ from.old) }
+        requires { tiny_len_of A.Slots self.old + length from.old ≤ tiny_capacity A.CAPACITY self.old }
+        ensures becomes { Becomes A.Item.is_default A.CAPACITY (tiny_view_of A.Slots self.old)
+            (tiny_view_of A.Slots self.new) (tiny_items_of A.Slots self.old ++ from.old) }
         ensures left { AreDefaults A.Item.is_default (length from.old) from.new }
     {
         for i in 0..from.len() {
@@ -149,9 +176,11 @@ impl<A: Array> TinyVec<A> {
 
     // `append` to a list that has room.
     fn append_reserved(&mut self, other: &mut Self)
-        requires { tiny_len self.old + tiny_len other.old ≤ tiny_capacity A.CAPACITY self.old }
-        ensures becomes { Becomes A.Item.is_default A.CAPACITY self.old self.new (tiny_items self.old ++ tiny_items other.old) }
-        ensures other { Becomes A.Item.is_default A.CAPACITY other.old other.new [] }
+        requires { tiny_len_of A.Slots self.old + tiny_len_of A.Slots other.old ≤ tiny_capacity A.CAPACITY self.old }
+        ensures becomes { Becomes A.Item.is_default A.CAPACITY (tiny_view_of A.Slots self.old)
+            (tiny_view_of A.Slots self.new) (tiny_items_of A.Slots self.old ++ tiny_items_of A.Slots other.old) }
+        ensures other { Becomes A.Item.is_default A.CAPACITY (tiny_view_of A.Slots other.old)
+            (tiny_view_of A.Slots other.new) [] }
     {
         self.append_slots(other.as_mut_slice());
         other.clear();
@@ -160,11 +189,14 @@ impl<A: Array> TinyVec<A> {
     /// Moves the items of `other` to the end, and leaves `other` empty. Each item moves once. `other` stays in its place.
     /// Room for all is allocated once, before any is moved.
     pub fn append(&mut self, other: &mut Self) -> Result<(), AllocError>
-        ensures items { OnOk result (tiny_items self.new ≡ tiny_items self.old ++ tiny_items other.old) }
-        ensures room { MakesRoom GrowsFor A.Item.is_default A.CAPACITY (tiny_len self.old + tiny_len other.old)
-            self.old self.new result }
-        ensures other { Becomes A.Item.is_default A.CAPACITY other.old other.new
-            (if is_ok result then [] else tiny_items other.old) }
+        ensures items { OnOk result (tiny_items_of A.Slots self.new ≡ tiny_items_of A.Slots self.old
+            ++ tiny_items_of A.Slots other.old) }
+        ensures room { MakesRoom GrowsFor A.Item.is_default A.CAPACITY
+            (tiny_len_of A.Slots self.old + tiny_len_of A.Slots other.old)
+            (tiny_view_of A.Slots self.old) (tiny_view_of A.Slots self.new) result }
+        ensures other { Becomes A.Item.is_default A.CAPACITY (tiny_view_of A.Slots other.old)
+            (tiny_view_of A.Slots other.new)
+            (if is_ok result then [] else tiny_items_of A.Slots other.old) }
         ensures other_kept { OnErr result (other.new ≡ other.old) }
     {
         self.reserve(other.len())?;
@@ -183,11 +215,12 @@ impl<A: Array> TinyVec<A> {
         requires { (it : I.IntoIter) → I.into_iter_gives iter it
             → I.IntoIter.can_next it × IsFinite (I.IntoIter.remaining it) }
         ensures items { PushesItems I.into_iter_gives I.IntoIter.next_gives iter (tiny_capacity A.CAPACITY self.old)
-            result (tiny_items self.old) (tiny_items self.new) }
-        ensures grows { Grows A.Item.is_default A.CAPACITY self.old self.new }
+            result (tiny_items_of A.Slots self.old) (tiny_items_of A.Slots self.new) }
+        ensures grows { Grows A.Item.is_default A.CAPACITY (tiny_view_of A.Slots self.old)
+            (tiny_view_of A.Slots self.new) }
 
         // It fails only if there is no room.
-        ensures full { OnErr result (tiny_len self.new ≡ tiny_capacity A.CAPACITY self.new) }
+        ensures full { OnErr result (tiny_len_of A.Slots self.new ≡ tiny_capacity A.CAPACITY self.new) }
 
         // The returned iterator can be iterated further.
         ensures goes_on { IfErr result (λ refused. I.IntoIter.can_next refused.rest) }
@@ -209,23 +242,26 @@ impl<A: Array> TinyVec<A> {
         // It yields no more items than `len` says. If it yields fewer, the room stays.
         ensures ran { (it : I.IntoIter) × I.into_iter_gives iter it
             × MatchResult result (λ _. (xs : List A.Item) × Drains I.IntoIter.next_gives it xs
-            × (length xs ≤ size (I.IntoIter.remaining it)) × (tiny_items self.new ≡ tiny_items self.old ++ xs))
+            × (length xs ≤ size (I.IntoIter.remaining it)) × (tiny_items_of A.Slots self.new
+            ≡ tiny_items_of A.Slots self.old ++ xs))
             (λ refused. refused.0 ≡ it)
-            × MakesRoom GrowsFor A.Item.is_default A.CAPACITY (tiny_len self.old + size (I.IntoIter.remaining it))
-            self.old self.new result }
+            × MakesRoom GrowsFor A.Item.is_default A.CAPACITY (tiny_len_of A.Slots self.old + size
+            (I.IntoIter.remaining it))
+            (tiny_view_of A.Slots self.old) (tiny_view_of A.Slots self.new) result }
 
         // For an iterator of which `rest` shows the remaining items.
         ensures listed { (rest : I.IntoIter → List A.Item) → ShowsItems I.IntoIter.next_gives rest
             → (it : I.IntoIter) × I.into_iter_gives iter it
-            × OnOk result (tiny_items self.new ≡ tiny_items self.old ++ rest it) }
+            × OnOk result (tiny_items_of A.Slots self.new ≡ tiny_items_of A.Slots self.old ++ rest it) }
 
         // If there is room for as many as it says, it allocates nothing.
         ensures succeeds { ((it : I.IntoIter) → I.into_iter_gives iter it
-            → tiny_len self.old + size (I.IntoIter.remaining it) ≤ tiny_capacity A.CAPACITY self.old) → IsOk result }
+            → tiny_len_of A.Slots self.old + size (I.IntoIter.remaining it) ≤ tiny_capacity A.CAPACITY self.old)
+            → IsOk result }
 
         // For items that are known, as those of a `Vec`, a range or a slice.
         ensures known { (xs : List A.Item) → IntoIterYields I.into_iter_gives I.IntoIter.next_gives iter xs
-            → OnOk result (tiny_items self.new ≡ tiny_items self.old ++ xs) }
+            → OnOk result (tiny_items_of A.Slots self.new ≡ tiny_items_of A.Slots self.old ++ xs) }
     {
         let items = iter.into_iter();
         if self.reserve(items.len()).is_err() {
@@ -245,8 +281,9 @@ impl<A: Array> TinyVec<A> {
     ) -> Result<(), NoRoom<A::Item, I>>
         requires { I.can_next iter × IsFinite (I.remaining iter) }
         ensures fills { FillsRoom I.Iterator iter (tiny_capacity A.CAPACITY self.new) result
-            (tiny_items self.old) (tiny_items self.new) }
-        ensures grows { Grows A.Item.is_default A.CAPACITY self.old self.new }
+            (tiny_items_of A.Slots self.old) (tiny_items_of A.Slots self.new) }
+        ensures grows { Grows A.Item.is_default A.CAPACITY (tiny_view_of A.Slots self.old)
+            (tiny_view_of A.Slots self.new) }
     {
         // Shows the proof that an empty iterator leaves a list that fits.
         let _len = self.len();
@@ -267,8 +304,9 @@ impl<A: Array> TinyVec<A> {
     fn fill_room<I: Iterator<Item = A::Item>>(&mut self, iter: I) -> Result<(), NoRoom<A::Item, I>>
         requires { I.can_next iter × IsFinite (I.remaining iter) }
         ensures fills { FillsRoom I.Iterator iter (tiny_capacity A.CAPACITY self.new) result
-            (tiny_items self.old) (tiny_items self.new) }
-        ensures frame { StaysInPlace A.Item.is_default A.CAPACITY self.old self.new }
+            (tiny_items_of A.Slots self.old) (tiny_items_of A.Slots self.new) }
+        ensures frame { StaysInPlace A.Item.is_default A.CAPACITY (tiny_view_of A.Slots self.old)
+            (tiny_view_of A.Slots self.new) }
     {
         match self {
             TinyVec::Inline(v, _) => fill_array(v, iter),
@@ -285,18 +323,21 @@ impl<A: Array> TinyVec<A> {
         requires { (it : I.IntoIter) → I.into_iter_gives iter it
             → I.IntoIter.can_next it × IsFinite (I.IntoIter.remaining it) }
         ensures ran { (it : I.IntoIter) × (xs : List A.Item) × I.into_iter_gives iter it
-            × MatchResult result (λ v. Drains I.IntoIter.next_gives it xs × (tiny_items v ≡ xs))
+            × MatchResult result (λ v. Drains I.IntoIter.next_gives it xs × (tiny_items_of A.Slots v ≡ xs))
             (λ refused. YieldsThen I.IntoIter.next_gives it xs (Some refused.item) refused.rest
-            × (tiny_items refused.vec ≡ xs)) }
-        ensures collected { IfOk result (λ v. Collects A.Item.is_default A.CAPACITY (tiny_items v) v) }
+            × (tiny_items_of A.Slots refused.vec ≡ xs)) }
+        ensures collected { IfOk result (λ v. Collects A.Item.is_default A.CAPACITY (tiny_items_of A.Slots v)
+            (tiny_view_of A.Slots v)) }
 
         // What a failure returns is collected in the same way.
         ensures collected_so_far { IfErr result (λ refused.
-            Collects A.Item.is_default A.CAPACITY (tiny_items refused.vec) refused.vec) }
+            Collects A.Item.is_default A.CAPACITY (tiny_items_of A.Slots refused.vec)
+            (tiny_view_of A.Slots refused.vec)) }
 
         // It fails only if there is no room.
-        ensures full { IfErr result (λ refused. (tiny_len refused.vec ≡ tiny_capacity A.CAPACITY refused.vec)
-            × (A.CAPACITY ≤ tiny_len refused.vec) × (IsInline refused.vec ↔ (tiny_len refused.vec ≤ A.CAPACITY))) }
+        ensures full { IfErr result (λ refused. (tiny_len_of A.Slots refused.vec ≡ tiny_capacity A.CAPACITY refused.vec)
+            × (A.CAPACITY ≤ tiny_len_of A.Slots refused.vec) × (IsInline refused.vec ↔
+            (tiny_len_of A.Slots refused.vec ≤ A.CAPACITY))) }
 
         // The returned iterator can be iterated further.
         ensures goes_on { IfErr result (λ refused. I.IntoIter.can_next refused.rest) }
@@ -304,12 +345,12 @@ impl<A: Array> TinyVec<A> {
         // For an iterator of which `rest` shows the remaining items.
         ensures listed { (rest : I.IntoIter → List A.Item) → ShowsItems I.IntoIter.next_gives rest
             → (it : I.IntoIter) × I.into_iter_gives iter it
-            × MatchResult result (λ v. rest it ≡ tiny_items v)
-            (λ refused. rest it ≡ tiny_items refused.vec ++ refused.item ∷ rest refused.rest) }
+            × MatchResult result (λ v. rest it ≡ tiny_items_of A.Slots v)
+            (λ refused. rest it ≡ tiny_items_of A.Slots refused.vec ++ refused.item ∷ rest refused.rest) }
 
         // For items that are known. If they fit the array, it allocates nothing.
         ensures known { (xs : List A.Item) → IntoIterYields I.into_iter_gives I.IntoIter.next_gives iter xs
-            → IfOk result (λ v. tiny_items v ≡ xs) × (length xs ≤ A.CAPACITY → IsOk result) }
+            → IfOk result (λ v. tiny_items_of A.Slots v ≡ xs) × (length xs ≤ A.CAPACITY → IsOk result) }
     {
         let mut vec = Self::new(alloc);
         match vec.extend(iter) {
@@ -324,25 +365,30 @@ impl<A: Array> TinyVec<A> {
     where
         A::Item: Clone,
         ensures items { OnOk result (AppendsClones A.Item.is_clone
-            (take new_len (tiny_items self.old)) (tiny_items self.new) (replicate (new_len - tiny_len self.old) value)) }
-        ensures len { OnOk result (tiny_len self.new ≡ new_len) }
+            (take new_len (tiny_items_of A.Slots self.old)) (tiny_items_of A.Slots self.new) (replicate
+            (new_len - tiny_len_of A.Slots self.old) value)) }
+        ensures len { OnOk result (tiny_len_of A.Slots self.new ≡ new_len) }
         ensures if_clones_equal { OnOk result (ClonesAreEqual A.Item.is_clone
-            → tiny_items self.new ≡ take new_len (tiny_items self.old) ++ replicate (new_len - tiny_len self.old) value) }
-        ensures room { RoomGrows GrowsFor A.Item.is_default A.CAPACITY new_len self.old self.new result }
-        ensures place { OnOk result (PlaceRule A.CAPACITY (max new_len (tiny_len self.old)) self.old self.new) }
+            → tiny_items_of A.Slots self.new ≡ take new_len (tiny_items_of A.Slots self.old) ++ replicate
+            (new_len - tiny_len_of A.Slots self.old) value) }
+        ensures room { RoomGrows GrowsFor A.Item.is_default A.CAPACITY new_len (tiny_view_of A.Slots self.old)
+            (tiny_view_of A.Slots self.new) result }
+        ensures place { OnOk result (PlaceRule A.CAPACITY (max new_len (tiny_len_of A.Slots self.old))
+            (tiny_view_of A.Slots self.old) (tiny_view_of A.Slots self.new)) }
 
         // If there is room only clones allocate.
-        ensures cuts { new_len ≤ tiny_len self.old → IsOk result }
+        ensures cuts { new_len ≤ tiny_len_of A.Slots self.old → IsOk result }
         ensures succeeds { new_len ≤ tiny_capacity A.CAPACITY self.old → A.Item.is_infallible value → IsOk result }
 
         // On failure the list is unchanged. If only a clone failed, the reservation stays, and an inline list's first j
         // spare slots hold the clones made.
         ensures value_returned { IfErr result (λ refused. refused.0 ≡ value) }
-        ensures kept { OnErr result (tiny_items self.new ≡ tiny_items self.old) }
-        ensures refused { OnErr result (RefusedFor A.CAPACITY (max new_len (tiny_len self.old))
-            ((j : ℕ) × (j < new_len - tiny_len self.old) × ¬ (A.Item.is_infallible value)
-            × ClonesBehind A.Item.is_clone (replicate j value) j self.old self.new)
-            self.old self.new) }
+        ensures kept { OnErr result (tiny_items_of A.Slots self.new ≡ tiny_items_of A.Slots self.old) }
+        ensures refused { OnErr result (RefusedFor A.CAPACITY (max new_len (tiny_len_of A.Slots self.old))
+            ((j : ℕ) × (j < new_len - tiny_len_of A.Slots self.old) × ¬ (A.Item.is_infallible value)
+            × ClonesBehind A.Item.is_clone (replicate j value) j (tiny_view_of A.Slots self.old)
+            (tiny_view_of A.Slots self.new))
+            (tiny_view_of A.Slots self.old) (tiny_view_of A.Slots self.new)) }
     {
         let len = self.len();
         if new_len <= len {
@@ -359,12 +405,15 @@ impl<A: Array> TinyVec<A> {
     fn fill_reserved(&mut self, n: usize, x: A::Item) -> Result<(), NoMemory<A::Item>>
     where
         A::Item: Clone,
-        requires room { tiny_len self.old + n ≤ tiny_capacity A.CAPACITY self.old }
-        ensures clones { ClonesInRoom A.Item.Clone A.CAPACITY (replicate n x) self.old self.new result }
+        requires room { tiny_len_of A.Slots self.old + n ≤ tiny_capacity A.CAPACITY self.old }
+        ensures clones { ClonesInRoom A.Item.Clone A.CAPACITY (replicate n x) (tiny_view_of A.Slots self.old)
+            (tiny_view_of A.Slots self.new) result }
         ensures value_returned { IfErr result (λ refused. refused.0 ≡ x) }
     {
         match self {
             TinyVec::Inline(v, _) => {
+                // Tells the proof how many slots there are.
+                let _slots = slot_count(v);
                 let len = v.len() + n;
                 v.resize(len, x)
             }
@@ -383,10 +432,13 @@ impl<A: Array> TinyVec<A> {
         mut f: F,
     ) -> Result<(), AllocError>
         requires { F.IsAlwaysCallable f }
-        ensures items { OnOk result (AppendsResults F.step (take new_len (tiny_items self.old)) (tiny_items self.new) f) }
-        ensures len { OnOk result (tiny_len self.new ≡ new_len) }
-        ensures room { MakesRoom GrowsFor A.Item.is_default A.CAPACITY new_len self.old self.new result }
-        ensures place { OnOk result (PlaceRule A.CAPACITY (max new_len (tiny_len self.old)) self.old self.new) }
+        ensures items { OnOk result (AppendsResults F.step (take new_len (tiny_items_of A.Slots self.old))
+            (tiny_items_of A.Slots self.new) f) }
+        ensures len { OnOk result (tiny_len_of A.Slots self.new ≡ new_len) }
+        ensures room { MakesRoom GrowsFor A.Item.is_default A.CAPACITY new_len (tiny_view_of A.Slots self.old)
+            (tiny_view_of A.Slots self.new) result }
+        ensures place { OnOk result (PlaceRule A.CAPACITY (max new_len (tiny_len_of A.Slots self.old))
+            (tiny_view_of A.Slots self.old) (tiny_view_of A.Slots self.new)) }
     {
         self.resize_by_answers(new_len, &mut f)
     }
@@ -399,11 +451,13 @@ impl<A: Array> TinyVec<A> {
     ) -> Result<(), AllocError>
         requires { F.IsAlwaysCallable f.old }
         ensures items { OnOk result (AppendsResultsTo F.step
-            (take n (tiny_items self.old)) (tiny_items self.new) f.old f.new) }
+            (take n (tiny_items_of A.Slots self.old)) (tiny_items_of A.Slots self.new) f.old f.new) }
         ensures unasked { OnErr result (f.new ≡ f.old) }
-        ensures len { OnOk result (tiny_len self.new ≡ n) }
-        ensures room { MakesRoom GrowsFor A.Item.is_default A.CAPACITY n self.old self.new result }
-        ensures place { OnOk result (PlaceRule A.CAPACITY (max n (tiny_len self.old)) self.old self.new) }
+        ensures len { OnOk result (tiny_len_of A.Slots self.new ≡ n) }
+        ensures room { MakesRoom GrowsFor A.Item.is_default A.CAPACITY n (tiny_view_of A.Slots self.old)
+            (tiny_view_of A.Slots self.new) result }
+        ensures place { OnOk result (PlaceRule A.CAPACITY (max n (tiny_len_of A.Slots self.old))
+            (tiny_view_of A.Slots self.old) (tiny_view_of A.Slots self.new)) }
     {
         let len = self.len();
         if n > len {
@@ -417,12 +471,14 @@ impl<A: Array> TinyVec<A> {
 
     // Extends a list that has room to `n` items by results of `f`.
     fn push_answers<F: FnMut() -> A::Item>(&mut self, n: usize, f: &mut F)
-        requires longer { tiny_len self.old ≤ n }
+        requires longer { tiny_len_of A.Slots self.old ≤ n }
         requires room { n ≤ tiny_capacity A.CAPACITY self.old }
         requires callable { F.IsAlwaysCallable f.old }
-        ensures items { AppendsResultsTo F.step (tiny_items self.old) (tiny_items self.new) f.old f.new }
-        ensures len { tiny_len self.new ≡ n }
-        ensures frame { StaysInPlace A.Item.is_default A.CAPACITY self.old self.new }
+        ensures items { AppendsResultsTo F.step (tiny_items_of A.Slots self.old)
+            (tiny_items_of A.Slots self.new) f.old f.new }
+        ensures len { tiny_len_of A.Slots self.new ≡ n }
+        ensures frame { StaysInPlace A.Item.is_default A.CAPACITY (tiny_view_of A.Slots self.old)
+            (tiny_view_of A.Slots self.new) }
     {
         while self.len() < n {
             self.push_reserved(f());
@@ -436,9 +492,12 @@ fn fill_array<A: Array, I: Iterator<Item = A::Item>>(
     mut iter: I,
 ) -> Result<(), NoRoom<A::Item, I>>
     requires { I.can_next iter × IsFinite (I.remaining iter) }
-    ensures fills { FillsRoom I.Iterator iter A.CAPACITY result (items vec.old) (items vec.new) }
-    ensures gains { Gains A.CAPACITY (items_len vec.new - items_len vec.old) vec.old vec.new (items vec.new) }
+    ensures fills { FillsRoom I.Iterator iter A.CAPACITY result (items_of A.Slots vec.old) (items_of A.Slots vec.new) }
+    ensures grows { GrowsInSlots A.Slots vec.old vec.new }
+    ensures fits { len_of A.Slots vec.new ≤ A.CAPACITY }
 {
+    // Tells the proof how many slots there are.
+    let _slots = slot_count(vec);
     let len = vec.len();
     match fill_slots(vec.grab_spare_slice_mut(), iter) {
         Ok(count) => {

@@ -5,35 +5,49 @@ ghost use Rattle.std.specs.List.{dedup as dedup_list};
 ghost use Rattle.std.specs.List.Retain.{IsFiltered, RetainsInTurn, IsDeduped, PopsIf};
 ghost use Rattle.tinyvec_slots.specs.Ranges.{range_start, range_end, IsRangeOf};
 ghost use Rattle.tinyvec_slots.specs.Extracting.{Extracts};
-ghost use Rattle.tinyvec.specs.TinyVec.{tiny_items, tiny_len, StaysInPlace, ShortensInPlace, Becomes};
+ghost use Rattle.tinyvec.specs.TinyVec.{tiny_items_of, tiny_len_of, tiny_view_of};
+ghost use Rattle.tinyvec.specs.View.{StaysInPlace, ShortensInPlace, Becomes};
 
 use crate::TinyVec;
+use crate::tiny_vec::slot_count;
 use std::ops::RangeBounds;
 use tinyvec_array::Array;
 use tinyvec_slots::{ExtractIf, resolve_range};
 
 impl<A: Array> TinyVec<A> {
     /// Calls `f` on each item in turn, and keeps those for which it returns `true`. A kept item is moved at most once.
-    pub fn retain<F: FnMut(&A::Item) -> bool>(&mut self, f: F)
+    pub fn retain<F: FnMut(&A::Item) -> bool>(&mut self, mut f: F)
         requires { F.IsAlwaysCallable f }
-        ensures filtered { IsFiltered (CalledAt F.FnMut) f (tiny_items self.old) (tiny_items self.new) }
-        ensures shortens { ShortensInPlace A.Item.is_default A.CAPACITY self.old self.new }
+        ensures filtered { IsFiltered (CalledAt F.FnMut) f (tiny_items_of A.Slots self.old)
+            (tiny_items_of A.Slots self.new) }
+        ensures shortens { ShortensInPlace A.Item.is_default A.CAPACITY (tiny_view_of A.Slots self.old)
+            (tiny_view_of A.Slots self.new) }
     {
         match self {
-            TinyVec::Inline(v, _) => v.retain(f),
+            TinyVec::Inline(v, _) => {
+                // Tells the proof how many slots there are.
+                let _slots = slot_count(v);
+                tinyvec_slots::retain(v, &mut f)
+            }
             TinyVec::Heap(v) => v.retain(f),
         }
     }
 
     /// Calls `f` on each item in turn, and keeps those for which it returns `true`, as it left them. A kept item is
     /// moved at most once.
-    pub fn retain_mut<F: FnMut(&mut A::Item) -> bool>(&mut self, f: F)
+    pub fn retain_mut<F: FnMut(&mut A::Item) -> bool>(&mut self, mut f: F)
         requires { F.IsAlwaysCallable f }
-        ensures filtered { RetainsInTurn (CalledAtMut F.FnMut) f (tiny_items self.old) (tiny_items self.new) }
-        ensures shortens { ShortensInPlace A.Item.is_default A.CAPACITY self.old self.new }
+        ensures filtered { RetainsInTurn (CalledAtMut F.FnMut) f (tiny_items_of A.Slots self.old)
+            (tiny_items_of A.Slots self.new) }
+        ensures shortens { ShortensInPlace A.Item.is_default A.CAPACITY (tiny_view_of A.Slots self.old)
+            (tiny_view_of A.Slots self.new) }
     {
         match self {
-            TinyVec::Inline(v, _) => v.retain_mut(f),
+            TinyVec::Inline(v, _) => {
+                // Tells the proof how many slots there are.
+                let _slots = slot_count(v);
+                tinyvec_slots::retain_mut(v, &mut f)
+            }
             TinyVec::Heap(v) => v.retain_mut(f),
         }
     }
@@ -42,34 +56,47 @@ impl<A: Array> TinyVec<A> {
     pub fn dedup(&mut self)
     where
         A::Item: PartialEq,
-        ensures becomes { Becomes A.Item.is_default A.CAPACITY self.old self.new (dedup_list A.Item.eq (tiny_items self.old)) }
-        ensures bound { tiny_len self.new ≤ tiny_len self.old }
+        ensures becomes { Becomes A.Item.is_default A.CAPACITY (tiny_view_of A.Slots self.old)
+            (tiny_view_of A.Slots self.new) (dedup_list A.Item.eq (tiny_items_of A.Slots self.old)) }
+        ensures bound { tiny_len_of A.Slots self.new ≤ tiny_len_of A.Slots self.old }
     {
         self.dedup_by(|current, last| *current == *last);
     }
 
     /// Calls `same` on each item after the first and the last one kept, in this order, and removes the item if it
     /// returns `true`. A kept item is moved at most once.
-    pub fn dedup_by<F: FnMut(&mut A::Item, &mut A::Item) -> bool>(&mut self, same: F)
+    pub fn dedup_by<F: FnMut(&mut A::Item, &mut A::Item) -> bool>(&mut self, mut same: F)
         requires { F.IsAlwaysCallable same }
-        ensures filtered { IsDeduped (CalledAtPairMut F.FnMut) same (tiny_items self.old) (tiny_items self.new) }
-        ensures shortens { ShortensInPlace A.Item.is_default A.CAPACITY self.old self.new }
+        ensures filtered { IsDeduped (CalledAtPairMut F.FnMut) same (tiny_items_of A.Slots self.old)
+            (tiny_items_of A.Slots self.new) }
+        ensures shortens { ShortensInPlace A.Item.is_default A.CAPACITY (tiny_view_of A.Slots self.old)
+            (tiny_view_of A.Slots self.new) }
     {
         match self {
-            TinyVec::Inline(v, _) => v.dedup_by(same),
+            TinyVec::Inline(v, _) => {
+                // Tells the proof how many slots there are.
+                let _slots = slot_count(v);
+                tinyvec_slots::dedup_by(v, &mut same)
+            }
             TinyVec::Heap(v) => v.dedup_by(same),
         }
     }
 
     /// Removes each item whose key equals that of the last one kept. The item's own key is computed first. A kept item
     /// is moved at most once.
-    pub fn dedup_by_key<K: PartialEq + Drop, F: FnMut(&mut A::Item) -> K>(&mut self, key: F)
+    pub fn dedup_by_key<K: PartialEq + Drop, F: FnMut(&mut A::Item) -> K>(&mut self, mut key: F)
         requires { F.IsAlwaysCallable key }
-        ensures filtered { IsDeduped (ComparesKeys F.FnMut K.eq) key (tiny_items self.old) (tiny_items self.new) }
-        ensures shortens { ShortensInPlace A.Item.is_default A.CAPACITY self.old self.new }
+        ensures filtered { IsDeduped (ComparesKeys F.FnMut K.eq) key (tiny_items_of A.Slots self.old)
+            (tiny_items_of A.Slots self.new) }
+        ensures shortens { ShortensInPlace A.Item.is_default A.CAPACITY (tiny_view_of A.Slots self.old)
+            (tiny_view_of A.Slots self.new) }
     {
         match self {
-            TinyVec::Inline(v, _) => v.dedup_by_key(key),
+            TinyVec::Inline(v, _) => {
+                // Tells the proof how many slots there are.
+                let _slots = slot_count(v);
+                tinyvec_slots::dedup_by_key(v, &mut key)
+            }
             TinyVec::Heap(v) => v.dedup_by_key(key),
         }
     }
@@ -77,10 +104,12 @@ impl<A: Array> TinyVec<A> {
     /// Calls `predicate` on the last item, and removes and returns the item if it returns `true`. Otherwise the item stays, as
     /// `predicate` left it. Calls nothing if the list is empty.
     pub fn pop_if<F: FnOnce(&mut A::Item) -> bool>(&mut self, predicate: F) -> Option<A::Item>
-        requires { (x : A.Item) → slice_get (tiny_items self.old) (tiny_len self.old - 1) ≡ Some x
+        requires { (x : A.Item) → slice_get (tiny_items_of A.Slots self.old) (tiny_len_of A.Slots self.old - 1) ≡ Some x
             → FnOnceTakesAtMut F.FnOnce predicate x }
-        ensures popped { PopsIf F.FnOnce (tiny_items self.old) (tiny_items self.new) predicate result }
-        ensures shortens { ShortensInPlace A.Item.is_default A.CAPACITY self.old self.new }
+        ensures popped { PopsIf F.FnOnce (tiny_items_of A.Slots self.old)
+            (tiny_items_of A.Slots self.new) predicate result }
+        ensures shortens { ShortensInPlace A.Item.is_default A.CAPACITY (tiny_view_of A.Slots self.old)
+            (tiny_view_of A.Slots self.new) }
     {
         tinyvec_slots::pop_if(self, predicate)
     }
@@ -96,9 +125,11 @@ impl<A: Array> TinyVec<A> {
         pred: F,
     ) -> ExtractIf<'_, TinyVec<A>, F>
         requires not_exhausted { R.has_bounds range }
-        requires in_list { IsRangeOf (tiny_items self.old) (R.start_bound range) (R.end_bound range) }
-        ensures { Extracts tiny_items (StaysInPlace A.Item.is_default A.CAPACITY) F.FnMut self.entry
-            (range_start (R.start_bound range)) (range_end (R.end_bound range) (tiny_len self.old)) pred result }
+        requires in_list { IsRangeOf (tiny_items_of A.Slots self.old) (R.start_bound range) (R.end_bound range) }
+        ensures { Extracts (tiny_items_of A.Slots) (λ v w. StaysInPlace A.Item.is_default A.CAPACITY
+            (tiny_view_of A.Slots v) (tiny_view_of A.Slots w)) F.FnMut self.entry
+            (range_start (R.start_bound range)) (range_end (R.end_bound range)
+            (tiny_len_of A.Slots self.old)) pred result }
     {
         let part = resolve_range(range, self.len());
         tinyvec_slots::extract_if(self, part.start, part.end, pred)

@@ -1,43 +1,74 @@
 //! Growing by other lists, by clones, by iterators and by closures.
-ghost use Rattle.std.specs.Prelude.{◌≡◌, ◌+◌, ◌-◌, ◌≤◌, ◌++◌, length, take, IsOk, OnOk, OnErr, ◌<◌, ◌↔◌, [], IsSome, IfSome, IfNone, IfOk, IfErr, MatchResult, Some};
-ghost use Rattle.std.specs.List.{AppendsResults};
-ghost use Rattle.tinyvec_slots.specs.Slots.{items, spare, items_len, AreDefaults, SlotRule, Gains, Loses, Grows};
-ghost use Rattle.tinyvec_slots.specs.Clones.{AddsClones, ResizesByClones};
+ghost use Rattle.std.specs.Prelude.{◌≡◌, ◌+◌, ◌≤◌, ◌++◌, length, take, drop, IsOk, OnOk, OnErr, [], ◌-◌, ◌∷◌, List, IfErr, Some, ◌<◌, ◌↔◌, ℕ, All, Err, reverse, IsSome, IfSome, IfNone, IfOk, MatchResult};
+ghost use Rattle.tinyvec_slots.specs.Clones.{AddsClones, AppendsAllOrNone, ClonesOver, RefusedAt, ResizesByClones, CutsToClones};
+ghost use Rattle.tinyvec_array.specs.ArrayVec.{items_of, spare_of, len_of, slots_of, view_of, SameLender, Gains, Loses, Grows};
+ghost use Rattle.tinyvec_slots.specs.Slots.{AreDefaults};
 ghost use Rattle.tinyvec_slots.specs.Ranges.{IsRangeOf, removed};
-ghost use Rattle.tinyvec_slots.specs.Filling.{Fills, Extends, Collects, AppendsResultsTo};
+ghost use Rattle.tinyvec_slots.specs.Filling.{Fills, Extends, AppendsResultsTo};
 
-use crate::{Array, ArrayVec, FromIterRest, NoMemory, NoRoom};
+use crate::{ArrayVec, NoMemory, NoRoom, Slots, TakesClones, TryFromSliceError};
 use std::alloc::AllocError;
 use std::mem;
 use std::ops::RangeBounds;
-use tinyvec_slots::{InSlots, clone_over_from, clone_within, fill_clones, resolve_range};
+use tinyvec_slots::{clone_within, fill_clones, resolve_range};
 
-impl<A: Array> ArrayVec<A> {
+impl<S: TakesClones> ArrayVec<S> {
     /// Appends clones of the slice's items. Only clones allocate.
-    pub fn extend_from_slice(&mut self, other: &[A::Item]) -> Result<(), AllocError>
+    pub fn extend_from_slice(&mut self, other: &[S::Item]) -> Result<(), AllocError>
     where
-        A::Item: Clone,
-        requires room { length other.now ≤ A.CAPACITY - items_len self.old }
-        ensures clones { AddsClones A.Item.Clone other.now result self.old self.new }
-        ensures fits { items_len self.new ≤ A.CAPACITY }
+        S::Item: Clone,
+        requires room { length other.now ≤ length (spare_of S.Slots self.old) }
+        ensures lender { SameLender S.Slots self.old self.new }
+        ensures clones { AddsClones S.Item.Clone other.now result (view_of S.Slots self.old) (view_of S.Slots self.new) }
     {
         let len = self.len();
-        clone_over_from(self.slots_mut(), len, other)?;
-        self.set_len(len + other.len());
+        S::write_clones(self.slots.all_mut(), len, other)?;
+        self.len = self.slots.to_len(len + other.len());
         Ok(())
     }
 
-    /// Appends copies of the slice's items. They are copied as one block.
-    pub fn extend_from_slice_copy(&mut self, other: &[A::Item])
+    /// Appends clones of the slice's items. If they do not all fit, or a clone fails, it fails and appends nothing. Only
+    /// clones of items allocate.
+    pub fn try_extend_from_slice(&mut self, other: &[S::Item]) -> Result<(), TryFromSliceError>
     where
-        A::Item: Copy,
-        requires room { length other.now ≤ A.CAPACITY - items_len self.old }
-        ensures { Gains A.CAPACITY (length other.now) self.old self.new (items self.old ++ other.now) }
+        S::Item: Clone,
+        ensures lender { SameLender S.Slots self.old self.new }
+        ensures too_long { (result ≡ Err TryFromSliceError.TooLong) ↔
+            (length (spare_of S.Slots self.old) < length other.now) }
+        ensures unchanged { result ≡ Err TryFromSliceError.TooLong → self.new ≡ self.old }
+        ensures clones { AppendsAllOrNone S.Item.is_clone other.now result (items_of S.Slots self.old)
+            (items_of S.Slots self.new) }
+        ensures spare { OnOk result (spare_of S.Slots self.new ≡ drop (length other.now) (spare_of S.Slots self.old)) }
+
+        // The first `j` spare slots hold the clones made.
+        ensures memory { result ≡ Err TryFromSliceError.Memory → (j : ℕ)
+            × RefusedAt S.Item.is_infallible other.now j
+            × ClonesOver S.Item.is_clone (take j other.now) j (spare_of S.Slots self.old) (spare_of S.Slots self.new) }
+        ensures succeeds { length other.now ≤ length (spare_of S.Slots self.old)
+            → All S.Item.is_infallible other.now → IsOk result }
+    {
+        if other.len() > self.remaining_capacity() {
+            return Err(TryFromSliceError::TooLong);
+        }
+        match self.extend_from_slice(other) {
+            Ok(()) => Ok(()),
+            Err(_) => Err(TryFromSliceError::Memory),
+        }
+    }
+}
+
+impl<S: Slots> ArrayVec<S> {
+    /// Appends copies of the slice's items. They are copied as one block.
+    pub fn extend_from_slice_copy(&mut self, other: &[S::Item])
+    where
+        S::Item: Copy,
+        requires room { length other.now ≤ length (spare_of S.Slots self.old) }
+        ensures { Gains S.Slots (length other.now) self.old self.new (items_of S.Slots self.old ++ other.now) }
     {
         let len = self.len();
         let end = len + other.len();
-        self.array.as_slice_mut()[len..end].copy_from_slice(other);
-        self.len = end;
+        self.slots.all_mut()[len..end].copy_from_slice(other);
+        self.len = self.slots.to_len(end);
     }
 
     /// Appends clones of the items of the range. Only clones allocate.
@@ -45,93 +76,33 @@ impl<A: Array> ArrayVec<A> {
     /// `not_exhausted` fails only for a `RangeInclusive` that was iterated to its end.
     pub fn extend_from_within<R: RangeBounds<usize>>(&mut self, range: R) -> Result<(), AllocError>
     where
-        A::Item: Clone,
+        S::Item: Clone,
         requires not_exhausted { R.has_bounds range }
-        requires in_list { IsRangeOf (items self.old) (R.start_bound range) (R.end_bound range) }
-        requires room { length (removed (items self.old) (R.start_bound range) (R.end_bound range))
-            ≤ A.CAPACITY - items_len self.old }
-        ensures clones { AddsClones A.Item.Clone (removed (items self.old) (R.start_bound range) (R.end_bound range))
-            result self.old self.new }
-        ensures fits { items_len self.new ≤ A.CAPACITY }
+        requires in_list { IsRangeOf (items_of S.Slots self.old) (R.start_bound range) (R.end_bound range) }
+        requires room { length (removed (items_of S.Slots self.old) (R.start_bound range) (R.end_bound range))
+            ≤ length (spare_of S.Slots self.old) }
+        ensures lender { SameLender S.Slots self.old self.new }
+        ensures clones { AddsClones S.Item.Clone
+            (removed (items_of S.Slots self.old) (R.start_bound range) (R.end_bound range)) result
+            (view_of S.Slots self.old) (view_of S.Slots self.new) }
     {
         let len = self.len();
         let part = resolve_range(range, len);
-        clone_within(self.slots_mut(), part.start, part.end, len)?;
-        self.set_len(len + (part.end - part.start));
+        clone_within(self.slots.all_mut(), part.start, part.end, len)?;
+        self.len = self.slots.to_len(len + (part.end - part.start));
         Ok(())
-    }
-
-    // Moves the items of `from` to the end, and leaves defaults there.
-    fn append_slots(&mut self, from: &mut [A::Item])
-        requires { length from.old ≤ A.CAPACITY - items_len self.old }
-        ensures becomes { Gains A.CAPACITY (length from.old) self.old self.new (items self.old ++ from.old) }
-        ensures left { AreDefaults A.Item.is_default (length from.old) from.new }
-    {
-        // For the proof: the list fits, also if nothing is pushed.
-        let _len = self.len();
-        for i in 0..from.len() {
-            self.push(mem::take(&mut from[i]));
-        }
-    }
-
-    /// Moves the items of `other` to the end, and leaves `other` empty. Each item moves once.
-    pub fn append(&mut self, other: &mut Self)
-        requires { items_len other.old ≤ A.CAPACITY - items_len self.old }
-        ensures becomes { Gains A.CAPACITY (items_len other.old) self.old self.new (items self.old ++ items other.old) }
-        ensures emptied { Loses A.Item.is_default A.CAPACITY (items_len other.old) other.old other.new [] }
-    {
-        self.append_slots(other.as_mut_slice());
-        other.set_len(0);
-    }
-
-    /// `append` if the items fit; otherwise nothing changes. Returns `other` either way: emptied in `Ok`, as it was
-    /// in `Err`.
-    pub fn append_if_fits<'o>(&mut self, other: &'o mut Self) -> Result<&'o mut Self, &'o mut Self>
-        ensures variant { IsOk result ↔ (items_len self.old + items_len other.old ≤ A.CAPACITY) }
-        ensures becomes { OnOk result
-            (Gains A.CAPACITY (items_len other.old) self.old self.new (items self.old ++ items other.old)) }
-        ensures emptied { IfOk result
-            (λ emptied. Loses A.Item.is_default A.CAPACITY (items_len other.old) other.old emptied.now []) }
-        ensures refused { IfErr result (λ back. (self.new ≡ self.old) × (back.now ≡ other.old)) }
-        ensures fits { items_len self.new ≤ A.CAPACITY }
-        ensures same_reference { MatchResult result (λ emptied. emptied.ghost_name ≡ other.entry.ghost_name)
-            (λ back. back.ghost_name ≡ other.entry.ghost_name) }
-    {
-        if other.len() > self.capacity() - self.len() {
-            return Err(other);
-        }
-        self.append(other);
-        Ok(other)
-    }
-
-    /// `append` if the items fit; otherwise returns `other`, and nothing changes. `append_if_fits` does the same, and
-    /// its contract says what `other` is in both cases.
-    // A reference that may be in the result has no value after the call, so no clause can say that `other` is empty at
-    // `None`.
-    pub fn try_append<'o>(&mut self, other: &'o mut Self) -> Option<&'o mut Self>
-        ensures variant { IsSome result ↔ (A.CAPACITY < items_len self.old + items_len other.old) }
-        ensures refused { IfSome result (λ back. (back.now ≡ other.old) × (self.new ≡ self.old)) }
-        ensures same_reference { IfSome result (λ back. back.ghost_name ≡ other.entry.ghost_name) }
-        ensures becomes { IfNone result
-            (Gains A.CAPACITY (items_len other.old) self.old self.new (items self.old ++ items other.old)) }
-        ensures fits { items_len self.new ≤ A.CAPACITY }
-    {
-        match self.append_if_fits(other) {
-            Ok(_emptied) => None,
-            Err(refused) => Some(refused),
-        }
     }
 
     /// Appends items until the vector is full or there are no more. Returns the rest of the iterator. `next` is never
     /// called on a full vector, so `iter` may be infinite.
-    pub fn fill<I: IntoIterator<Item = A::Item>>(&mut self, iter: I) -> I::IntoIter
+    pub fn fill<I: IntoIterator<Item = S::Item>>(&mut self, iter: I) -> I::IntoIter
         requires { (it : I.IntoIter) → I.into_iter_gives iter it → I.IntoIter.can_next it }
-        ensures items { Fills I.into_iter_gives I.IntoIter.next_gives iter (A.CAPACITY - items_len self.old)
-            (λ xs. items self.new ≡ items self.old ++ xs) result }
-        ensures grows { Grows A.CAPACITY self.old self.new }
+        ensures items { Fills I.into_iter_gives I.IntoIter.next_gives iter (length (spare_of S.Slots self.old))
+            (λ xs. items_of S.Slots self.new ≡ items_of S.Slots self.old ++ xs) result }
+        ensures grows { Grows S.Slots self.old self.new }
 
         // An iterator that stopped at a full vector can be iterated further.
-        ensures goes_on { items_len self.new ≡ A.CAPACITY → I.IntoIter.can_next result }
+        ensures goes_on { length (spare_of S.Slots self.new) ≡ 0 → I.IntoIter.can_next result }
     {
         let mut items = iter.into_iter();
         while !self.is_full() {
@@ -145,15 +116,15 @@ impl<A: Array> ArrayVec<A> {
 
     /// Appends the items. On overflow, returns the first item that did not fit and the rest of the iterator, so `iter`
     /// may be infinite.
-    pub fn extend<I: IntoIterator<Item = A::Item>>(
+    pub fn extend<I: IntoIterator<Item = S::Item>>(
         &mut self,
         iter: I,
-    ) -> Result<(), NoRoom<A::Item, I::IntoIter>>
+    ) -> Result<(), NoRoom<S::Item, I::IntoIter>>
         requires { (it : I.IntoIter) → I.into_iter_gives iter it → I.IntoIter.can_next it }
-        ensures items { Extends I.into_iter_gives I.IntoIter.next_gives iter (A.CAPACITY - items_len self.old)
-            (λ xs. items self.new ≡ items self.old ++ xs) result }
-        ensures full { OnErr result (items_len self.new ≡ A.CAPACITY) }
-        ensures grows { Grows A.CAPACITY self.old self.new }
+        ensures items { Extends I.into_iter_gives I.IntoIter.next_gives iter (length (spare_of S.Slots self.old))
+            (λ xs. items_of S.Slots self.new ≡ items_of S.Slots self.old ++ xs) result }
+        ensures full { OnErr result (spare_of S.Slots self.new ≡ []) }
+        ensures grows { Grows S.Slots self.old self.new }
 
         // The returned iterator can be iterated further.
         ensures goes_on { IfErr result (λ refused. I.IntoIter.can_next refused.rest) }
@@ -168,75 +139,189 @@ impl<A: Array> ArrayVec<A> {
         }
     }
 
-    /// Makes a vector of the items. On overflow, returns the full vector, the first item that did not fit and the rest of
-    /// the iterator, so `iter` may be infinite.
-    pub fn from_iter<I: IntoIterator<Item = A::Item>>(
-        iter: I,
-    ) -> Result<Self, FromIterRest<Self, A::Item, I::IntoIter>>
-        requires { (it : I.IntoIter) → I.into_iter_gives iter it → I.IntoIter.can_next it }
-        ensures items { Collects I.into_iter_gives I.IntoIter.next_gives iter A.CAPACITY (λ v xs. items v ≡ xs) result }
-        ensures full { IfErr result (λ refused. (items_len refused.vec ≡ A.CAPACITY) × (spare refused.vec ≡ [])) }
-        ensures spare { IfOk result (λ v. AreDefaults A.Item.is_default (A.CAPACITY - items_len v) (spare v)) }
-        ensures fits { IfOk result (λ v. items_len v ≤ A.CAPACITY) }
-
-        // The returned iterator can be iterated further.
-        ensures goes_on { IfErr result (λ refused. I.IntoIter.can_next refused.rest) }
-    {
-        let mut vec = ArrayVec::new();
-        match vec.extend(iter) {
-            Ok(()) => Ok(vec),
-            Err(NoRoom { item, rest }) => Err(FromIterRest { vec, item, rest }),
-        }
-    }
-
-    /// Truncates the list to `new_len` items, or fills it up with clones of `value`. On failure `value` is returned. Only
-    /// clones allocate.
-    pub fn resize(&mut self, new_len: usize, value: A::Item) -> Result<(), NoMemory<A::Item>>
+    // `resize` of a vector in a lent slice.
+    pub(crate) fn resize_by_clones(
+        &mut self,
+        new_len: usize,
+        value: S::Item,
+    ) -> Result<(), NoMemory<S::Item>>
     where
-        A::Item: Clone,
-        requires room { new_len ≤ A.CAPACITY }
-        ensures resized { ResizesByClones A.Item.Clone new_len value result self.old self.new }
-        ensures slot_rule { OnOk result (SlotRule A.Item.is_default self.old self.new) }
+        S::Item: Clone,
+        requires room { new_len ≤ length (slots_of S.Slots self.old) }
+        ensures lender { SameLender S.Slots self.old self.new }
+        ensures len { OnOk result (len_of S.Slots self.new ≡ new_len) }
+        ensures grown { len_of S.Slots self.old < new_len
+            → ResizesByClones S.Item.Clone new_len value result (view_of S.Slots self.old) (view_of S.Slots self.new) }
+        ensures cut { new_len ≤ len_of S.Slots self.old
+            → CutsToClones S.Item.Clone new_len value result (view_of S.Slots self.old) (view_of S.Slots self.new) }
         ensures value_returned { IfErr result (λ refused. refused.0 ≡ value) }
-        ensures fits { items_len self.new ≤ A.CAPACITY }
-        ensures cuts { new_len ≤ items_len self.old → IsOk result }
+        ensures succeeds { S.Item.is_infallible value → IsOk result }
     {
         let len = self.len();
         if new_len <= len {
-            self.truncate(new_len);
-            return Ok(());
+            return match self.cut_to_clones(new_len, &value) {
+                Ok(()) => Ok(()),
+                Err(_) => Err(NoMemory(value)),
+            };
         }
-        match fill_clones(self.slots_mut(), len, new_len, &value) {
-            Ok(()) => {
-                self.set_len(new_len);
-                Ok(())
-            }
+        match self.grow_by_clones(new_len, &value) {
+            Ok(()) => Ok(()),
             Err(_) => Err(NoMemory(value)),
         }
     }
 
-    /// Truncates the list to `new_len` items, or fills it up with what `f` returns. Calls `f` once for each missing item.
-    pub fn resize_with<F: FnMut() -> A::Item>(&mut self, new_len: usize, mut f: F)
-        requires room { new_len ≤ A.CAPACITY }
-        requires callable { F.IsAlwaysCallable f }
-        ensures items { AppendsResults F.step (take new_len (items self.old)) (items self.new) f }
-        ensures len { items_len self.new ≡ new_len }
-        ensures slot_rule { SlotRule A.Item.is_default self.old self.new }
+    // Fills the list up to `n` items with clones of `x`.
+    pub(crate) fn grow_by_clones(&mut self, n: usize, x: &S::Item) -> Result<(), AllocError>
+    where
+        S::Item: Clone,
+        requires longer { len_of S.Slots self.old ≤ n }
+        requires in_bounds { n ≤ length (slots_of S.Slots self.old) }
+        ensures lender { SameLender S.Slots self.old self.new }
+        ensures grown { ResizesByClones S.Item.Clone n x.now result (view_of S.Slots self.old) (view_of S.Slots self.new) }
     {
-        self.resize_by_answers(new_len, &mut f);
+        let len = self.len();
+        fill_clones(self.slots.all_mut(), len, n, x)?;
+        self.len = self.slots.to_len(n);
+        Ok(())
     }
 
-    // `resize_with`, which also says in which state the last call leaves `f`.
-    fn resize_by_answers<F: FnMut() -> A::Item>(&mut self, n: usize, f: &mut F)
-        requires room { n ≤ A.CAPACITY }
-        requires callable { F.IsAlwaysCallable f.old }
-        ensures items { AppendsResultsTo F.step (take n (items self.old)) (items self.new) f.old f.new }
-        ensures len { items_len self.new ≡ n }
-        ensures slot_rule { SlotRule A.Item.is_default self.old self.new }
+    // Cuts the list to `n` items, and fills the vacated slots with clones of `x`, the last slot first.
+    fn cut_to_clones(&mut self, n: usize, x: &S::Item) -> Result<(), AllocError>
+    where
+        S::Item: Clone,
+        requires shorter { n ≤ len_of S.Slots self.old }
+        ensures lender { SameLender S.Slots self.old self.new }
+        ensures cut { CutsToClones S.Item.Clone n x.now result (view_of S.Slots self.old) (view_of S.Slots self.new) }
     {
-        self.truncate(n);
+        while self.len() > n {
+            let filling = x.clone()?;
+            self.replace_last(filling);
+        }
+        Ok(())
+    }
+
+    // `resize_with` of a vector in a lent slice, which also says in which state the last call leaves `f`.
+    pub(crate) fn resize_by_answers<F: FnMut() -> S::Item>(&mut self, n: usize, f: &mut F)
+        requires room { n ≤ length (slots_of S.Slots self.old) }
+        requires callable { F.IsAlwaysCallable f.old }
+        ensures lender { SameLender S.Slots self.old self.new }
+        ensures len { len_of S.Slots self.new ≡ n }
+        ensures grown { len_of S.Slots self.old ≤ n
+            → AppendsResultsTo F.step (items_of S.Slots self.old) (items_of S.Slots self.new) f.old f.new
+            × (spare_of S.Slots self.new ≡ drop (n - len_of S.Slots self.old) (spare_of S.Slots self.old)) }
+        ensures cut { n ≤ len_of S.Slots self.old → (items_of S.Slots self.new ≡ take n (items_of S.Slots self.old))
+            × ((ys : List S.Item) × AppendsResultsTo F.step [] ys f.old f.new × (length ys ≡ len_of S.Slots self.old - n)
+            × (spare_of S.Slots self.new ≡ reverse ys ++ spare_of S.Slots self.old)) }
+    {
+        if n <= self.len() {
+            self.cut_to_answers(n, f);
+            return;
+        }
+        self.grow_by_answers(n, f);
+    }
+
+    // Fills the list up to `n` items with what `f` returns.
+    pub(crate) fn grow_by_answers<F: FnMut() -> S::Item>(&mut self, n: usize, f: &mut F)
+        requires longer { len_of S.Slots self.old ≤ n }
+        requires room { n ≤ length (slots_of S.Slots self.old) }
+        requires callable { F.IsAlwaysCallable f.old }
+        ensures lender { SameLender S.Slots self.old self.new }
+        ensures len { len_of S.Slots self.new ≡ n }
+        ensures items { AppendsResultsTo F.step (items_of S.Slots self.old) (items_of S.Slots self.new) f.old f.new }
+        ensures spare { spare_of S.Slots self.new ≡ drop (n - len_of S.Slots self.old) (spare_of S.Slots self.old) }
+    {
         while self.len() < n {
             self.push(f());
+        }
+    }
+
+    // Truncates to `n` items, and fills the emptied slots with what `f` returns, the last slot first.
+    fn cut_to_answers<F: FnMut() -> S::Item>(&mut self, n: usize, f: &mut F)
+        requires shorter { n ≤ len_of S.Slots self.old }
+        requires callable { F.IsAlwaysCallable f.old }
+        ensures lender { SameLender S.Slots self.old self.new }
+        ensures items { items_of S.Slots self.new ≡ take n (items_of S.Slots self.old) }
+        ensures spare { (ys : List S.Item) × AppendsResultsTo F.step [] ys f.old f.new
+            × (length ys ≡ len_of S.Slots self.old - n)
+            × (spare_of S.Slots self.new ≡ reverse ys ++ spare_of S.Slots self.old) }
+    {
+        while self.len() > n {
+            self.replace_last(f());
+        }
+    }
+
+    // Cuts off the last item, and leaves `x` in its slot.
+    fn replace_last(&mut self, x: S::Item)
+        requires { 0 < len_of S.Slots self.old }
+        ensures lender { SameLender S.Slots self.old self.new }
+        ensures items { items_of S.Slots self.new ≡ take (len_of S.Slots self.old - 1) (items_of S.Slots self.old) }
+        ensures spare { spare_of S.Slots self.new ≡ x ∷ spare_of S.Slots self.old }
+    {
+        let last = self.len() - 1;
+        self.slots.all_mut()[last] = x;
+        self.len = self.slots.to_len(last);
+    }
+}
+
+impl<S: Slots> ArrayVec<S>
+where
+    S::Item: Default,
+{
+    // Moves the items of `from` to the end, and leaves defaults there.
+    pub(crate) fn append_slots(&mut self, from: &mut [S::Item])
+        requires { length from.old ≤ length (spare_of S.Slots self.old) }
+        ensures becomes { Gains S.Slots (length from.old) self.old self.new (items_of S.Slots self.old ++ from.old) }
+        ensures left { AreDefaults S.Item.is_default (length from.old) from.new }
+    {
+        for i in 0..from.len() {
+            self.push(mem::take(&mut from[i]));
+        }
+    }
+
+    /// Moves the items of `other` to the end, and leaves `other` empty. Each item moves once.
+    pub fn append(&mut self, other: &mut Self)
+        requires { len_of S.Slots other.old ≤ length (spare_of S.Slots self.old) }
+        ensures becomes { Gains S.Slots (len_of S.Slots other.old) self.old self.new
+            (items_of S.Slots self.old ++ items_of S.Slots other.old) }
+        ensures emptied { Loses S.Slots S.Item.is_default (len_of S.Slots other.old) other.old other.new [] }
+    {
+        self.append_slots(other.as_mut_slice());
+        other.set_len(0);
+    }
+
+    /// `append` if the items fit; otherwise nothing changes. Returns `other` either way: emptied in `Ok`, as it was
+    /// in `Err`.
+    pub fn append_if_fits<'o>(&mut self, other: &'o mut Self) -> Result<&'o mut Self, &'o mut Self>
+        ensures variant { IsOk result ↔ (len_of S.Slots other.old ≤ length (spare_of S.Slots self.old)) }
+        ensures becomes { OnOk result (Gains S.Slots (len_of S.Slots other.old) self.old self.new
+            (items_of S.Slots self.old ++ items_of S.Slots other.old)) }
+        ensures emptied { IfOk result
+            (λ emptied. Loses S.Slots S.Item.is_default (len_of S.Slots other.old) other.old emptied.now []) }
+        ensures refused { IfErr result (λ back. (self.new ≡ self.old) × (back.now ≡ other.old)) }
+        ensures same_reference { MatchResult result (λ emptied. emptied.ghost_name ≡ other.entry.ghost_name)
+            (λ back. back.ghost_name ≡ other.entry.ghost_name) }
+    {
+        if other.len() > self.remaining_capacity() {
+            return Err(other);
+        }
+        self.append(other);
+        Ok(other)
+    }
+
+    /// `append` if the items fit; otherwise returns `other`, and nothing changes. `append_if_fits` does the same, and
+    /// its contract says what `other` is in both cases.
+    // A reference that may be in the result has no value after the call, so no clause can say that `other` is empty at
+    // `None`.
+    pub fn try_append<'o>(&mut self, other: &'o mut Self) -> Option<&'o mut Self>
+        ensures variant { IsSome result ↔ (length (spare_of S.Slots self.old) < len_of S.Slots other.old) }
+        ensures refused { IfSome result (λ back. (back.now ≡ other.old) × (self.new ≡ self.old)) }
+        ensures same_reference { IfSome result (λ back. back.ghost_name ≡ other.entry.ghost_name) }
+        ensures becomes { IfNone result (Gains S.Slots (len_of S.Slots other.old) self.old self.new
+            (items_of S.Slots self.old ++ items_of S.Slots other.old)) }
+    {
+        match self.append_if_fits(other) {
+            Ok(_emptied) => None,
+            Err(refused) => Some(refused),
         }
     }
 }

@@ -1,32 +1,37 @@
-//! Keeping some of the items. The loops are in `tinyvec_slots`, over `CanCut`, implemented in `splice.rt`.
+//! Keeping some of the items. The loops are in `tinyvec_slots`, over `CanCut`, implemented in `can_cut.rt`.
 ghost use Rattle.std.specs.Prelude.{◌≡◌, ◌-◌, slice_get, Some};
 ghost use Rattle.std.specs.Fn.{FnOnceTakesAtMut, CalledAt, CalledAtMut, CalledAtPairMut, ComparesKeys};
 ghost use Rattle.std.specs.List.{dedup as dedup_list};
 ghost use Rattle.std.specs.List.Retain.{IsFiltered, RetainsInTurn, IsDeduped, PopsIf};
-ghost use Rattle.tinyvec_slots.specs.Slots.{items, items_len, Shortens, ShortensIn};
 ghost use Rattle.tinyvec_slots.specs.Ranges.{range_start, range_end, IsRangeOf};
 ghost use Rattle.tinyvec_slots.specs.Extracting.{Extracts};
+ghost use Rattle.tinyvec_array.specs.ArrayVec.{items_of, len_of, Shortens};
+ghost use Rattle.tinyvec_array.specs.CutLaws.{CutOf};
 
-use crate::{Array, ArrayVec};
+use crate::{ArrayVec, Slots};
 use std::ops::RangeBounds;
 use tinyvec_slots::{ExtractIf, resolve_range};
 
-impl<A: Array> ArrayVec<A> {
-    /// Calls `f` on each item in turn, and keeps those for which it returns `true`. A kept item is moved at most once.
-    pub fn retain<F: FnMut(&A::Item) -> bool>(&mut self, mut f: F)
+impl<S: Slots> ArrayVec<S>
+where
+    S::Item: Default,
+{
+    /// Calls `f` on each item in turn, and keeps those for which it returns `true`. A kept item is moved at most once. The
+    /// vacated slots precede the old spare slots.
+    pub fn retain<F: FnMut(&S::Item) -> bool>(&mut self, mut f: F)
         requires { F.IsAlwaysCallable f }
-        ensures filtered { IsFiltered (CalledAt F.FnMut) f (items self.old) (items self.new) }
-        ensures shorter { ShortensIn A.Item.is_default A.CAPACITY self.old self.new }
+        ensures filtered { IsFiltered (CalledAt F.FnMut) f (items_of S.Slots self.old) (items_of S.Slots self.new) }
+        ensures shorter { Shortens S.Slots S.Item.is_default self.old self.new }
     {
         tinyvec_slots::retain(self, &mut f);
     }
 
     /// Calls `f` on each item in turn, and keeps those for which it returns `true`, as it left them. A kept item is moved
-    /// at most once.
-    pub fn retain_mut<F: FnMut(&mut A::Item) -> bool>(&mut self, mut f: F)
+    /// at most once. The vacated slots precede the old spare slots.
+    pub fn retain_mut<F: FnMut(&mut S::Item) -> bool>(&mut self, mut f: F)
         requires { F.IsAlwaysCallable f }
-        ensures filtered { RetainsInTurn (CalledAtMut F.FnMut) f (items self.old) (items self.new) }
-        ensures shorter { ShortensIn A.Item.is_default A.CAPACITY self.old self.new }
+        ensures filtered { RetainsInTurn (CalledAtMut F.FnMut) f (items_of S.Slots self.old) (items_of S.Slots self.new) }
+        ensures shorter { Shortens S.Slots S.Item.is_default self.old self.new }
     {
         tinyvec_slots::retain_mut(self, &mut f);
     }
@@ -34,58 +39,61 @@ impl<A: Array> ArrayVec<A> {
     /// Removes each item that equals the last one kept. A kept item is moved at most once.
     pub fn dedup(&mut self)
     where
-        A::Item: PartialEq,
-        ensures items { items self.new ≡ dedup_list A.Item.eq (items self.old) }
-        ensures shorter { ShortensIn A.Item.is_default A.CAPACITY self.old self.new }
+        S::Item: PartialEq,
+        ensures items { items_of S.Slots self.new ≡ dedup_list S.Item.eq (items_of S.Slots self.old) }
+        ensures shorter { Shortens S.Slots S.Item.is_default self.old self.new }
     {
         self.dedup_by(|current, last| *current == *last);
     }
 
     /// Calls `same` on each item after the first and the last one kept, in this order, and removes the item if it returns
     /// `true`. A kept item is moved at most once.
-    pub fn dedup_by<F: FnMut(&mut A::Item, &mut A::Item) -> bool>(&mut self, mut same: F)
+    pub fn dedup_by<F: FnMut(&mut S::Item, &mut S::Item) -> bool>(&mut self, mut same: F)
         requires { F.IsAlwaysCallable same }
-        ensures filtered { IsDeduped (CalledAtPairMut F.FnMut) same (items self.old) (items self.new) }
-        ensures shorter { ShortensIn A.Item.is_default A.CAPACITY self.old self.new }
+        ensures filtered { IsDeduped (CalledAtPairMut F.FnMut) same (items_of S.Slots self.old)
+            (items_of S.Slots self.new) }
+        ensures shorter { Shortens S.Slots S.Item.is_default self.old self.new }
     {
         tinyvec_slots::dedup_by(self, &mut same);
     }
 
     /// Removes each item whose key equals that of the last one kept. The item's own key is computed first. A kept item is
     /// moved at most once.
-    pub fn dedup_by_key<K: PartialEq + Drop, F: FnMut(&mut A::Item) -> K>(&mut self, mut key: F)
+    pub fn dedup_by_key<K: PartialEq + Drop, F: FnMut(&mut S::Item) -> K>(&mut self, mut key: F)
         requires { F.IsAlwaysCallable key }
-        ensures filtered { IsDeduped (ComparesKeys F.FnMut K.eq) key (items self.old) (items self.new) }
-        ensures shorter { ShortensIn A.Item.is_default A.CAPACITY self.old self.new }
+        ensures filtered { IsDeduped (ComparesKeys F.FnMut K.eq) key (items_of S.Slots self.old)
+            (items_of S.Slots self.new) }
+        ensures shorter { Shortens S.Slots S.Item.is_default self.old self.new }
     {
         tinyvec_slots::dedup_by_key(self, &mut key);
     }
 
     /// Calls `predicate` on the last item, and removes and returns the item if it returns `true`. Otherwise the item
     /// stays, as `predicate` left it. Calls nothing if the list is empty.
-    pub fn pop_if<F: FnOnce(&mut A::Item) -> bool>(&mut self, predicate: F) -> Option<A::Item>
-        requires { (x : A.Item) → slice_get (items self.old) (items_len self.old - 1) ≡ Some x
+    pub fn pop_if<F: FnOnce(&mut S::Item) -> bool>(&mut self, predicate: F) -> Option<S::Item>
+        requires { (x : S.Item) → slice_get (items_of S.Slots self.old) (len_of S.Slots self.old - 1) ≡ Some x
             → FnOnceTakesAtMut F.FnOnce predicate x }
-        ensures popped { PopsIf F.FnOnce (items self.old) (items self.new) predicate result }
-        ensures shorter { ShortensIn A.Item.is_default A.CAPACITY self.old self.new }
+        ensures popped { PopsIf F.FnOnce (items_of S.Slots self.old) (items_of S.Slots self.new) predicate result }
+        ensures shorter { Shortens S.Slots S.Item.is_default self.old self.new }
     {
         tinyvec_slots::pop_if(self, predicate)
     }
 
     /// Calls `pred` with the items of the range in turn, as far as the iterator is driven, and removes and yields those for
     /// which it returns `true`. The others stay in order, as `pred` left them, and those after the range move down when the
-    /// iterator is dropped.
+    /// iterator is dropped. Call it in a function that is generic over `Slots`: the borrow checker does not cover a call
+    /// that names `SliceVec`.
     ///
     /// `not_exhausted` fails only for a `RangeInclusive` that was iterated to its end.
-    pub fn extract_if<R: RangeBounds<usize>, F: FnMut(&mut A::Item) -> bool>(
+    pub fn extract_if<R: RangeBounds<usize>, F: FnMut(&mut S::Item) -> bool>(
         &mut self,
         range: R,
         pred: F,
-    ) -> ExtractIf<'_, ArrayVec<A>, F>
+    ) -> ExtractIf<'_, ArrayVec<S>, F>
         requires not_exhausted { R.has_bounds range }
-        requires in_list { IsRangeOf (items self.old) (R.start_bound range) (R.end_bound range) }
-        ensures { Extracts items (Shortens A.Item.is_default) F.FnMut self.entry (range_start (R.start_bound range))
-            (range_end (R.end_bound range) (items_len self.old)) pred result }
+        requires in_list { IsRangeOf (items_of S.Slots self.old) (R.start_bound range) (R.end_bound range) }
+        ensures { Extracts (items_of S.Slots) (CutOf S.Slots S.Item.is_default) F.FnMut self.entry
+            (range_start (R.start_bound range)) (range_end (R.end_bound range) (len_of S.Slots self.old)) pred result }
     {
         let part = resolve_range(range, self.len());
         tinyvec_slots::extract_if(self, part.start, part.end, pred)

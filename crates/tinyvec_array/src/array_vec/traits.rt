@@ -1,9 +1,9 @@
 //! Comparisons, hashes, texts, writers, indexing and iteration.
-ghost use Rattle.std.specs.Prelude.{◌≡◌, ◌<◌, slice_index_or, List, length, true, false, ◌+◌, ◌-◌, ◌≤◌, ◌↔◌, ◌++◌, drop, IsOk, OnOk, OnErr};
+ghost use Rattle.std.specs.Prelude.{◌≡◌, ◌<◌, List, length, slice_index_or, true, false, ◌+◌, ◌≤◌, ◌↔◌, ◌++◌, drop, IsOk, OnOk, OnErr};
 ghost use Rattle.std.specs.Borrow.{sem};
-ghost use Rattle.tinyvec_slots.specs.Slots.{items, spare, items_len, with_items};
+ghost use Rattle.tinyvec_array.specs.ArrayVec.{items_of, spare_of, slots_of, name_of, len_of};
+ghost use Rattle.tinyvec_array.specs.Lends.{lends_items, lends_item};
 ghost use Rattle.tinyvec_slots.specs.Filling.{Iterates, IteratesMut};
-ghost use Rattle.tinyvec_array.specs.IntoIter.{IteratesOver};
 ghost use Rattle.std.specs.Cmp.{on_equiv, on_total, on_po, on_per};
 ghost use Rattle.std.specs.Cmp.Lexicographic.{pointwise, slice_cmp, slice_partial_cmp, lists_per, lists_equiv, lists_po, lists_total, lists_agrees, lists_ties};
 ghost use Rattle.std.specs.Hash.{on_Alike, items_Alike};
@@ -11,249 +11,220 @@ ghost use Rattle.std.specs.Fmt.{DisplaysOnOk, debug_list};
 ghost use Rattle.tinyvec_slots.specs.Texts.{list_in_radix};
 ghost use Rattle.std.specs.Hash as fed;
 
-use crate::{Array, ArrayVec, ArrayVecIterator};
+use crate::{ArrayVec, Slots, TakesClones};
 use std::cmp::Ordering;
 use std::fmt::HasDigits;
 use std::hash::{Hash, Hasher};
 use std::ops::{DerefSlice, DerefSliceMut, Index, IndexMut};
 use std::{fmt, slice};
 use tinyvec_slots::{
-    InBinary, InHex, InOctal, InUpperHex, Plain, cmp_slices, eq_slices, hash_items, into_items,
+    InBinary, InHex, InOctal, InUpperHex, Plain, cmp_slices, eq_slices, hash_items,
     partial_cmp_slices, slot_of, write_items,
 };
 
-impl<A: Array> Index<usize> for ArrayVec<A> {
-    type Output = A::Item;
+impl<S: Slots> Index<usize> for ArrayVec<S> {
+    type Output = S::Item;
 
-    ghost can_index = { λ v i. i < items_len v };
+    ghost can_index = { λ v i. i < length (items_of S.Slots v) };
 
-    ghost index_gives = { λ v i x. x ≡ slice_index_or (items v) i x };
+    ghost index_gives = { λ v i x. x ≡ slice_index_or (items_of S.Slots v) i x };
 
-    fn index(&self, index: usize) -> &A::Item {
+    fn index(&self, index: usize) -> &S::Item {
         &self.as_slice()[index]
     }
 }
 
-impl<A: Array> IndexMut<usize> for ArrayVec<A> {
-    ghost use Rattle.tinyvec_array.specs.Lends.{lends_item};
-
-    fn index_mut(&mut self, index: usize) -> &mut A::Item
-        requires { index < items_len self.old }
-        ensures* writes_back { sem 𝓛 (lends_item A.row A.Item.row A.Array A.Item.Default self.entry index result) }
-        ensures value { result.now ≡ slice_index_or (items self.old) index result.now }
+impl<S: Slots> IndexMut<usize> for ArrayVec<S> {
+    fn index_mut(&mut self, index: usize) -> &mut S::Item
+        requires { index < len_of S.Slots self.old }
+        ensures* writes_back { sem 𝓛 (lends_item S.row S.Len.row S.Item.row S.Slots self.entry index result) }
+        ensures value { result.now ≡ slice_index_or (items_of S.Slots self.old) index result.now }
     {
-        let _len = self.len();
         slot_of(self, index)
     }
 }
 
-impl<A: Array> DerefSlice for ArrayVec<A> {
-    type Elem = A::Item;
-
-    ghost deref_gives = { λ v xs. xs ≡ items v };
-
-    fn deref(&self) -> &[A::Item] {
-        self.as_slice()
-    }
-}
-
-impl<A: Array> DerefSliceMut for ArrayVec<A> {
-    ghost use Rattle.tinyvec_array.specs.Lends.{lends_items};
-
-    fn deref_mut(&mut self) -> &mut [A::Item]
-        ensures* writes_back { sem 𝓛 (lends_items A.row A.Item.row A.Array A.Item.Default self.entry result) }
-        ensures value { result.now ≡ items self.old }
-    {
-        self.as_mut_slice()
-    }
-}
-
 // The item is a parameter here and below, so that its lifetime can be named.
-impl<'a, T: Default + Drop + 'a, A: Array<Item = T>> IntoIterator for &'a ArrayVec<A> {
+impl<'a, T: Drop + 'a, S: Slots<Item = T>> IntoIterator for &'a ArrayVec<S> {
     type Item = &'a T;
 
     type IntoIter = slice::Iter<'a, T>;
 
-    ghost into_iter_gives = { λ v it. Iterates (items v.now) it };
+    ghost into_iter_gives = { λ v it. Iterates (items_of S.Slots v.now) it };
 
     fn into_iter(self) -> slice::Iter<'a, T> {
         self.iter()
     }
 }
 
-impl<'a, T: Default + Drop + 'a, A: Array<Item = T>> IntoIterator for &'a mut ArrayVec<A> {
+impl<'a, T: Drop + 'a, S: Slots<Item = T>> IntoIterator for &'a mut ArrayVec<S> {
     ghost use Rattle.tinyvec_array.specs.IterMut.{lends_iter};
+    ghost use Rattle.tinyvec_array.specs.Lends.{with_items_of};
 
     type Item = &'a mut T;
 
     type IntoIter = slice::IterMut<'a, T>;
 
-    ghost into_iter_gives = { λ v it. IteratesMut (items v.now) it };
+    ghost into_iter_gives = { λ v it. IteratesMut (items_of S.Slots v.now) it };
 
     fn into_iter(self) -> slice::IterMut<'a, T>
-        ensures* writes_back { sem 𝓛 (lends_iter A.row T.row A.Array T.Default self.entry result) }
-        ensures into_iter_gives { IteratesMut (items self.old) result }
-        ensures keeps_len { (ws : List T) → items_len (with_items self.old ws) ≡ items_len self.old }
+        ensures* writes_back { sem 𝓛 (lends_iter S.row S.Len.row T.row S.Slots self.entry result) }
+        ensures into_iter_gives { IteratesMut (items_of S.Slots self.old) result }
+        ensures keeps_len { (ws : List T) → len_of S.Slots (with_items_of S.Slots self.old ws) ≡ len_of S.Slots self.old }
     {
         self.iter_mut()
     }
 }
 
-impl<A: Array> IntoIterator for ArrayVec<A> {
-    type Item = A::Item;
-
-    type IntoIter = ArrayVecIterator<A>;
-
-    ghost into_iter_gives = { λ v it. IteratesOver (items v) it };
-
-    fn into_iter(self) -> ArrayVecIterator<A> {
-        into_items(self)
-    }
-}
-
-impl<A: Array> PartialEq for ArrayVec<A>
+impl<S: Slots> PartialEq for ArrayVec<S>
 where
-    A::Item: PartialEq,
+    S::Item: PartialEq,
 {
-    ghost eq = { λ v w. pointwise A.Item.eq (items v) (items w) };
+    ghost eq = { λ v w. pointwise S.Item.eq (items_of S.Slots v) (items_of S.Slots w) };
 
-    ghost laws = { on_per items (lists_per A.Item.laws) };
+    ghost laws = { on_per (items_of S.Slots) (lists_per S.Item.laws) };
 
     fn eq(&self, other: &Self) -> bool {
         eq_slices(self.as_slice(), other.as_slice())
     }
 }
 
-impl<A: Array> Eq for ArrayVec<A>
+impl<S: Slots> Eq for ArrayVec<S>
 where
-    A::Item: Eq,
+    S::Item: Eq,
 {
-    ghost laws = { on_equiv items (lists_equiv A.Item.Eq.laws) };
+    ghost laws = { on_equiv (items_of S.Slots) (lists_equiv S.Item.Eq.laws) };
 }
 
-impl<A: Array> PartialOrd for ArrayVec<A>
+impl<S: Slots> PartialOrd for ArrayVec<S>
 where
-    A::Item: PartialOrd,
+    S::Item: PartialOrd,
 {
-    ghost partial_cmp = { λ v w. slice_partial_cmp A.Item.partial_cmp (items v) (items w) };
+    ghost partial_cmp = { λ v w. slice_partial_cmp S.Item.partial_cmp (items_of S.Slots v) (items_of S.Slots w) };
 
-    ghost laws = { on_po items (lists_po A.Item.PartialOrd.laws) };
+    ghost laws = { on_po (items_of S.Slots) (lists_po S.Item.PartialOrd.laws) };
 
     fn partial_cmp(&self, other: &Self) -> Option<Ordering> {
         partial_cmp_slices(self.as_slice(), other.as_slice())
     }
 }
 
-impl<A: Array> Ord for ArrayVec<A>
+impl<S: Slots> Ord for ArrayVec<S>
 where
-    A::Item: Ord,
+    S::Item: Ord,
 {
-    ghost cmp = { λ v w. slice_cmp A.Item.cmp (items v) (items w) };
+    ghost cmp = { λ v w. slice_cmp S.Item.cmp (items_of S.Slots v) (items_of S.Slots w) };
 
-    ghost total = { on_total items (lists_total A.Item.total) };
+    ghost total = { on_total (items_of S.Slots) (lists_total S.Item.total) };
 
-    ghost matches_partial_cmp = { λ v w. lists_agrees A.Item.matches_partial_cmp (items v) (items w) };
+    ghost matches_partial_cmp = { λ v w. lists_agrees S.Item.matches_partial_cmp (items_of S.Slots v)
+        (items_of S.Slots w) };
 
-    ghost matches_eq = { λ v w. lists_ties A.Item.cmp A.Item.matches_eq (items v) (items w) };
+    ghost matches_eq = { λ v w. lists_ties S.Item.cmp S.Item.matches_eq (items_of S.Slots v) (items_of S.Slots w) };
 
     fn cmp(&self, other: &Self) -> Ordering {
         cmp_slices(self.as_slice(), other.as_slice())
     }
 }
 
-impl<A: Array> Hash for ArrayVec<A>
+impl<S: Slots> Hash for ArrayVec<S>
 where
-    A::Item: Hash,
+    S::Item: Hash,
 {
-    ghost hash_input = { λ v. fed.slice A.Item.hash_input (items v) };
+    ghost hash_input = { λ v. fed.slice S.Item.hash_input (items_of S.Slots v) };
 
-    ghost respects_eq = { (on_Alike items (items_Alike (record { fed = A.Item.respects_eq }))).fed };
+    ghost respects_eq = { (on_Alike (items_of S.Slots) (items_Alike (record { fed = S.Item.respects_eq }))).fed };
 
     fn hash<H: Hasher>(&self, state: &mut H) {
         hash_items(self.as_slice(), state);
     }
 }
 
-impl<A: Array> fmt::Debug for ArrayVec<A>
+impl<S: Slots> fmt::Debug for ArrayVec<S>
 where
-    A::Item: fmt::Debug,
+    S::Item: fmt::Debug,
 {
-    ghost debug_output = { λ v. debug_list A.Item.debug_output (items v) };
+    ghost debug_output = { λ v. debug_list S.Item.debug_output (items_of S.Slots v) };
 
     fn fmt<W: fmt::Write>(&self, f: &mut fmt::Formatter<W>) -> fmt::Result {
         fmt::Debug::fmt(&self.as_slice(), f)
     }
 }
 
-impl<A: Array> fmt::Display for ArrayVec<A>
+impl<S: Slots> fmt::Display for ArrayVec<S>
 where
-    A::Item: fmt::Display,
+    S::Item: fmt::Display,
 {
-    ghost output = { λ v. debug_list A.Item.output (items v) };
+    ghost output = { λ v. debug_list S.Item.output (items_of S.Slots v) };
 
     fn fmt<W: fmt::Write>(&self, f: &mut fmt::Formatter<W>) -> fmt::Result {
         write_items(f, self.as_slice(), &Plain)
     }
 }
 
-impl<A: Array> fmt::Binary for ArrayVec<A>
+impl<S: Slots> fmt::Binary for ArrayVec<S>
 where
-    A::Item: HasDigits + Copy,
+    S::Item: HasDigits + Copy,
 {
     fn fmt<W: fmt::Write>(&self, f: &mut fmt::Formatter<W>) -> fmt::Result
         ensures { DisplaysOnOk W.write_str_gives f.old result
-            (list_in_radix A.Item.word 2 false (items self.now)) f.new }
+            (list_in_radix S.Item.word 2 false (items_of S.Slots self.now)) f.new }
     {
         write_items(f, self.as_slice(), &InBinary)
     }
 }
 
-impl<A: Array> fmt::Octal for ArrayVec<A>
+impl<S: Slots> fmt::Octal for ArrayVec<S>
 where
-    A::Item: HasDigits + Copy,
+    S::Item: HasDigits + Copy,
 {
     fn fmt<W: fmt::Write>(&self, f: &mut fmt::Formatter<W>) -> fmt::Result
         ensures { DisplaysOnOk W.write_str_gives f.old result
-            (list_in_radix A.Item.word 8 false (items self.now)) f.new }
+            (list_in_radix S.Item.word 8 false (items_of S.Slots self.now)) f.new }
     {
         write_items(f, self.as_slice(), &InOctal)
     }
 }
 
-impl<A: Array> fmt::LowerHex for ArrayVec<A>
+impl<S: Slots> fmt::LowerHex for ArrayVec<S>
 where
-    A::Item: HasDigits + Copy,
+    S::Item: HasDigits + Copy,
 {
     fn fmt<W: fmt::Write>(&self, f: &mut fmt::Formatter<W>) -> fmt::Result
         ensures { DisplaysOnOk W.write_str_gives f.old result
-            (list_in_radix A.Item.word 16 false (items self.now)) f.new }
+            (list_in_radix S.Item.word 16 false (items_of S.Slots self.now)) f.new }
     {
         write_items(f, self.as_slice(), &InHex)
     }
 }
 
-impl<A: Array> fmt::UpperHex for ArrayVec<A>
+impl<S: Slots> fmt::UpperHex for ArrayVec<S>
 where
-    A::Item: HasDigits + Copy,
+    S::Item: HasDigits + Copy,
 {
     fn fmt<W: fmt::Write>(&self, f: &mut fmt::Formatter<W>) -> fmt::Result
         ensures { DisplaysOnOk W.write_str_gives f.old result
-            (list_in_radix A.Item.word 16 true (items self.now)) f.new }
+            (list_in_radix S.Item.word 16 true (items_of S.Slots self.now)) f.new }
     {
         write_items(f, self.as_slice(), &InUpperHex)
     }
 }
 
 /// `write_str` appends the whole text. If it does not fit, it fails and changes nothing.
-impl<A: Array<Item = u8>> fmt::Write for ArrayVec<A> {
-    ghost write_str_gives = { λ v bytes w. (items w ≡ items v ++ bytes) × (spare w ≡ drop (length bytes) (spare v)) };
+impl<S: TakesClones<Item = u8>> fmt::Write for ArrayVec<S> {
+    ghost write_str_gives = { λ v bytes w. (items_of S.Slots w ≡ items_of S.Slots v ++ bytes)
+        × (spare_of S.Slots w ≡ drop (length bytes) (spare_of S.Slots v))
+        × (name_of S.Slots w ≡ name_of S.Slots v) };
 
     fn write_str(&mut self, s: &str) -> fmt::Result
-        ensures ok { IsOk result → items self.new ≡ items self.old ++ s.now }
-        ensures spare { OnOk result (spare self.new ≡ drop (length s.now) (spare self.old)) }
-        ensures variant { IsOk result ↔ (items_len self.old + length s.now ≤ A.CAPACITY) }
+        ensures ok { IsOk result → (items_of S.Slots self.new ≡ items_of S.Slots self.old ++ s.now)
+            × (spare_of S.Slots self.new ≡ drop (length s.now) (spare_of S.Slots self.old))
+            × (name_of S.Slots self.new ≡ name_of S.Slots self.old) }
+        ensures spare { OnOk result (spare_of S.Slots self.new ≡ drop (length s.now) (spare_of S.Slots self.old)) }
+        ensures variant { IsOk result
+            ↔ (len_of S.Slots self.old + length s.now ≤ length (slots_of S.Slots self.old)) }
         ensures err { OnErr result (self.new ≡ self.old) }
-        ensures fits { items_len self.new ≤ A.CAPACITY }
+        ensures slot_count { length (slots_of S.Slots self.new) ≡ length (slots_of S.Slots self.old) }
     {
         let bytes = s.as_bytes();
         if bytes.len() > self.capacity() - self.len() {
@@ -263,5 +234,24 @@ impl<A: Array<Item = u8>> fmt::Write for ArrayVec<A> {
             Ok(()) => Ok(()),
             Err(_) => Err(fmt::Error),
         }
+    }
+}
+
+impl<S: Slots> DerefSlice for ArrayVec<S> {
+    type Elem = S::Item;
+
+    ghost deref_gives = { λ v xs. xs ≡ items_of S.Slots v };
+
+    fn deref(&self) -> &[S::Item] {
+        self.as_slice()
+    }
+}
+
+impl<S: Slots> DerefSliceMut for ArrayVec<S> {
+    fn deref_mut(&mut self) -> &mut [S::Item]
+        ensures* writes_back { sem 𝓛 (lends_items S.row S.Len.row S.Item.row S.Slots self.entry result) }
+        ensures value { result.now ≡ items_of S.Slots self.old }
+    {
+        self.as_mut_slice()
     }
 }

@@ -1,6 +1,7 @@
 //! An `ArrayVec` of what can be written and read.
 ghost use Rattle.std.specs.Prelude.{◌<◌, ◌-◌, List, map, IfOk, IfErr};
-ghost use Rattle.tinyvec_slots.specs.Slots.{items, items_len, spare, AreDefaults};
+ghost use Rattle.tinyvec_array.specs.ArrayVec.{items_of, len_of, spare_of};
+ghost use Rattle.tinyvec_slots.specs.Slots.{AreDefaults};
 ghost use Rattle.tinyvec_borsh.specs.Items.{SpellsList, ListFits, ListReason, InItem};
 ghost use Rattle.tinyvec_borsh.specs.Reading.{FailsFor, LeavesRest, ReadsSpelling};
 ghost use Rattle.tinyvec_borsh.specs.ItemsLaws.{list_code, list_apart, list_spelled};
@@ -9,7 +10,7 @@ use super::{read_items, write_list};
 use crate::{BorshDeserialize, BorshError, BorshForm, BorshSerialize};
 use std::alloc::Global;
 use std::io::{Read, Write};
-use tinyvec_array::{Array, ArrayVec};
+use tinyvec_array::{Array, ArrayVec, Slots};
 use tinyvec_io::Counted;
 
 impl<A: Array> BorshForm for ArrayVec<A>
@@ -18,7 +19,7 @@ where
 {
     ghost Content = { List A.Item.Content };
 
-    ghost content_of = { λ v. map A.Item.content_of (items v) };
+    ghost content_of = { λ v. map A.Item.content_of (items_of A.Slots v) };
 
     ghost Spells = { SpellsList A.Item.Spells };
 
@@ -50,13 +51,13 @@ where
         alloc: Global,
         reader: &mut Counted<R>,
     ) -> Result<Self, BorshError>
-        ensures ok { IfOk result (λ v. ReadsSpelling (SpellsList A.Item.Spells (map A.Item.content_of (items v)))
+        ensures ok { IfOk result (λ v. ReadsSpelling (SpellsList A.Item.Spells (map A.Item.content_of (items_of A.Slots v)))
             (R.remaining reader.old.inner) (R.remaining reader.new.inner)) }
         ensures valid { IfOk result (λ v. ListFits A.Item.Spells A.Item.Fits A.CAPACITY
-            (map A.Item.content_of (items v))) }
+            (map A.Item.content_of (items_of A.Slots v))) }
         ensures fails { FailsFor R.remaining (ListReason A.Item.Spells A.Item.Fits A.Item.Reason (λ _. ⊥) A.CAPACITY)
             reader.old reader.new result }
-        ensures spare { IfOk result (λ v. AreDefaults A.Item.is_default (A.CAPACITY - items_len v) (spare v)) }
+        ensures spare { IfOk result (λ v. AreDefaults A.Item.is_default (A.CAPACITY - len_of A.Slots v) (spare_of A.Slots v)) }
         ensures rest { IfErr result (LeavesRest A.Item.Spells
             (InItem A.Item.Spells A.Item.Fits (A.Item.Reason BorshError.InvalidLength) A.CAPACITY) A.CAPACITY
             (R.remaining reader.old.inner) (R.remaining reader.new.inner)) }
@@ -64,7 +65,7 @@ where
         let count = u64::deserialize_reader(alloc, reader)?;
         let len = count.min(A::CAPACITY as u64) as usize;
         let mut array = A::default();
-        read_items(alloc, array.as_slice_mut(), 0, len, reader)?;
+        read_items(alloc, array.all_mut(), 0, len, reader)?;
         if (len as u64) < count {
             A::Item::deserialize_reader(alloc, reader)?;
             return Err(BorshError::InvalidLength);

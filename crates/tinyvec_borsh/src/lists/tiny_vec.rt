@@ -2,7 +2,8 @@
 ghost use Rattle.std.specs.Prelude.{◌≡◌, ◌<◌, ◌≤◌, ◌^◌, ◌-◌, ◌*◌, ◌++◌, ◌⊎◌, ◌↔◌, List, length, map, max, IfOk, OnOk};
 ghost use Rattle.std.specs.List.{AllByRecursion};
 ghost use Rattle.tinyvec_slots.specs.Slots.{AreDefaults};
-ghost use Rattle.tinyvec.specs.TinyVec.{IsInline, PlaceRule, TinySlotRule, tiny_capacity, tiny_items, tiny_len, tiny_spare};
+ghost use Rattle.tinyvec.specs.TinyVec.{IsInline, tiny_capacity, tiny_items_of, tiny_len_of, tiny_spare_of, tiny_view_of};
+ghost use Rattle.tinyvec.specs.View.{PlaceRule, TinySlotRule};
 ghost use Rattle.tinyvec_borsh.specs.Items.{AfterItems, CountsAbove, ListFits, ListReason};
 ghost use Rattle.tinyvec_borsh.specs.Items.{SpellsItems, SpellsList};
 ghost use Rattle.tinyvec_borsh.specs.ItemsLaws.{list_apart, list_code, list_spelled};
@@ -41,7 +42,7 @@ where
 {
     ghost Content = { List A.Item.Content };
 
-    ghost content_of = { λ v. map A.Item.content_of (tiny_items v) };
+    ghost content_of = { λ v. map A.Item.content_of (tiny_items_of A.Slots v) };
 
     ghost Spells = { SpellsList A.Item.Spells };
 
@@ -75,17 +76,17 @@ where
         alloc: Global,
         reader: &mut Counted<R>,
     ) -> Result<Self, BorshError>
-        ensures ok { IfOk result (λ v. ReadsSpelling (SpellsList A.Item.Spells (map A.Item.content_of (tiny_items v)))
+        ensures ok { IfOk result (λ v. ReadsSpelling (SpellsList A.Item.Spells (map A.Item.content_of (tiny_items_of A.Slots v)))
             (R.remaining reader.old.inner) (R.remaining reader.new.inner)) }
         ensures valid { IfOk result (λ v. ListFits A.Item.Spells A.Item.Fits (2 ^ 64 - 1)
-            (map A.Item.content_of (tiny_items v))) }
+            (map A.Item.content_of (tiny_items_of A.Slots v))) }
         ensures fails { FailsFor R.remaining
             (ListReason A.Item.Spells A.Item.Fits A.Item.Reason (CountsAbove A.CAPACITY) (2 ^ 64 - 1))
             reader.old reader.new result }
-        ensures place { IfOk result (λ v. IsInline v ↔ (tiny_len v ≤ A.CAPACITY)) }
+        ensures place { IfOk result (λ v. IsInline v ↔ (tiny_len_of A.Slots v ≤ A.CAPACITY)) }
         ensures spare { IfOk result (λ v. IsInline v
-            → AreDefaults A.Item.is_default (A.CAPACITY - tiny_len v) (tiny_spare v)) }
-        ensures capacity { IfOk result (λ v. tiny_capacity A.CAPACITY v ≤ max A.CAPACITY (2 * tiny_len v)) }
+            → AreDefaults A.Item.is_default (A.CAPACITY - tiny_len_of A.Slots v) (tiny_spare_of A.Slots v)) }
+        ensures capacity { IfOk result (λ v. tiny_capacity A.CAPACITY v ≤ max A.CAPACITY (2 * tiny_len_of A.Slots v)) }
     {
         let count = u64::deserialize_reader(alloc, reader)?;
         let ahead = count.min(items_ahead::<A::Item>() as u64) as usize;
@@ -108,16 +109,16 @@ fn read_more<A: Array, R: Read>(
 ) -> Result<(), BorshError>
 where
     A::Item: BorshDeserialize,
-    requires { tiny_len v.old < count }
-    ensures ok { OnOk result ((xs : List A.Item) × (tiny_items v.new ≡ tiny_items v.old ++ xs)
-        × (0 < length xs) × (tiny_len v.new ≤ count) × AllByRecursion A.Item.Fits (map A.Item.content_of xs)
+    requires { tiny_len_of A.Slots v.old < count }
+    ensures ok { OnOk result ((xs : List A.Item) × (tiny_items_of A.Slots v.new ≡ tiny_items_of A.Slots v.old ++ xs)
+        × (0 < length xs) × (tiny_len_of A.Slots v.new ≤ count) × AllByRecursion A.Item.Fits (map A.Item.content_of xs)
         × ReadsSpelling (SpellsItems A.Item.Spells (map A.Item.content_of xs))
         (R.remaining reader.old.inner) (R.remaining reader.new.inner)) }
-    ensures place { OnOk result (PlaceRule A.CAPACITY (tiny_len v.new) v.old v.new) }
-    ensures slot_rule { OnOk result (TinySlotRule A.Item.is_default v.old v.new) }
+    ensures place { OnOk result (PlaceRule A.CAPACITY (tiny_len_of A.Slots v.new) (tiny_view_of A.Slots v.old) (tiny_view_of A.Slots v.new)) }
+    ensures slot_rule { OnOk result (TinySlotRule A.Item.is_default (tiny_view_of A.Slots v.old) (tiny_view_of A.Slots v.new)) }
     ensures capacity { OnOk result (tiny_capacity A.CAPACITY v.new ≤ max (tiny_capacity A.CAPACITY v.old) (2 * count)) }
     ensures fails { FailsFor R.remaining
-        (λ e input. AfterItems A.Item.Spells A.Item.Fits A.Item.Reason (count - tiny_len v.old) e input
+        (λ e input. AfterItems A.Item.Spells A.Item.Fits A.Item.Reason (count - tiny_len_of A.Slots v.old) e input
         ⊎ ((e ≡ BorshError.Memory) × (tiny_capacity A.CAPACITY v.old < count))) reader.old reader.new result }
 {
     let start = v.len();

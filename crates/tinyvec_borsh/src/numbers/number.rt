@@ -10,7 +10,7 @@ ghost use Rattle.tinyvec_borsh.specs.Writing.{WritesValue};
 use crate::BorshError;
 use crate::bytes::{read_bytes, write_bytes};
 use std::io::{Read, Write};
-use tinyvec_array::Array;
+use tinyvec_array::{Array, Slots};
 use tinyvec_io::Counted;
 
 /// So many bytes are read or written at once.
@@ -27,11 +27,11 @@ pub(crate) trait FixedWidth: Copy {
     ghost form: { NumberForm Self };
 
     fn to_bytes(self) -> Self::Bytes
-        ensures bytes { Self.Bytes.slots result ≡ to_le_bytes form.width (form.to_bits self) }
+        ensures bytes { Self.Bytes.Slots.slots result ≡ to_le_bytes form.width (form.to_bits self) }
         ensures valid { form.Fits self };
 
     fn from_bytes(bytes: Self::Bytes) -> Self
-        ensures { result ≡ form.of_bits (from_le_bytes form.width (Self.Bytes.slots bytes)) };
+        ensures { result ≡ form.of_bits (from_le_bytes form.width (Self.Bytes.Slots.slots bytes)) };
 
     ghost sized: { Self.Bytes.CAPACITY ≡ byte_len form.width };
 }
@@ -104,7 +104,7 @@ pub(super) fn from_slice<T: FixedWidth>(spelling: &[u8]) -> T
     ensures valid { T.form.Fits result }
 {
     let mut bytes = T::Bytes::default();
-    bytes.as_slice_mut().copy_from_slice(spelling);
+    bytes.all_mut().copy_from_slice(spelling);
     T::from_bytes(bytes)
 }
 
@@ -133,6 +133,6 @@ fn encode<T: FixedWidth>(items: &[T], room: &mut [u8; ROOM])
     let width = T::Bytes::CAPACITY;
     for i in 0..items.len() {
         let at = i * width;
-        room[at..at + width].copy_from_slice(items[i].to_bytes().as_slice());
+        room[at..at + width].copy_from_slice(items[i].to_bytes().all());
     }
 }

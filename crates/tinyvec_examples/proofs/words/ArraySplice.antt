@@ -5,51 +5,59 @@ use Rattle.std.specs.declared.iter.Iterator as Iterator
 use Rattle.std.specs.Prelude.{Ok}
 use Rattle.tinyvec_slots.specs.Slots.{SlotRule}
 use Rattle.tinyvec_slots.specs.Touches.{touch_count}
+use Rattle.tinyvec_array.proofs.Named.{array_slots}
+use Rattle.tinyvec_array.specs.ArrayVec.{view}
+use Rattle.tinyvec_array.specs.declared.storage.Slots as Storage
+use Rattle.tinyvec_array.specs.declared.bound.UpTo.{UpTo}
 use Rattle.tinyvec_array.specs.declared.splice.ArrayVecSplice.{ArrayVecSplice}
 use Rattle.tinyvec_array.specs.Splice.{splice_view, splice_front, splice_left, splice_len, splice_back, splice_replacement, splice_touches, splice_slots, splice_lender, SpliceCanStep, SpliceCanNext, SpliceSteps, SpliceStepsBack, SpliceBegins, SpliceEnds}
-use Rattle.tinyvec_examples.proofs.words.Shown.{D, over}
+use Rattle.tinyvec_examples.proofs.words.Shown.{D, array_over}
 
-module _ (A : Type 0) (s t : ArrayVecSplice A (Fuse (List ℕ)) ℕ) (vec : s.vec.now ≡ over (1 ∷ 2 ∷ 3 ∷ 4 ∷ []) (0 ∷ [])) (front : s.gap.front ≡ 1) (next : s.gap.next ≡ 1) (end : s.gap.end ≡ 3) (back : s.gap.back ≡ 3) (touches : touch_count s.gap.touches ≡ 0) where
-  pub example-splice_view : (splice_view s).left ≡ 2 ∷ 3 ∷ []
+-- an array of 5 slots
+abbrev G : Storage.Ghosts (List ℕ) ℕ (UpTo 5)
+G = array_slots 5
+
+module _ (s t : ArrayVecSplice (List ℕ) (Fuse (List ℕ)) ℕ (UpTo 5)) (vec : s.vec.now ≡ array_over (1 ∷ 2 ∷ 3 ∷ 4 ∷ []) (0 ∷ [])) (front : s.gap.front ≡ 1) (next : s.gap.next ≡ 1) (end : s.gap.end ≡ 3) (back : s.gap.back ≡ 3) (touches : touch_count s.gap.touches ≡ 0) where
+  pub example-splice_view : (splice_view G s).left ≡ 2 ∷ 3 ∷ []
   example-splice_view = rw (vec, next, end) refl
 
-  pub example-splice_front : splice_front s ≡ 1 ∷ []
+  pub example-splice_front : splice_front G s ≡ 1 ∷ []
   example-splice_front = rw (vec, front) refl
 
-  pub example-splice_left : splice_left s ≡ 2 ∷ 3 ∷ []
+  pub example-splice_left : splice_left G s ≡ 2 ∷ 3 ∷ []
   example-splice_left = rw (vec, next, end) refl
 
   pub example-splice_len : splice_len s ≡ 2
   example-splice_len = rw (next, end) refl
 
-  pub example-splice_back : splice_back s ≡ 4 ∷ []
+  pub example-splice_back : splice_back G s ≡ 4 ∷ []
   example-splice_back = rw (vec, back) refl
 
   pub example-splice_replacement : splice_replacement s ≡ s.replacement
   example-splice_replacement = refl
 
-  pub example-splice_touches : splice_touches s ≡ 0
+  pub example-splice_touches : splice_touches G s ≡ 0
   example-splice_touches = touches
 
-  pub example-splice_slots : splice_slots s ≡ over (1 ∷ 2 ∷ 3 ∷ 4 ∷ []) (0 ∷ [])
+  pub example-splice_slots : splice_slots s ≡ array_over (1 ∷ 2 ∷ 3 ∷ 4 ∷ []) (0 ∷ [])
   example-splice_slots = vec
 
   pub example-splice_lender : splice_lender s ≡ s.vec.ghost_name
   example-splice_lender = refl
 
-  pub example-SpliceCanStep : SpliceCanStep s → splice_len s ≤ 4
+  pub example-SpliceCanStep : SpliceCanStep G s → splice_len s ≤ 4
   example-SpliceCanStep h = search rules
 
-  pub example-SpliceCanNext : (can : List ℕ → Type 0) → SpliceCanNext can s → SpliceCanStep s
+  pub example-SpliceCanNext : (can : List ℕ → Type 0) → SpliceCanNext G can s → SpliceCanStep G s
   example-SpliceCanNext can h = h.0
 
-  pub example-SpliceSteps : (gives : Fuse (List ℕ) → Option ℕ → Fuse (List ℕ) → Type 0) → SpliceSteps gives s (Some 2) t → splice_left s ≡ 2 ∷ splice_left t
+  pub example-SpliceSteps : (gives : Fuse (List ℕ) → Option ℕ → Fuse (List ℕ) → Type 0) → SpliceSteps G gives s (Some 2) t → splice_left G s ≡ 2 ∷ splice_left G t
   example-SpliceSteps gives h = h.0.left
 
-  pub example-SpliceStepsBack : (gives : Fuse (List ℕ) → Option ℕ → Fuse (List ℕ) → Type 0) → SpliceStepsBack gives s (Some 3) t → splice_left s ≡ splice_left t ++ 3 ∷ []
+  pub example-SpliceStepsBack : (gives : Fuse (List ℕ) → Option ℕ → Fuse (List ℕ) → Type 0) → SpliceStepsBack G gives s (Some 3) t → splice_left G s ≡ splice_left G t ++ 3 ∷ []
   example-SpliceStepsBack gives h = h.0.left
 
-  pub example-SpliceBegins : SpliceBegins (1 ∷ []) (2 ∷ 3 ∷ []) (4 ∷ []) s
+  pub example-SpliceBegins : SpliceBegins G (1 ∷ []) (2 ∷ 3 ∷ []) (4 ∷ []) s
   example-SpliceBegins = record {
     front = example-splice_front;
     left = example-splice_left;
@@ -58,5 +66,5 @@ module _ (A : Type 0) (s t : ArrayVecSplice A (Fuse (List ℕ)) ℕ) (vec : s.ve
     touches = touches;
   }
 
-  pub example-SpliceEnds : (iter : Iterator.Ghosts (List ℕ) ℕ) → SpliceEnds D 5 iter s (Ok tt) (over (1 ∷ 7 ∷ 4 ∷ []) (0 ∷ 0 ∷ [])) → SlotRule D (splice_slots s) (over (1 ∷ 7 ∷ 4 ∷ []) (0 ∷ 0 ∷ []))
-  example-SpliceEnds iter h = h.slot_rule
+  pub example-SpliceEnds : (iter : Iterator.Ghosts (List ℕ) ℕ) → SpliceEnds G D iter s (Ok tt) (array_over (1 ∷ 7 ∷ 4 ∷ []) (0 ∷ 0 ∷ [])) → SlotRule D (view (splice_slots s)) (view (array_over (1 ∷ 7 ∷ 4 ∷ []) (0 ∷ 0 ∷ [])))
+  example-SpliceEnds iter h = h.changes.slot_rule

@@ -1,7 +1,7 @@
 -- Examples of clones, one of which was refused.
 use Rattle.std.proofs.Common.{[], ◌∷◌, refl, rules, arith}
 use Rattle.std.specs.Prelude.{⊤, ℕ, Ok}
-use Rattle.tinyvec_slots.specs.Clones.{ClonesAreEqual, AreClones, RefusedAt, ClonesOver, AddsClones, AppendsAllOrNone, ResizesByClones, ClonesBefore, CutsToClones, ClonesInPart}
+use Rattle.tinyvec_slots.specs.Clones.{ClonesAreEqual, AreClones, RefusedAt, ClonesOver, ClonesOverFrom, WritesClones, AddsClones, AppendsAllOrNone, ResizesByClones, ClonesBefore, CutsToClones, ClonesInPart}
 use Rattle.tinyvec_examples.proofs.words.Shown.{D, C, I, over}
 
 pub example-ClonesAreEqual : ClonesAreEqual C
@@ -20,6 +20,17 @@ example-ClonesOver = record {
   count = refl;
   written = refl;
 }
+
+pub example-ClonesOverFrom : ClonesOverFrom C 1 (7 ∷ 8 ∷ []) 2 (1 ∷ 0 ∷ 0 ∷ 3 ∷ []) (1 ∷ 7 ∷ 8 ∷ 3 ∷ [])
+example-ClonesOverFrom = record {
+  made = 7 ∷ 8 ∷ [];
+  clones = (refl, (refl, tt));
+  count = refl;
+  written = refl;
+}
+
+pub example-WritesClones : WritesClones {R = ℕ} {E = ℕ} (record { is_clone = C; is_infallible = I }) (λ xs n. ClonesOver C xs n (0 ∷ 0 ∷ 0 ∷ []) (7 ∷ 8 ∷ 0 ∷ [])) (7 ∷ 8 ∷ []) (Ok 0)
+example-WritesClones = record { ok = example-ClonesOver; refused = tt; succeeds = λ _. refl }
 
 pub example-AddsClones : AddsClones {R = ℕ} {E = ℕ} (record { is_clone = C; is_infallible = I }) (7 ∷ 8 ∷ []) (Ok 0) (over (1 ∷ []) (0 ∷ 0 ∷ 3 ∷ [])) (over (1 ∷ 7 ∷ 8 ∷ []) (3 ∷ []))
 example-AddsClones = record {

@@ -2,10 +2,9 @@
 use Rattle.std.proofs.Common.{◌≡◌, ℕ, List, [], ◌∷◌, ◌++◌, Ok, Result, false, true, ap, sym, refl, rules}
 use Rattle.std.proofs.lemmas.Str.{chars-nil}
 use Rattle.std.specs.Prelude.{All, chars}
-use Rattle.tinyvec.specs.declared.tiny_vec.TinyVec.{TinyVec}
 use Rattle.tinyvec.specs.View.{in_array, on_heap, lies_inline, capacity_in}
 use Rattle.tinyvec.specs.TinyVec.{tiny_items, tiny_spare}
-use Rattle.tinyvec_text.specs.InlineText.{Text, text_of, text_chars, text_len, IsText, TextStaysInPlace, TextBecomes, TextKeepsFront, TextMakesRoom, TextReserves, TextShrinks, TextExtends, TextMadeFor, TextCollects, IsTextTail, IsBoundary, empty_text, place_after, place_after_chars, place_after_texts}
+use Rattle.tinyvec_text.specs.InlineText.{Text, Bytes, text_of, text_chars, text_len, IsText, TextStaysInPlace, TextBecomes, TextKeepsFront, TextMakesRoom, TextReserves, TextShrinks, TextExtends, TextMadeFor, TextCollects, IsTextTail, IsBoundary, empty_text, place_after, place_after_chars, place_after_texts}
 
 -- these bytes, in the value
 abbrev pub inline : List ℕ → Text
@@ -18,7 +17,7 @@ done = Ok _
 pub example-Text : (inline (97 ∷ 98 ∷ [])).place ≡ in_array
 example-Text = refl
 
-pub example-text_of : {A : Type 0} (v : TinyVec A ℕ) → tiny_items v ≡ 97 ∷ 98 ∷ [] → (text_of v).bytes ≡ 97 ∷ 98 ∷ []
+pub example-text_of : (v : Bytes 4) → tiny_items v ≡ 97 ∷ 98 ∷ [] → (text_of v).bytes ≡ 97 ∷ 98 ∷ []
 example-text_of v list = list
 
 pub example-lies_inline : lies_inline (on_heap 8) ≡ false
@@ -36,7 +35,7 @@ example-text_chars = refl
 pub example-IsBoundary : IsBoundary (97 ∷ 98 ∷ []) 0
 example-IsBoundary = ([], 97 ∷ 98 ∷ [], refl, search rules)
 
-pub example-IsText : {A : Type 0} (v : TinyVec A ℕ) → IsText v → All (λ b. b ≡ 0) (tiny_spare v)
+pub example-IsText : (v : Bytes 4) → IsText v → All (λ b. b ≡ 0) (tiny_spare v)
 example-IsText v h = h.1
 
 pub example-TextStaysInPlace : TextStaysInPlace 4 (inline (97 ∷ 98 ∷ [])) (inline (97 ∷ []))

@@ -2,13 +2,14 @@
 use Rattle.std.proofs.Common.{◌≡◌, ℕ, List, [], ◌∷◌, drop, refl, rules, ◌∙◌, sym, ap}
 use Rattle.tinyvec_slots.specs.Slots.{items as items_in, spare as spare_in}
 use Rattle.std.specs.Borrow.{MutBor}
-use Rattle.tinyvec_slice.specs.declared.lent.Lent as Lent
-use Rattle.tinyvec_slice.specs.declared.slice_vec.GenericSliceVec.{GenericSliceVec}
-use Rattle.tinyvec_slice.specs.SliceVec.{view, items, spare, name, view_of, items_of, spare_of, len_of, slots_of, name_of, SameLender, Gains, Loses, Grows, Shortens, Changes}
-use Rattle.tinyvec_slice.specs.CutLaws.{CutOf}
+use Rattle.tinyvec_array.specs.declared.storage.Slots as Storage
+use Rattle.tinyvec_array.specs.declared.array_vec.ArrayVec.{ArrayVec}
+use Rattle.tinyvec_array.specs.ArrayVec.{view_of, items_of, spare_of, len_of, slots_of, name_of, SameLender, Gains, Loses, Grows, Shortens, Changes}
+use Rattle.tinyvec_array.specs.SliceVec.{view, items, spare, slots, name}
+use Rattle.tinyvec_array.specs.CutLaws.{CutOf}
 use Rattle.tinyvec_examples.proofs.words.Shown.{D, over}
 
-module _ (v : GenericSliceVec (MutBor (List ℕ)) ℕ) (lent : v.lent.now ≡ 1 ∷ 2 ∷ 0 ∷ []) (len : v.len ≡ 2) where
+module _ (v : ArrayVec (MutBor (List ℕ)) ℕ) (lent : v.slots.now ≡ 1 ∷ 2 ∷ 0 ∷ []) (len : v.len ≡ 2) where
   pub example-view : view v ≡ over (1 ∷ 2 ∷ []) (0 ∷ [])
   example-view = rw (lent, len) refl
 
@@ -18,10 +19,13 @@ module _ (v : GenericSliceVec (MutBor (List ℕ)) ℕ) (lent : v.lent.now ≡ 1 
   pub example-spare : spare v ≡ 0 ∷ []
   example-spare = rw (lent, len) refl
 
-  pub example-name : name v ≡ v.lent.ghost_name
+  pub example-slots : slots v ≡ 1 ∷ 2 ∷ 0 ∷ []
+  example-slots = lent
+
+  pub example-name : name v ≡ v.slots.ghost_name
   example-name = refl
 
-module _ {B : Type 0} (g : Lent.Ghosts B ℕ) (v : GenericSliceVec B ℕ) (lent : g.slots v.lent ≡ 1 ∷ 2 ∷ 0 ∷ []) (len : v.len ≡ 2) where
+module _ {B L : Type 0} (g : Storage.Ghosts B ℕ L) (v : ArrayVec B L) (lent : g.slots v.slots ≡ 1 ∷ 2 ∷ 0 ∷ []) (len : g.count v.len ≡ 2) where
   pub example-view_of : view_of g v ≡ over (1 ∷ 2 ∷ []) (0 ∷ [])
   example-view_of = rw (lent, len) refl
 
@@ -37,26 +41,26 @@ module _ {B : Type 0} (g : Lent.Ghosts B ℕ) (v : GenericSliceVec B ℕ) (lent 
   pub example-slots_of : slots_of g v ≡ 1 ∷ 2 ∷ 0 ∷ []
   example-slots_of = lent
 
-  pub example-name_of : name_of g v ≡ g.name v.lent
+  pub example-name_of : name_of g v ≡ g.name v.slots
   example-name_of = refl
 
   pub example-SameLender : SameLender g v v
   example-SameLender = record { same_reference = refl; slot_count = refl }
 
-  pub example-Gains : (w : GenericSliceVec B ℕ) → SameLender g v w → view_of g w ≡ over (1 ∷ 2 ∷ 7 ∷ []) [] → Gains g 1 v w (1 ∷ 2 ∷ 7 ∷ [])
+  pub example-Gains : (w : ArrayVec B L) → SameLender g v w → view_of g w ≡ over (1 ∷ 2 ∷ 7 ∷ []) [] → Gains g 1 v w (1 ∷ 2 ∷ 7 ∷ [])
   example-Gains w same after = record { lender = same; items = ap items_in after; spare = ap spare_in after ∙ ap (drop 1) (sym example-spare_of) }
 
-  pub example-Loses : (w : GenericSliceVec B ℕ) → SameLender g v w → view_of g w ≡ over (1 ∷ []) (0 ∷ 0 ∷ []) → Loses g D 1 v w (1 ∷ [])
+  pub example-Loses : (w : ArrayVec B L) → SameLender g v w → view_of g w ≡ over (1 ∷ []) (0 ∷ 0 ∷ []) → Loses g D 1 v w (1 ∷ [])
   example-Loses w same after = record { lender = same; items = ap items_in after; spare = (0 ∷ [], search rules, ap spare_in after ∙ ap (λ xs. 0 ∷ xs) (sym example-spare_of)) }
 
-  pub example-Grows : (w : GenericSliceVec B ℕ) → Grows g v w → SameLender g v w
+  pub example-Grows : (w : ArrayVec B L) → Grows g v w → SameLender g v w
   example-Grows w h = h.lender
 
-  pub example-Shortens : (w : GenericSliceVec B ℕ) → Shortens g D v w → SameLender g v w
+  pub example-Shortens : (w : ArrayVec B L) → Shortens g D v w → SameLender g v w
   example-Shortens w h = h.lender
 
-  pub example-Changes : (w : GenericSliceVec B ℕ) → Changes g D v w → SameLender g v w
+  pub example-Changes : (w : ArrayVec B L) → Changes g D v w → SameLender g v w
   example-Changes w h = h.lender
 
-  pub example-CutOf : (w : GenericSliceVec B ℕ) → CutOf g D v w → name_of g w ≡ name_of g v
+  pub example-CutOf : (w : ArrayVec B L) → CutOf g D v w → name_of g w ≡ name_of g v
   example-CutOf w h = h.0

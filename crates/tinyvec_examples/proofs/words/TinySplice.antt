@@ -3,6 +3,9 @@ use Rattle.std.proofs.Common.{◌≡◌, ℕ, ◌≤◌, List, [], ◌∷◌, �
 use Rattle.std.specs.declared.iter.Fuse.{Fuse}
 use Rattle.std.specs.declared.iter.Iterator as Iterator
 use Rattle.tinyvec_slots.specs.Touches.{touch_count}
+use Rattle.tinyvec_array.proofs.Named.{array_slots}
+use Rattle.tinyvec_array.specs.declared.storage.Slots as Storage
+use Rattle.tinyvec_array.specs.declared.bound.UpTo.{UpTo}
 use Rattle.tinyvec.specs.declared.splice.TinyVecSplice.{TinyVecSplice}
 use Rattle.tinyvec.specs.TinyVecSplice.{splice_view, splice_front, splice_left, splice_len, splice_back, splice_replacement, splice_touches, splice_vec, splice_lender, SpliceBegins, SpliceCanStep, SpliceCanNext, SpliceSteps, SpliceStepsBack, SpliceEnds}
 use Rattle.tinyvec.specs.TinyVec.{tiny_items, tiny_len, tiny_capacity}
@@ -10,26 +13,30 @@ use Rattle.tinyvec_examples.proofs.words.Shown.{D}
 use Rattle.tinyvec.specs.declared.tiny_vec.TinyVec.{TinyVec}
 use Rattle.tinyvec_slots.specs.declared.no_room.SpliceRest.{SpliceRest}
 
-module _ (A : Type 0) (s t : TinyVecSplice A (Fuse (List ℕ)) ℕ) (vec : tiny_items s.vec.now ≡ 1 ∷ 2 ∷ 3 ∷ 4 ∷ []) (front : s.gap.front ≡ 1) (next : s.gap.next ≡ 1) (end : s.gap.end ≡ 3) (back : s.gap.back ≡ 3) (touches : touch_count s.gap.touches ≡ 0) where
-  pub example-splice_view : (splice_view s).left ≡ 2 ∷ 3 ∷ []
+-- an array of 4 slots
+abbrev G : Storage.Ghosts (List ℕ) ℕ (UpTo 4)
+G = array_slots 4
+
+module _ (s t : TinyVecSplice (List ℕ) (Fuse (List ℕ)) ℕ (UpTo 4)) (vec : tiny_items s.vec.now ≡ 1 ∷ 2 ∷ 3 ∷ 4 ∷ []) (front : s.gap.front ≡ 1) (next : s.gap.next ≡ 1) (end : s.gap.end ≡ 3) (back : s.gap.back ≡ 3) (touches : touch_count s.gap.touches ≡ 0) where
+  pub example-splice_view : (splice_view G s).left ≡ 2 ∷ 3 ∷ []
   example-splice_view = rw (vec, next, end) refl
 
-  pub example-splice_front : splice_front s ≡ 1 ∷ []
+  pub example-splice_front : splice_front G s ≡ 1 ∷ []
   example-splice_front = rw (vec, front) refl
 
-  pub example-splice_left : splice_left s ≡ 2 ∷ 3 ∷ []
+  pub example-splice_left : splice_left G s ≡ 2 ∷ 3 ∷ []
   example-splice_left = rw (vec, next, end) refl
 
   pub example-splice_len : splice_len s ≡ 2
   example-splice_len = rw (next, end) refl
 
-  pub example-splice_back : splice_back s ≡ 4 ∷ []
+  pub example-splice_back : splice_back G s ≡ 4 ∷ []
   example-splice_back = rw (vec, back) refl
 
   pub example-splice_replacement : splice_replacement s ≡ s.replacement
   example-splice_replacement = refl
 
-  pub example-splice_touches : splice_touches s ≡ 0
+  pub example-splice_touches : splice_touches G s ≡ 0
   example-splice_touches = touches
 
   pub example-splice_vec : tiny_items (splice_vec s) ≡ 1 ∷ 2 ∷ 3 ∷ 4 ∷ []
@@ -38,7 +45,7 @@ module _ (A : Type 0) (s t : TinyVecSplice A (Fuse (List ℕ)) ℕ) (vec : tiny_
   pub example-splice_lender : splice_lender s ≡ s.vec.ghost_name
   example-splice_lender = refl
 
-  pub example-SpliceBegins : SpliceBegins (1 ∷ []) (2 ∷ 3 ∷ []) (4 ∷ []) s
+  pub example-SpliceBegins : SpliceBegins G (1 ∷ []) (2 ∷ 3 ∷ []) (4 ∷ []) s
   example-SpliceBegins = record {
     front = example-splice_front;
     left = example-splice_left;
@@ -47,18 +54,18 @@ module _ (A : Type 0) (s t : TinyVecSplice A (Fuse (List ℕ)) ℕ) (vec : tiny_
     touches = example-splice_touches;
   }
 
-  pub example-SpliceCanStep : SpliceCanStep s → splice_len s ≤ 4
+  pub example-SpliceCanStep : SpliceCanStep G s → splice_len s ≤ 4
   example-SpliceCanStep h = search rules
 
-  pub example-SpliceCanNext : (can : List ℕ → Type 0) → SpliceCanNext can s → SpliceCanStep s
+  pub example-SpliceCanNext : (can : List ℕ → Type 0) → SpliceCanNext G can s → SpliceCanStep G s
   example-SpliceCanNext can h = h.0
 
-  pub example-SpliceEnds : (iter : Iterator.Ghosts (List ℕ) ℕ) (r : Result Unit (SpliceRest ℕ (Fuse (List ℕ)))) (v : TinyVec A ℕ)
-      → SpliceEnds D 4 iter s r v → tiny_len v ≤ tiny_capacity 4 v
+  pub example-SpliceEnds : (iter : Iterator.Ghosts (List ℕ) ℕ) (r : Result Unit (SpliceRest ℕ (Fuse (List ℕ)))) (v : TinyVec (List ℕ) ℕ (UpTo 4))
+      → SpliceEnds G D 4 iter s r v → tiny_len v ≤ tiny_capacity 4 v
   example-SpliceEnds iter r v h = h.finished.fits
 
-  pub example-SpliceSteps : (gives : Fuse (List ℕ) → Option ℕ → Fuse (List ℕ) → Type 0) → SpliceSteps gives s (Some 2) t → splice_left s ≡ 2 ∷ splice_left t
+  pub example-SpliceSteps : (gives : Fuse (List ℕ) → Option ℕ → Fuse (List ℕ) → Type 0) → SpliceSteps G gives s (Some 2) t → splice_left G s ≡ 2 ∷ splice_left G t
   example-SpliceSteps gives h = h.0.left
 
-  pub example-SpliceStepsBack : (gives : Fuse (List ℕ) → Option ℕ → Fuse (List ℕ) → Type 0) → SpliceStepsBack gives s (Some 3) t → splice_left s ≡ splice_left t ++ 3 ∷ []
+  pub example-SpliceStepsBack : (gives : Fuse (List ℕ) → Option ℕ → Fuse (List ℕ) → Type 0) → SpliceStepsBack G gives s (Some 3) t → splice_left G s ≡ splice_left G t ++ 3 ∷ []
   example-SpliceStepsBack gives h = h.0.left

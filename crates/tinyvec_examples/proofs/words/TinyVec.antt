@@ -1,37 +1,51 @@
 -- Examples of a `TinyVec` whose array has four slots. `inline xs ys` has the list xs in the array, and the spare slots ys.
-use Rattle.std.proofs.Common.{◌≡◌, ℕ, List, [], ◌∷◌, ◌++◌, Ok, Option, Result, true, false, refl, rules, arith}
+use Rattle.std.proofs.Common.{◌≡◌, ℕ, List, [], ◌∷◌, ◌++◌, length, Ok, Option, Result, true, false, refl, rules, arith}
 use Rattle.std.specs.Global.{Global}
+use Rattle.tinyvec_array.specs.declared.bound.UpTo.{UpTo}
+use Rattle.tinyvec_array.specs.UpTo.{up_to}
+use Rattle.tinyvec_array.specs.declared.storage.Slots as Storage
+use Rattle.tinyvec_array.proofs.Named.{array_slots}
 use Rattle.tinyvec.specs.declared.tiny_vec.TinyVec.{TinyVec}
 use Rattle.tinyvec.specs.declared.tiny_vec.TinyVec.TheVariants.{Inline}
-use Rattle.tinyvec.specs.TinyVec.{tiny_items, tiny_len, tiny_spare, is_inline, IsInline, HoldsInline, IsNew, tiny_capacity, tiny_allocator, SameFrame, Becomes, StaysInPlace, ShortensInPlace, IsTail, Unchanged, IsTinyClone, IsTinyInfallible, PlaceRule, tiny_view}
+use Rattle.tinyvec.specs.TinyVec.{tiny_items, tiny_items_of, tiny_len_of, tiny_spare, tiny_spare_of, is_inline, IsInline, tiny_capacity, tiny_allocator, tiny_view, tiny_view_of}
+use Rattle.tinyvec.specs.View.{HoldsInline, IsNew, SameFrame, Becomes, StaysInPlace, ShortensInPlace, IsTail, Unchanged, IsTinyClone, IsTinyInfallible, PlaceRule, in_array}
 use Rattle.tinyvec.specs.Room.{Collects, Doubles, GrowsFor, Grows, RoomGrows, MadeFor, GrowsExactly, MakesRoom, MovesToHeap, MovesToHeapWithRoom}
-use Rattle.tinyvec.specs.View.{in_array}
 use Rattle.tinyvec.specs.Refused.{RefusedFor, ClonesBehind, ClonesRefused}
 use Rattle.tinyvec.specs.Following.{PushesItems}
 use Rattle.tinyvec_slots.specs.Filling.{IntoIterYields}
 use Rattle.tinyvec_slots.specs.declared.no_room.NoRoom.{NoRoom}
 use Rattle.tinyvec.specs.Lends.{tiny_with_items, tiny_with_item}
 use Rattle.tinyvec.specs.TinyVecSplice.{items_moved}
-use Rattle.tinyvec_examples.proofs.words.Shown.{D, C, I, over}
+use Rattle.tinyvec_examples.proofs.words.Shown.{D, C, I}
+
+-- an array of four slots
+abbrev G : Storage.Ghosts (List ℕ) ℕ (UpTo 4)
+G = array_slots 4
 
 abbrev pub done : Result Unit Unit
 done = Ok _
 
-module _ (A : Type 0) (alloc : Global) where
-  abbrev pub inline : List ℕ → List ℕ → TinyVec A ℕ
-  inline xs ys = Inline (over xs ys) alloc
+module _ (alloc : Global) where
+  abbrev pub inline : List ℕ → List ℕ → TinyVec (List ℕ) ℕ (UpTo 4)
+  inline xs ys = Inline (record { slots = xs ++ ys; len = up_to 4 (length xs) }) alloc
 
   pub example-tiny_items : tiny_items (inline (1 ∷ 2 ∷ []) (0 ∷ 0 ∷ [])) ≡ 1 ∷ 2 ∷ []
   example-tiny_items = refl
 
-  pub example-tiny_view : tiny_view (inline (1 ∷ []) (0 ∷ [])) ≡ record { items = 1 ∷ []; spare = 0 ∷ []; place = in_array }
-  example-tiny_view = refl
+  pub example-tiny_items_of : tiny_items_of G (inline (1 ∷ 2 ∷ []) (0 ∷ 0 ∷ [])) ≡ 1 ∷ 2 ∷ []
+  example-tiny_items_of = refl
 
-  pub example-tiny_len : tiny_len (inline (1 ∷ 2 ∷ []) (0 ∷ 0 ∷ [])) ≡ 2
-  example-tiny_len = refl
+  pub example-tiny_view_of : tiny_view_of G (inline (1 ∷ []) (0 ∷ 0 ∷ 0 ∷ [])) ≡ record { items = 1 ∷ []; spare = 0 ∷ 0 ∷ 0 ∷ []; place = in_array }
+  example-tiny_view_of = refl
+
+  pub example-tiny_len_of : tiny_len_of G (inline (1 ∷ 2 ∷ []) (0 ∷ 0 ∷ [])) ≡ 2
+  example-tiny_len_of = refl
 
   pub example-tiny_spare : tiny_spare (inline (1 ∷ 2 ∷ []) (0 ∷ 0 ∷ [])) ≡ 0 ∷ 0 ∷ []
   example-tiny_spare = refl
+
+  pub example-tiny_spare_of : tiny_spare_of G (inline (1 ∷ 2 ∷ []) (0 ∷ 0 ∷ [])) ≡ 0 ∷ 0 ∷ []
+  example-tiny_spare_of = refl
 
   pub example-is_inline : is_inline (inline (1 ∷ 2 ∷ []) (0 ∷ 0 ∷ [])) ≡ true
   example-is_inline = refl
@@ -39,10 +53,10 @@ module _ (A : Type 0) (alloc : Global) where
   pub example-IsInline : IsInline (inline (1 ∷ 2 ∷ []) (0 ∷ 0 ∷ []))
   example-IsInline = search rules
 
-  pub example-HoldsInline : HoldsInline (1 ∷ 2 ∷ []) (0 ∷ 0 ∷ []) (inline (1 ∷ 2 ∷ []) (0 ∷ 0 ∷ []))
+  pub example-HoldsInline : HoldsInline (1 ∷ 2 ∷ []) (0 ∷ 0 ∷ []) (tiny_view (inline (1 ∷ 2 ∷ []) (0 ∷ 0 ∷ [])))
   example-HoldsInline = search rules
 
-  pub example-IsNew : IsNew D 2 (inline [] (0 ∷ 0 ∷ []))
+  pub example-IsNew : IsNew D 2 (tiny_view (inline [] (0 ∷ 0 ∷ [])))
   example-IsNew = record { items = refl; spare = search rules; place = search rules }
 
   pub example-tiny_capacity : tiny_capacity 4 (inline (1 ∷ 2 ∷ []) (0 ∷ 0 ∷ [])) ≡ 4
@@ -51,10 +65,10 @@ module _ (A : Type 0) (alloc : Global) where
   pub example-tiny_allocator : tiny_allocator (inline (1 ∷ 2 ∷ []) (0 ∷ 0 ∷ [])) ≡ alloc
   example-tiny_allocator = refl
 
-  pub example-SameFrame : SameFrame (inline (1 ∷ 2 ∷ []) (0 ∷ 0 ∷ [])) (inline (2 ∷ 1 ∷ []) (0 ∷ 0 ∷ []))
+  pub example-SameFrame : SameFrame (tiny_view (inline (1 ∷ 2 ∷ []) (0 ∷ 0 ∷ []))) (tiny_view (inline (2 ∷ 1 ∷ []) (0 ∷ 0 ∷ [])))
   example-SameFrame = search rules
 
-  pub example-Becomes : Becomes D 4 (inline (1 ∷ 2 ∷ []) (7 ∷ 8 ∷ [])) (inline (1 ∷ []) (0 ∷ 7 ∷ 8 ∷ [])) (1 ∷ [])
+  pub example-Becomes : Becomes D 4 (tiny_view (inline (1 ∷ 2 ∷ []) (7 ∷ 8 ∷ []))) (tiny_view (inline (1 ∷ []) (0 ∷ 7 ∷ 8 ∷ []))) (1 ∷ [])
   example-Becomes = record {
     items = refl;
     place = refl;
@@ -63,10 +77,10 @@ module _ (A : Type 0) (alloc : Global) where
     fits = omega arith;
   }
 
-  pub example-StaysInPlace : StaysInPlace D 4 (inline (1 ∷ 2 ∷ []) (7 ∷ 8 ∷ [])) (inline (1 ∷ []) (0 ∷ 7 ∷ 8 ∷ []))
+  pub example-StaysInPlace : StaysInPlace D 4 (tiny_view (inline (1 ∷ 2 ∷ []) (7 ∷ 8 ∷ []))) (tiny_view (inline (1 ∷ []) (0 ∷ 7 ∷ 8 ∷ [])))
   example-StaysInPlace = example-Becomes
 
-  pub example-ShortensInPlace : ShortensInPlace D 4 (inline (1 ∷ 2 ∷ []) (7 ∷ 8 ∷ [])) (inline (2 ∷ []) (0 ∷ 7 ∷ 8 ∷ []))
+  pub example-ShortensInPlace : ShortensInPlace D 4 (tiny_view (inline (1 ∷ 2 ∷ []) (7 ∷ 8 ∷ []))) (tiny_view (inline (2 ∷ []) (0 ∷ 7 ∷ 8 ∷ [])))
   example-ShortensInPlace = record {
     bound = omega arith;
     place = refl;
@@ -75,7 +89,7 @@ module _ (A : Type 0) (alloc : Global) where
     fits = omega arith;
   }
 
-  pub example-IsTail : IsTail D 4 1 (inline (1 ∷ 2 ∷ []) (7 ∷ 8 ∷ [])) (inline (2 ∷ []) (0 ∷ 0 ∷ 0 ∷ []))
+  pub example-IsTail : IsTail D 4 1 (tiny_view (inline (1 ∷ 2 ∷ []) (7 ∷ 8 ∷ []))) (tiny_view (inline (2 ∷ []) (0 ∷ 0 ∷ 0 ∷ [])))
   example-IsTail = record {
     items = refl;
     place = refl;
@@ -84,54 +98,54 @@ module _ (A : Type 0) (alloc : Global) where
     fits = omega arith;
   }
 
-  pub example-Unchanged : Unchanged (inline (1 ∷ []) (0 ∷ 0 ∷ 0 ∷ [])) (inline (1 ∷ []) (0 ∷ 0 ∷ 0 ∷ []))
+  pub example-Unchanged : Unchanged (tiny_view (inline (1 ∷ []) (0 ∷ 0 ∷ 0 ∷ []))) (tiny_view (inline (1 ∷ []) (0 ∷ 0 ∷ 0 ∷ [])))
   example-Unchanged = search rules
 
-  pub example-tiny_with_items : tiny_with_items (inline (1 ∷ 2 ∷ []) (0 ∷ 0 ∷ [])) (3 ∷ 4 ∷ []) ≡ inline (3 ∷ 4 ∷ []) (0 ∷ 0 ∷ [])
+  pub example-tiny_with_items : tiny_with_items G (inline (1 ∷ 2 ∷ []) (0 ∷ 0 ∷ [])) (3 ∷ 4 ∷ []) ≡ inline (3 ∷ 4 ∷ []) (0 ∷ 0 ∷ [])
   example-tiny_with_items = refl
 
   -- of tinyvec.specs.Lends: `inline [1, 2] [0, 0]` lent by `lends_items`, by a reference that shows `[3, 4]` last
-  pub example-lends_items : tiny_with_items (inline (1 ∷ 2 ∷ []) (0 ∷ 0 ∷ [])) (3 ∷ 4 ∷ []) ≡ inline (3 ∷ 4 ∷ []) (0 ∷ 0 ∷ [])
+  pub example-lends_items : tiny_with_items G (inline (1 ∷ 2 ∷ []) (0 ∷ 0 ∷ [])) (3 ∷ 4 ∷ []) ≡ inline (3 ∷ 4 ∷ []) (0 ∷ 0 ∷ [])
   example-lends_items = refl
 
   -- of tinyvec.specs.IterMut: `inline [1, 2] [0, 0]` lent by `lends_iter`, to a loop that leaves `[3, 4]`
-  pub example-lends_iter : tiny_with_items (inline (1 ∷ 2 ∷ []) (0 ∷ 0 ∷ [])) (3 ∷ 4 ∷ []) ≡ inline (3 ∷ 4 ∷ []) (0 ∷ 0 ∷ [])
+  pub example-lends_iter : tiny_with_items G (inline (1 ∷ 2 ∷ []) (0 ∷ 0 ∷ [])) (3 ∷ 4 ∷ []) ≡ inline (3 ∷ 4 ∷ []) (0 ∷ 0 ∷ [])
   example-lends_iter = refl
 
   -- of tinyvec.specs.Lends: `inline [1, 2] [0, 0]` lent by `lends_item` at 1, by a reference that shows 7 last
-  pub example-lends_item : tiny_with_item (inline (1 ∷ 2 ∷ []) (0 ∷ 0 ∷ [])) 1 7 ≡ inline (1 ∷ 7 ∷ []) (0 ∷ 0 ∷ [])
+  pub example-lends_item : tiny_with_item G (inline (1 ∷ 2 ∷ []) (0 ∷ 0 ∷ [])) 1 7 ≡ inline (1 ∷ 7 ∷ []) (0 ∷ 0 ∷ [])
   example-lends_item = refl
 
   -- of tinyvec.specs.Lends: `inline [1] [7, 8, 0]` lent by `lends_added` at the end, by a reference that shows 5 last
   pub example-lends_added : (tiny_items (inline (1 ∷ 5 ∷ []) (8 ∷ 0 ∷ [])) ≡ (1 ∷ []) ++ 5 ∷ [])
-      × RoomGrows Doubles D 4 2 (inline (1 ∷ []) (7 ∷ 8 ∷ 0 ∷ [])) (inline (1 ∷ 5 ∷ []) (8 ∷ 0 ∷ [])) done
+      × RoomGrows Doubles D 4 2 (tiny_view (inline (1 ∷ []) (7 ∷ 8 ∷ 0 ∷ []))) (tiny_view (inline (1 ∷ 5 ∷ []) (8 ∷ 0 ∷ []))) done
   example-lends_added = (refl, search rules)
 
-  pub example-Grows : Grows D 4 (inline (1 ∷ []) (7 ∷ 8 ∷ 0 ∷ [])) (inline (1 ∷ 5 ∷ []) (8 ∷ 0 ∷ []))
+  pub example-Grows : Grows D 4 (tiny_view (inline (1 ∷ []) (7 ∷ 8 ∷ 0 ∷ []))) (tiny_view (inline (1 ∷ 5 ∷ []) (8 ∷ 0 ∷ [])))
   example-Grows = search rules
 
-  pub example-RoomGrows : RoomGrows GrowsFor D 4 2 (inline (1 ∷ []) (7 ∷ 8 ∷ 0 ∷ [])) (inline (1 ∷ 5 ∷ []) (8 ∷ 0 ∷ [])) done
+  pub example-RoomGrows : RoomGrows GrowsFor D 4 2 (tiny_view (inline (1 ∷ []) (7 ∷ 8 ∷ 0 ∷ []))) (tiny_view (inline (1 ∷ 5 ∷ []) (8 ∷ 0 ∷ []))) done
   example-RoomGrows = search rules
 
-  pub example-MakesRoom : MakesRoom Doubles D 4 2 (inline (1 ∷ []) (7 ∷ 8 ∷ 0 ∷ [])) (inline (1 ∷ 5 ∷ []) (8 ∷ 0 ∷ [])) done
+  pub example-MakesRoom : MakesRoom Doubles D 4 2 (tiny_view (inline (1 ∷ []) (7 ∷ 8 ∷ 0 ∷ []))) (tiny_view (inline (1 ∷ 5 ∷ []) (8 ∷ 0 ∷ []))) done
   example-MakesRoom = search rules
 
-  pub example-MadeFor : MadeFor D 4 2 1 (inline (1 ∷ []) (0 ∷ 0 ∷ 0 ∷ []))
+  pub example-MadeFor : MadeFor D 4 2 1 (tiny_view (inline (1 ∷ []) (0 ∷ 0 ∷ 0 ∷ [])))
   example-MadeFor = search rules
 
-  pub example-PlaceRule : PlaceRule 4 2 (inline (1 ∷ []) (7 ∷ 8 ∷ 0 ∷ [])) (inline (1 ∷ 5 ∷ []) (8 ∷ 0 ∷ []))
+  pub example-PlaceRule : PlaceRule 4 2 (tiny_view (inline (1 ∷ []) (7 ∷ 8 ∷ 0 ∷ []))) (tiny_view (inline (1 ∷ 5 ∷ []) (8 ∷ 0 ∷ [])))
   example-PlaceRule = search rules
 
-  pub example-GrowsExactly : (v : TinyVec A ℕ) → GrowsExactly 4 9 (inline (1 ∷ []) (0 ∷ 0 ∷ 0 ∷ [])) v → tiny_capacity 4 v ≡ 9
+  pub example-GrowsExactly : (v : TinyVec (List ℕ) ℕ (UpTo 4)) → GrowsExactly 4 9 (tiny_view (inline (1 ∷ []) (0 ∷ 0 ∷ 0 ∷ []))) (tiny_view v) → tiny_capacity 4 v ≡ 9
   example-GrowsExactly v h = search rules
 
-  pub example-MovesToHeap : (v : TinyVec A ℕ) → MovesToHeap 4 (inline (1 ∷ []) (0 ∷ 0 ∷ 0 ∷ [])) v done → tiny_capacity 4 v ≡ 1
+  pub example-MovesToHeap : (v : TinyVec (List ℕ) ℕ (UpTo 4)) → MovesToHeap 4 (tiny_view (inline (1 ∷ []) (0 ∷ 0 ∷ 0 ∷ []))) (tiny_view v) done → tiny_capacity 4 v ≡ 1
   example-MovesToHeap v h = search rules
 
-  pub example-MovesToHeapWithRoom : (v : TinyVec A ℕ) → MovesToHeapWithRoom 4 2 (inline (1 ∷ []) (0 ∷ 0 ∷ 0 ∷ [])) v done → tiny_capacity 4 v ≡ 3
+  pub example-MovesToHeapWithRoom : (v : TinyVec (List ℕ) ℕ (UpTo 4)) → MovesToHeapWithRoom 4 2 (tiny_view (inline (1 ∷ []) (0 ∷ 0 ∷ 0 ∷ []))) (tiny_view v) done → tiny_capacity 4 v ≡ 3
   example-MovesToHeapWithRoom v h = search rules
 
-  pub example-ClonesBehind : ClonesBehind C (7 ∷ []) 1 (inline (1 ∷ []) (0 ∷ 0 ∷ 0 ∷ [])) (inline (1 ∷ []) (7 ∷ 0 ∷ 0 ∷ []))
+  pub example-ClonesBehind : ClonesBehind C (7 ∷ []) 1 (tiny_view (inline (1 ∷ []) (0 ∷ 0 ∷ 0 ∷ []))) (tiny_view (inline (1 ∷ []) (7 ∷ 0 ∷ 0 ∷ [])))
   example-ClonesBehind = λ _. record {
     made = 7 ∷ [];
     clones = (refl, tt);
@@ -139,13 +153,13 @@ module _ (A : Type 0) (alloc : Global) where
     written = refl;
   }
 
-  pub example-RefusedFor : RefusedFor 4 5 ⊥ (inline (1 ∷ 2 ∷ 3 ∷ 4 ∷ []) []) (inline (1 ∷ 2 ∷ 3 ∷ 4 ∷ []) [])
+  pub example-RefusedFor : RefusedFor 4 5 ⊥ (tiny_view (inline (1 ∷ 2 ∷ 3 ∷ 4 ∷ []) [])) (tiny_view (inline (1 ∷ 2 ∷ 3 ∷ 4 ∷ []) []))
   example-RefusedFor = search rules
 
-  pub example-ClonesRefused : ClonesRefused (record { is_clone = C; is_infallible = I }) 4 (5 ∷ []) (inline (1 ∷ 2 ∷ 3 ∷ 4 ∷ []) []) (inline (1 ∷ 2 ∷ 3 ∷ 4 ∷ []) [])
+  pub example-ClonesRefused : ClonesRefused (record { is_clone = C; is_infallible = I }) 4 (5 ∷ []) (tiny_view (inline (1 ∷ 2 ∷ 3 ∷ 4 ∷ []) [])) (tiny_view (inline (1 ∷ 2 ∷ 3 ∷ 4 ∷ []) []))
   example-ClonesRefused = search rules
 
-  pub example-IsTinyClone : IsTinyClone C 4 (inline (1 ∷ []) (0 ∷ 0 ∷ 0 ∷ [])) (inline (1 ∷ []) (0 ∷ 0 ∷ 0 ∷ []))
+  pub example-IsTinyClone : IsTinyClone C 4 (tiny_view (inline (1 ∷ []) (0 ∷ 0 ∷ 0 ∷ []))) (tiny_view (inline (1 ∷ []) (0 ∷ 0 ∷ 0 ∷ [])))
   example-IsTinyClone = record {
     items = (refl, tt);
     len = refl;
@@ -155,18 +169,18 @@ module _ (A : Type 0) (alloc : Global) where
     capacity = search rules;
   }
 
-  pub example-IsTinyInfallible : IsTinyInfallible I (inline (1 ∷ []) (0 ∷ 0 ∷ 0 ∷ []))
+  pub example-IsTinyInfallible : IsTinyInfallible I (tiny_view (inline (1 ∷ []) (0 ∷ 0 ∷ 0 ∷ [])))
   example-IsTinyInfallible = search rules
 
-  pub example-Collects : Collects D 4 (1 ∷ []) (inline (1 ∷ []) (0 ∷ 0 ∷ 0 ∷ []))
+  pub example-Collects : Collects D 4 (1 ∷ []) (tiny_view (inline (1 ∷ []) (0 ∷ 0 ∷ 0 ∷ [])))
   example-Collects = search rules
 
 -- two vectors that have room for four and for eight items
-module _ {A : Type 0} (v w : TinyVec A ℕ) (small : tiny_capacity 4 v ≡ 4) (large : tiny_capacity 4 w ≡ 8) where
-  pub example-Doubles : Doubles 4 5 v w
+module _ (v w : TinyVec (List ℕ) ℕ (UpTo 4)) (small : tiny_capacity 4 v ≡ 4) (large : tiny_capacity 4 w ≡ 8) where
+  pub example-Doubles : Doubles 4 5 (tiny_view v) (tiny_view w)
   example-Doubles = search rules
 
-  pub example-GrowsFor : is_inline v ≡ false → GrowsFor 4 5 v w
+  pub example-GrowsFor : is_inline v ≡ false → GrowsFor 4 5 (tiny_view v) (tiny_view w)
   example-GrowsFor outside = search rules
 
 pub example-items_moved : items_moved 4 true false ≡ 4

@@ -1,6 +1,6 @@
 //! Callers of an `ArrayVec`.
 ghost use Rattle.std.specs.Prelude.{◌≡◌, ◌≢◌, ◌+◌, ◌<◌, ◌≤◌, ◌∷◌, [], ◌++◌, ◌↔◌, ◌==◌, length, take, pos, IsTrue, IsOk, IsSome, OnOk, OnErr, IfOk, IfSome, IfNone, true, ◌-◌, if◌then◌else◌, is_ok};
-ghost use Rattle.tinyvec_array.specs.Slots.{items, spare, items_len};
+ghost use Rattle.tinyvec_array.specs.ArrayVec.{items, spare, items_len, items_of, len_of};
 
 use std::alloc::{AllocError, Global};
 use tinyvec_array::{Array, ArrayVec, ArrayVecIterator, TryFromSliceError};
@@ -30,14 +30,14 @@ pub fn of_slice(numbers: &[u32]) -> Result<ArrayVec<[u32; 4]>, TryFromSliceError
 
 /// The number of items that still fit.
 pub fn room<A: Array>(v: &ArrayVec<A>) -> usize
-    ensures { items_len v.now + result ≡ A.CAPACITY }
+    ensures { len_of A.Slots v.now + result ≡ A.CAPACITY }
 {
     v.capacity() - v.len()
 }
 
 /// As many spare slots are lent.
 pub fn spare_slots<A: Array>(v: &ArrayVec<A>) -> usize
-    ensures { items_len v.now + result ≡ A.CAPACITY }
+    ensures { len_of A.Slots v.now + result ≡ A.CAPACITY }
 {
     // A vector that was lent is not known to fit until a call says so.
     let _len = v.len();
@@ -53,7 +53,7 @@ pub fn first_slot<const N: usize>(v: &ArrayVec<[u8; N]>) -> Option<u8>
 
 /// Whether there is a last item, which is dropped.
 pub fn drop_last<A: Array>(v: &mut ArrayVec<A>) -> bool
-    ensures last { IsTrue result ↔ (items v.old ≢ []) }
+    ensures last { IsTrue result ↔ (items_of A.Slots v.old ≢ []) }
 {
     if v.is_empty() {
         return false;
@@ -74,23 +74,27 @@ pub fn first_swapped() -> (i32, ArrayVec<[i32; 4]>)
 
 /// A full vector returns the item.
 pub fn put_first<A: Array>(v: &mut ArrayVec<A>, x: A::Item) -> Option<A::Item>
-    ensures put { IfNone result (items v.new ≡ x ∷ items v.old) }
-    ensures variant { IsSome result ↔ (items_len v.old ≡ A.CAPACITY) }
+    ensures put { IfNone result (items_of A.Slots v.new ≡ x ∷ items_of A.Slots v.old) }
+    ensures variant { IsSome result ↔ (len_of A.Slots v.old ≡ A.CAPACITY) }
 {
+    // For the proof: how many slots there are.
+    let _slots = v.capacity();
     v.try_insert(0, x)
 }
 
 /// Both lists in the first vector if they fit there, else each as it was.
 pub fn joined<A: Array>(v: &mut ArrayVec<A>, other: &mut ArrayVec<A>) -> bool
-    ensures joined { IsTrue result → items v.new ≡ items v.old ++ items other.old }
-    ensures fits { IsTrue result ↔ (items_len v.old + items_len other.old ≤ A.CAPACITY) }
+    ensures joined { IsTrue result → items_of A.Slots v.new ≡ items_of A.Slots v.old ++ items_of A.Slots other.old }
+    ensures fits { IsTrue result ↔ (len_of A.Slots v.old + len_of A.Slots other.old ≤ A.CAPACITY) }
 {
+    // For the proof: how many slots there are.
+    let _slots = v.capacity();
     v.append_if_fits(other).is_ok()
 }
 
 /// The same, without a word of the other vector.
 pub fn try_joined<A: Array>(v: &mut ArrayVec<A>, other: &mut ArrayVec<A>) -> bool
-    ensures { IsTrue result → items v.new ≡ items v.old ++ items other.old }
+    ensures { IsTrue result → items_of A.Slots v.new ≡ items_of A.Slots v.old ++ items_of A.Slots other.old }
 {
     v.try_append(other).is_none()
 }
@@ -99,22 +103,24 @@ pub fn try_joined<A: Array>(v: &mut ArrayVec<A>, other: &mut ArrayVec<A>) -> boo
 pub fn with_copies<A: Array>(v: &mut ArrayVec<A>, more: &[A::Item])
 where
     A::Item: Copy,
-    requires { items_len v.old + length more.now ≤ A.CAPACITY }
-    ensures { items v.new ≡ items v.old ++ more.now }
+    requires { len_of A.Slots v.old + length more.now ≤ A.CAPACITY }
+    ensures { items_of A.Slots v.new ≡ items_of A.Slots v.old ++ more.now }
 {
+    // For the proof: how many slots there are.
+    let _slots = v.capacity();
     v.extend_from_slice_copy(more);
 }
 
 /// The first `n` items.
 pub fn cut_to<A: Array>(v: &mut ArrayVec<A>, n: usize)
-    ensures { items v.new ≡ take n (items v.old) }
+    ensures { items_of A.Slots v.new ≡ take n (items_of A.Slots v.old) }
 {
     v.truncate(n);
 }
 
 /// No items.
 pub fn emptied<A: Array>(v: &mut ArrayVec<A>)
-    ensures { items v.new ≡ [] }
+    ensures { items_of A.Slots v.new ≡ [] }
 {
     v.clear();
 }
@@ -204,7 +210,7 @@ pub fn filled_up_with(v: &mut ArrayVec<[u8; 4]>)
 
 /// The list in a `Vec` of its own. The vector is empty then.
 pub fn in_vec<A: Array>(v: &mut ArrayVec<A>, alloc: Global) -> Result<Vec<A::Item>, AllocError>
-    ensures moved { IfOk result (λ out. out.items ≡ items v.old) }
+    ensures moved { IfOk result (λ out. out.items ≡ items_of A.Slots v.old) }
     ensures refused { OnErr result (v.new ≡ v.old) }
 {
     v.drain_to_vec(alloc)
@@ -212,7 +218,7 @@ pub fn in_vec<A: Array>(v: &mut ArrayVec<A>, alloc: Global) -> Result<Vec<A::Ite
 
 /// The same, by the other name.
 pub fn try_in_vec<A: Array>(v: &mut ArrayVec<A>, alloc: Global) -> Result<Vec<A::Item>, AllocError>
-    ensures moved { IfOk result (λ out. out.items ≡ items v.old) }
+    ensures moved { IfOk result (λ out. out.items ≡ items_of A.Slots v.old) }
     ensures refused { OnErr result (v.new ≡ v.old) }
 {
     v.try_drain_to_vec(alloc)
@@ -224,7 +230,7 @@ pub fn in_vec_with<A: Array>(
     alloc: Global,
     x: A::Item,
 ) -> Result<Vec<A::Item>, AllocError>
-    ensures { IfOk result (λ out. out.items ≡ items v.old ++ x ∷ []) }
+    ensures { IfOk result (λ out. out.items ≡ items_of A.Slots v.old ++ x ∷ []) }
 {
     let mut out = v.drain_to_vec_and_reserve(alloc, 1)?;
     out.push_reserved(x);
@@ -237,7 +243,7 @@ pub fn try_in_vec_with<A: Array>(
     alloc: Global,
     x: A::Item,
 ) -> Result<Vec<A::Item>, AllocError>
-    ensures { IfOk result (λ out. out.items ≡ items v.old ++ x ∷ []) }
+    ensures { IfOk result (λ out. out.items ≡ items_of A.Slots v.old ++ x ∷ []) }
 {
     let mut out = v.try_drain_to_vec_and_reserve(alloc, 1)?;
     out.push_reserved(x);
@@ -246,8 +252,8 @@ pub fn try_in_vec_with<A: Array>(
 
 /// All items, moved after those of a `Vec` that has room.
 pub fn moved_into<A: Array>(v: &mut ArrayVec<A>, alloc: Global) -> Result<Vec<A::Item>, AllocError>
-    ensures moved { IfOk result (λ out. out.items ≡ items v.old) }
-    ensures left { OnOk result (items v.new ≡ []) }
+    ensures moved { IfOk result (λ out. out.items ≡ items_of A.Slots v.old) }
+    ensures left { OnOk result (items_of A.Slots v.new ≡ []) }
 {
     let mut out = Vec::with_capacity(alloc, v.len())?;
     v.drain_into(.., &mut out);
@@ -256,8 +262,8 @@ pub fn moved_into<A: Array>(v: &mut ArrayVec<A>, alloc: Global) -> Result<Vec<A:
 
 /// A splice that is stopped at once has taken its range out.
 pub fn taken_out<A: Array>(v: &mut ArrayVec<A>, n: usize)
-    requires { n ≤ items_len v.old }
-    ensures { items v.new ≡ take n (items v.old) }
+    requires { n ≤ len_of A.Slots v.old }
+    ensures { items_of A.Slots v.new ≡ take n (items_of A.Slots v.old) }
 {
     let _rest = v.splice(n.., None).stop();
 }
@@ -290,7 +296,7 @@ pub fn taken_at(v: &mut ArrayVec<[u32; 4]>, i: usize) -> Option<u32>
 pub fn pop_equal<A: Array>(v: &mut ArrayVec<A>, x: &A::Item) -> Option<A::Item>
 where
     A::Item: PartialEq,
-    ensures { IfSome result (λ y. (items v.old ≡ items v.new ++ y ∷ []) × (A.Item.eq y x.now ≡ true)) }
+    ensures { IfSome result (λ y. (items_of A.Slots v.old ≡ items_of A.Slots v.new ++ y ∷ []) × (A.Item.eq y x.now ≡ true)) }
 {
     v.pop_if(|y| *y == *x)
 }
@@ -311,6 +317,8 @@ pub fn append_all(v: &mut ArrayVec<[u32; 4]>, numbers: &[u32]) -> Result<(), Try
     ensures fits { IsOk result ↔ (items_len v.old + length numbers.now ≤ 4) }
     ensures items { items v.new ≡ (if is_ok result then items v.old ++ numbers.now else items v.old) }
 {
+    // For the proof: how many slots there are.
+    let _slots = v.capacity();
     v.try_extend_from_slice(numbers)
 }
 

@@ -1,7 +1,7 @@
 //! Callers of slice methods, which an `ArrayVec` and a `TinyVec` have as slices do.
 ghost use Rattle.std.specs.Prelude.{◌≡◌, ◌+◌, ◌<◌, ◌≤◌, ◌++◌, ◌∷◌, [], take, drop, swap, IsPermutation};
 ghost use Rattle.std.specs.List.Sorted.{IsNonDecreasing};
-ghost use Rattle.tinyvec.specs.Slots.{items, items_len, spare};
+ghost use Rattle.tinyvec_array.specs.ArrayVec.{items, items_len, spare};
 ghost use Rattle.tinyvec.specs.TinyVec.{tiny_items, tiny_len, is_inline};
 
 use tinyvec::{ArrayVec, TinyVec};

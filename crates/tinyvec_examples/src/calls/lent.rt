@@ -1,9 +1,9 @@
 //! Callers of a `SliceVec`.
 ghost use Rattle.std.specs.Prelude.{◌≡◌, ◌+◌, ◌-◌, ◌<◌, ◌≤◌, ◌↔◌, ◌∷◌, [], ◌++◌, length, IsTrue, IsSome, IfSome, OnOk};
-ghost use Rattle.tinyvec_slice.specs.SliceVec.{items, spare, slots};
+ghost use Rattle.tinyvec_array.specs.SliceVec.{items, spare, slots};
 
 use std::alloc::AllocError;
-use tinyvec_slice::SliceVec;
+use tinyvec_array::SliceVec;
 
 /// The first item.
 pub fn first(v: &SliceVec<'_, u8>) -> Option<u8>

@@ -1,7 +1,8 @@
 //! Callers that replace a range as a whole.
 ghost use Rattle.std.specs.Prelude.{◌≡◌, ◌+◌, ◌≤◌, ◌++◌, ◌∷◌, [], pos, take, drop, OnOk, OnErr};
-ghost use Rattle.tinyvec.specs.Slots.{items, items_len};
-ghost use Rattle.tinyvec.specs.TinyVec.{tiny_items, tiny_len, Unchanged};
+ghost use Rattle.tinyvec_array.specs.ArrayVec.{items, items_len, items_of, len_of};
+ghost use Rattle.tinyvec.specs.TinyVec.{tiny_items, tiny_len, tiny_view};
+ghost use Rattle.tinyvec.specs.View.{Unchanged};
 
 use std::alloc::AllocError;
 use std::iter::{Copied, Fuse};
@@ -22,7 +23,7 @@ pub fn word_put_in(v: &mut TinyVec<[u8; 16]>, at: usize, word: &[u8]) -> Result<
     requires { at ≤ tiny_len v.old }
     ensures items { OnOk result (tiny_items v.new
         ≡ take at (tiny_items v.old) ++ word.now ++ drop at (tiny_items v.old)) }
-    ensures refused { OnErr result (Unchanged v.old v.new) }
+    ensures refused { OnErr result (Unchanged (tiny_view v.old) (tiny_view v.new)) }
 {
     v.replace_range(at..at, word)
 }
@@ -33,8 +34,8 @@ pub fn copies_put_in<'a, T: Copy + Default + Drop + 'a, A: Array<Item = T>>(
     at: usize,
     more: &'a [T],
 ) -> Result<(), SpliceRest<T, Fuse<Copied<slice::Iter<'a, T>>>>>
-    requires { at ≤ items_len v.old }
-    ensures { OnOk result (items v.new ≡ take at (items v.old) ++ more.now ++ drop at (items v.old)) }
+    requires { at ≤ len_of A.Slots v.old }
+    ensures { OnOk result (items_of A.Slots v.new ≡ take at (items_of A.Slots v.old) ++ more.now ++ drop at (items_of A.Slots v.old)) }
 {
     v.splice_all(at..at, more.iter().copied())
 }

@@ -1,8 +1,9 @@
 //! Callers of a `TinyVec`.
 ghost use Rattle.std.specs.Prelude.{◌≡◌, ◌≢◌, ◌+◌, ◌-◌, ◌<◌, ◌≤◌, ◌∷◌, [], ◌++◌, ◌↔◌, length, take, insert, remove, pos, false, IsTrue, IsSome, IsOk, OnOk, OnErr, IfOk, IfErr, IfSome, IfNone};
 ghost use Rattle.std.specs.Box.{boxed_slice_items};
-ghost use Rattle.tinyvec_array.specs.Slots.{items};
-ghost use Rattle.tinyvec.specs.TinyVec.{tiny_items, tiny_len, tiny_capacity, is_inline, IsInline, Unchanged};
+ghost use Rattle.tinyvec_array.specs.ArrayVec.{items, items_of};
+ghost use Rattle.tinyvec.specs.TinyVec.{tiny_items, tiny_items_of, tiny_len, tiny_len_of, tiny_capacity, is_inline, IsInline, tiny_view, tiny_view_of};
+ghost use Rattle.tinyvec.specs.View.{Unchanged};
 
 use std::alloc::{AllocError, AllocFailed, Global};
 use std::boxed::BoxedSlice;
@@ -12,7 +13,7 @@ use tinyvec::{Array, ArrayVec, NoMemory, TinyVec, TinyVecIterator};
 
 /// The list of an `ArrayVec`, which may grow now.
 pub fn of_array_vec<A: Array>(alloc: Global, v: ArrayVec<A>) -> TinyVec<A>
-    ensures items { tiny_items result ≡ items v }
+    ensures items { tiny_items_of A.Slots result ≡ items_of A.Slots v }
     ensures place { IsInline result }
 {
     TinyVec::from_array_vec(alloc, v)
@@ -51,7 +52,7 @@ pub fn zeros(alloc: Global, n: usize) -> Result<TinyVec<[u8; 4]>, AllocError>
 
 /// Whether one more item fits where the list is.
 pub fn has_room<A: Array>(v: &TinyVec<A>) -> bool
-    ensures { IsTrue result ↔ (tiny_len v.now < tiny_capacity A.CAPACITY v.now) }
+    ensures { IsTrue result ↔ (tiny_len_of A.Slots v.now < tiny_capacity A.CAPACITY v.now) }
 {
     v.len() < v.capacity()
 }
@@ -65,7 +66,7 @@ pub fn is_somewhere<A: Array>(v: &TinyVec<A>) -> bool
 
 /// Appends an item if there is room, which allocates nothing.
 pub fn push_if_room<A: Array>(v: &mut TinyVec<A>, x: A::Item)
-    ensures room { tiny_len v.old < tiny_capacity A.CAPACITY v.old → tiny_items v.new ≡ tiny_items v.old ++ x ∷ [] }
+    ensures room { tiny_len_of A.Slots v.old < tiny_capacity A.CAPACITY v.old → tiny_items_of A.Slots v.new ≡ tiny_items_of A.Slots v.old ++ x ∷ [] }
     ensures place { is_inline v.new ≡ is_inline v.old }
 {
     if v.len() < v.capacity() {
@@ -75,7 +76,7 @@ pub fn push_if_room<A: Array>(v: &mut TinyVec<A>, x: A::Item)
 
 /// Whether there is a last item, which is dropped.
 pub fn drop_last<A: Array>(v: &mut TinyVec<A>) -> bool
-    ensures last { IsTrue result ↔ (tiny_items v.old ≢ []) }
+    ensures last { IsTrue result ↔ (tiny_items_of A.Slots v.old ≢ []) }
     ensures place { is_inline v.new ≡ is_inline v.old }
 {
     if v.is_empty() {
@@ -87,8 +88,8 @@ pub fn drop_last<A: Array>(v: &mut TinyVec<A>) -> bool
 
 /// An item moved to the front.
 pub fn moved_to_front<A: Array>(v: &mut TinyVec<A>, i: usize) -> Result<(), AllocError>
-    requires { i < tiny_len v.old }
-    ensures { OnOk result ((x : A.Item) × (tiny_items v.new ≡ x ∷ remove (tiny_items v.old) i)) }
+    requires { i < tiny_len_of A.Slots v.old }
+    ensures { OnOk result ((x : A.Item) × (tiny_items_of A.Slots v.new ≡ x ∷ remove (tiny_items_of A.Slots v.old) i)) }
 {
     let x = v.remove(i);
     Ok(v.insert(0, x)?)
@@ -116,8 +117,8 @@ pub fn with_bytes(v: &mut TinyVec<[u8; 16]>, bytes: &[u8]) -> Result<(), AllocEr
 pub fn repeat_from<A: Array>(v: &mut TinyVec<A>, n: usize) -> Result<(), AllocError>
 where
     A::Item: Clone,
-    requires { n ≤ tiny_len v.old }
-    ensures { OnOk result (tiny_len v.new ≡ tiny_len v.old + (tiny_len v.old - n)) }
+    requires { n ≤ tiny_len_of A.Slots v.old }
+    ensures { OnOk result (tiny_len_of A.Slots v.new ≡ tiny_len_of A.Slots v.old + (tiny_len_of A.Slots v.old - n)) }
 {
     v.extend_from_within(n..)
 }
@@ -127,21 +128,21 @@ pub fn with_copies(v: &mut TinyVec<[u32; 8]>, numbers: &[u32]) -> Result<(), All
     ensures items { OnOk result (tiny_items v.new ≡ tiny_items v.old ++ numbers.now) }
     ensures place { OnOk result (IsInline v.new → tiny_len v.new ≤ 8) }
     ensures succeeds { tiny_len v.old + length numbers.now ≤ tiny_capacity 8 v.old → IsOk result }
-    ensures refused { OnErr result (Unchanged v.old v.new) }
+    ensures refused { OnErr result (Unchanged (tiny_view v.old) (tiny_view v.new)) }
 {
     v.extend_from_slice_copy(numbers)
 }
 
 /// The first `n` items.
 pub fn cut_to<A: Array>(v: &mut TinyVec<A>, n: usize)
-    ensures { tiny_items v.new ≡ take n (tiny_items v.old) }
+    ensures { tiny_items_of A.Slots v.new ≡ take n (tiny_items_of A.Slots v.old) }
 {
     v.truncate(n);
 }
 
 /// No items, in the same place.
 pub fn emptied<A: Array>(v: &mut TinyVec<A>)
-    ensures items { tiny_items v.new ≡ [] }
+    ensures items { tiny_items_of A.Slots v.new ≡ [] }
     ensures place { is_inline v.new ≡ is_inline v.old }
 {
     v.clear();
@@ -150,7 +151,7 @@ pub fn emptied<A: Array>(v: &mut TinyVec<A>)
 /// A list of `n` items, the new ones made by a closure.
 pub fn filled_up(v: &mut TinyVec<[u8; 4]>, n: usize) -> Result<(), AllocError>
     ensures len { OnOk result (tiny_len v.new ≡ n) }
-    ensures refused { OnErr result (Unchanged v.old v.new) }
+    ensures refused { OnErr result (Unchanged (tiny_view v.old) (tiny_view v.new)) }
 {
     v.resize_with(n, || 9)
 }
@@ -213,7 +214,7 @@ pub fn count_of_zeros(v: &TinyVec<[u8; 8]>) -> usize {
 
 /// How many items are left once the first was taken.
 pub fn left_after_one<A: Array>(v: TinyVec<A>) -> usize
-    ensures { result ≡ tiny_len v - 1 }
+    ensures { result ≡ tiny_len_of A.Slots v - 1 }
 {
     let mut left = v.into_iter();
     let _first = left.next();
@@ -231,8 +232,8 @@ pub fn first_zeroed(v: &mut TinyVec<[u8; 8]>)
 
 /// All items, moved after those of a `Vec` that has room.
 pub fn moved_into<A: Array>(v: &mut TinyVec<A>, alloc: Global) -> Result<Vec<A::Item>, AllocError>
-    ensures moved { IfOk result (λ out. out.items ≡ tiny_items v.old) }
-    ensures left { OnOk result (tiny_items v.new ≡ []) }
+    ensures moved { IfOk result (λ out. out.items ≡ tiny_items_of A.Slots v.old) }
+    ensures left { OnOk result (tiny_items_of A.Slots v.new ≡ []) }
 {
     let mut out = Vec::with_capacity(alloc, v.len())?;
     v.drain_into(.., &mut out);
@@ -241,29 +242,29 @@ pub fn moved_into<A: Array>(v: &mut TinyVec<A>, alloc: Global) -> Result<Vec<A::
 
 /// Room for `n` more items, and for no more than that if the list moves.
 pub fn with_exact_room<A: Array>(v: &mut TinyVec<A>, n: usize) -> Result<(), AllocError>
-    ensures { OnOk result (tiny_len v.old + n ≤ tiny_capacity A.CAPACITY v.new) }
+    ensures { OnOk result (tiny_len_of A.Slots v.old + n ≤ tiny_capacity A.CAPACITY v.new) }
 {
     v.reserve_exact(n)
 }
 
 /// The same, by the other name.
 pub fn try_with_exact_room<A: Array>(v: &mut TinyVec<A>, n: usize) -> Result<(), AllocError>
-    ensures { OnOk result (tiny_len v.old + n ≤ tiny_capacity A.CAPACITY v.new) }
+    ensures { OnOk result (tiny_len_of A.Slots v.old + n ≤ tiny_capacity A.CAPACITY v.new) }
 {
     v.try_reserve_exact(n)
 }
 
 /// Room for `n` more items, or perhaps for more than that.
 pub fn with_some_room<A: Array>(v: &mut TinyVec<A>, n: usize) -> Result<(), AllocError>
-    ensures enough { OnOk result (tiny_len v.old + n ≤ tiny_capacity A.CAPACITY v.new) }
-    ensures refused { OnErr result (Unchanged v.old v.new) }
+    ensures enough { OnOk result (tiny_len_of A.Slots v.old + n ≤ tiny_capacity A.CAPACITY v.new) }
+    ensures refused { OnErr result (Unchanged (tiny_view_of A.Slots v.old) (tiny_view_of A.Slots v.new)) }
 {
     v.try_reserve(n)
 }
 
 /// How many more items fit where the list is.
 pub fn left<A: Array>(v: &TinyVec<A>) -> usize
-    ensures { tiny_len v.now + result ≡ tiny_capacity A.CAPACITY v.now }
+    ensures { tiny_len_of A.Slots v.now + result ≡ tiny_capacity A.CAPACITY v.now }
 {
     v.remaining_capacity()
 }
@@ -279,14 +280,14 @@ pub fn of_vec(numbers: Vec<u32>) -> TinyVec<[u32; 4]>
 /// The list, taken out. What is left is empty and inline.
 pub fn taken<A: Array>(v: &mut TinyVec<A>) -> Result<TinyVec<A>, AllocError>
     ensures taken { IfOk result (λ out. out ≡ v.old) }
-    ensures left { OnOk result ((tiny_items v.new ≡ []) × IsInline v.new) }
+    ensures left { OnOk result ((tiny_items_of A.Slots v.new ≡ []) × IsInline v.new) }
 {
     mem::try_take(v)
 }
 
 /// An empty vector, by the trait that `or_default` of a map calls.
 pub fn made<A: Array>(alloc: Global) -> TinyVec<A>
-    ensures { tiny_items result ≡ [] }
+    ensures { tiny_items_of A.Slots result ≡ [] }
 {
     MadeWith::made_with(alloc)
 }
@@ -309,7 +310,7 @@ pub fn in_a_box(alloc: Global, x: u32) -> Result<Box<u32>, NoMemory<u32>>
 
 /// Room for `n` items, or for the list, is kept, and other room given back.
 pub fn with_less_room<A: Array>(v: &mut TinyVec<A>, n: usize)
-    ensures items { tiny_items v.new ≡ tiny_items v.old }
+    ensures items { tiny_items_of A.Slots v.new ≡ tiny_items_of A.Slots v.old }
     ensures capacity { n ≤ tiny_capacity A.CAPACITY v.old → n ≤ tiny_capacity A.CAPACITY v.new }
 {
     v.shrink_to(n);
@@ -326,7 +327,7 @@ pub fn emptied_inline(v: &mut TinyVec<[u8; 16]>)
 
 /// The list on the heap.
 pub fn on_heap<A: Array>(v: &mut TinyVec<A>) -> Result<(), AllocError>
-    ensures items { tiny_items v.new ≡ tiny_items v.old }
+    ensures items { tiny_items_of A.Slots v.new ≡ tiny_items_of A.Slots v.old }
     ensures place { OnOk result (is_inline v.new ≡ false) }
 {
     v.try_move_to_the_heap()
@@ -334,30 +335,30 @@ pub fn on_heap<A: Array>(v: &mut TinyVec<A>) -> Result<(), AllocError>
 
 /// The list on the heap, with room for `n` more items.
 pub fn on_heap_with_room<A: Array>(v: &mut TinyVec<A>, n: usize) -> Result<(), AllocError>
-    ensures items { tiny_items v.new ≡ tiny_items v.old }
-    ensures enough { OnOk result (tiny_len v.old + n ≤ tiny_capacity A.CAPACITY v.new) }
+    ensures items { tiny_items_of A.Slots v.new ≡ tiny_items_of A.Slots v.old }
+    ensures enough { OnOk result (tiny_len_of A.Slots v.old + n ≤ tiny_capacity A.CAPACITY v.new) }
 {
     v.move_to_the_heap_and_reserve(n)
 }
 
 /// The same, by the other name.
 pub fn try_on_heap_with_room<A: Array>(v: &mut TinyVec<A>, n: usize) -> Result<(), AllocError>
-    ensures items { tiny_items v.new ≡ tiny_items v.old }
-    ensures enough { OnOk result (tiny_len v.old + n ≤ tiny_capacity A.CAPACITY v.new) }
+    ensures items { tiny_items_of A.Slots v.new ≡ tiny_items_of A.Slots v.old }
+    ensures enough { OnOk result (tiny_len_of A.Slots v.old + n ≤ tiny_capacity A.CAPACITY v.new) }
 {
     v.try_move_to_the_heap_and_reserve(n)
 }
 
 /// The list as a `Vec`. If memory is refused for it, the vector is dropped.
 pub fn as_vec<A: Array>(v: TinyVec<A>) -> Result<Vec<A::Item>, AllocError>
-    ensures { IfOk result (λ out. out.items ≡ tiny_items v) }
+    ensures { IfOk result (λ out. out.items ≡ tiny_items_of A.Slots v) }
 {
     Ok(v.into_vec()?)
 }
 
 /// The list as a slice of its own. If memory is refused for it, the vector is dropped.
 pub fn boxed<A: Array>(v: TinyVec<A>) -> Result<BoxedSlice<A::Item>, AllocError>
-    ensures { IfOk result (λ out. boxed_slice_items out ≡ tiny_items v) }
+    ensures { IfOk result (λ out. boxed_slice_items out ≡ tiny_items_of A.Slots v) }
 {
     Ok(v.into_boxed_slice()?)
 }

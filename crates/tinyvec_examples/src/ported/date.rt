@@ -28,14 +28,44 @@ pub fn write_date_and_time<const N: usize>(dt: DateTime, pad_day: bool, out: &mu
     ensures len { text_len out.new ≤ text_len out.old + 25 }
     ensures frame { TextStaysInPlace N out.old out.new }
 {
+    write_weekday_and_day(dt, pad_day, out);
+    write_ascii(out, b' ');
+    write_month_and_year(dt, out);
+    write_ascii(out, b' ');
+    write_time(dt, out);
+}
+
+fn write_weekday_and_day<const N: usize>(dt: DateTime, pad_day: bool, out: &mut InlineText<N>)
+    requires fits { spec.HasFewDigits dt }
+    requires room { text_len out.old + 7 ≤ capacity_in N out.old.place }
+    ensures text { out.new.bytes ≡ out.old.bytes ++ spec.weekday_and_day_text pad_day dt }
+    ensures len { text_len out.new ≤ text_len out.old + 7 }
+    ensures frame { TextStaysInPlace N out.old out.new }
+{
     out.push_str_reserved(weekday_name(dt.weekday));
     out.push_str_reserved(", ");
     write_day(out, dt.day, pad_day);
-    write_ascii(out, b' ');
+}
+
+fn write_month_and_year<const N: usize>(dt: DateTime, out: &mut InlineText<N>)
+    requires fits { spec.HasFewDigits dt }
+    requires room { text_len out.old + 8 ≤ capacity_in N out.old.place }
+    ensures text { out.new.bytes ≡ out.old.bytes ++ spec.month_and_year_text dt }
+    ensures len { text_len out.new ≡ text_len out.old + 8 }
+    ensures frame { TextStaysInPlace N out.old out.new }
+{
     out.push_str_reserved(month_name(dt.month));
     write_ascii(out, b' ');
     write_four_digits(out, dt.year);
-    write_ascii(out, b' ');
+}
+
+fn write_time<const N: usize>(dt: DateTime, out: &mut InlineText<N>)
+    requires fits { spec.HasFewDigits dt }
+    requires room { text_len out.old + 8 ≤ capacity_in N out.old.place }
+    ensures text { out.new.bytes ≡ out.old.bytes ++ spec.time_text dt }
+    ensures len { text_len out.new ≡ text_len out.old + 8 }
+    ensures frame { TextStaysInPlace N out.old out.new }
+{
     write_two_digits(out, dt.hour);
     write_ascii(out, b':');
     write_two_digits(out, dt.minute);

@@ -1,16 +1,19 @@
 //! A push and a pop.
-ghost use Rattle.std.specs.Prelude.{◌≡◌, ◌<◌, ◌++◌, List, drop, Some};
-ghost use Rattle.tinyvec_array.specs.Slots.{items, spare, items_len, AreDefaults};
+ghost use Rattle.std.specs.Prelude.{◌≡◌, ◌<◌, ◌++◌, List, length, drop, Some};
+ghost use Rattle.tinyvec_array.specs.ArrayVec.{items_of, spare_of};
+ghost use Rattle.tinyvec_array.specs.Slots.{AreDefaults};
 
-use tinyvec_array::{Array, ArrayVec};
+use tinyvec_array::{ArrayVec, Slots};
 
 /// What was pushed is popped, the items are the same, and its slot holds a default.
-pub fn push_then_pop<A: Array>(v: &mut ArrayVec<A>, x: A::Item) -> Option<A::Item>
-    requires { items_len v.old < A.CAPACITY }
+pub fn push_then_pop<S: Slots>(v: &mut ArrayVec<S>, x: S::Item) -> Option<S::Item>
+where
+    S::Item: Default,
+    requires { 0 < length (spare_of S.Slots v.old) }
     ensures back { result ≡ Some x }
-    ensures same { items v.new ≡ items v.old }
-    ensures emptied { (ds : List A.Item) × AreDefaults A.Item.is_default 1 ds
-        × (spare v.new ≡ ds ++ drop 1 (spare v.old)) }
+    ensures same { items_of S.Slots v.new ≡ items_of S.Slots v.old }
+    ensures emptied { (ds : List S.Item) × AreDefaults S.Item.is_default 1 ds
+        × (spare_of S.Slots v.new ≡ ds ++ drop 1 (spare_of S.Slots v.old)) }
 {
     v.push(x);
     v.pop()

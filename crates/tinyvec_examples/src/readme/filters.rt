@@ -1,7 +1,7 @@
 //! Numbers kept by a test.
 ghost use Rattle.std.specs.Prelude.{◌≡◌, ◌==◌, ◌%◌, nat_lt};
 ghost use Rattle.std.specs.List.{filter};
-ghost use Rattle.tinyvec.specs.Slots.{items};
+ghost use Rattle.tinyvec_array.specs.ArrayVec.{items};
 ghost use Rattle.tinyvec.specs.TinyVec.{tiny_items};
 
 use tinyvec::{ArrayVec, TinyVec};

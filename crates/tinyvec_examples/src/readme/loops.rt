@@ -1,6 +1,6 @@
 //! Items pushed in a loop, where each push may be refused.
 ghost use Rattle.std.specs.Prelude.{◌≡◌, ◌≤◌, ◌-◌, ◌++◌, ◌↔◌, ℕ, length, take, IsTrue, OnOk, OnErr};
-ghost use Rattle.tinyvec.specs.Slots.{items, items_len};
+ghost use Rattle.tinyvec_array.specs.ArrayVec.{items, items_len};
 ghost use Rattle.tinyvec.specs.TinyVec.{tiny_items};
 
 use std::alloc::AllocError;

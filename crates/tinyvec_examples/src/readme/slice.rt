@@ -1,7 +1,7 @@
 //! A push into lent slots.
 ghost use Rattle.std.specs.Prelude.{◌≡◌, ◌+◌, ◌≤◌, [], ◌∷◌, ◌++◌, length, take, drop};
 
-use tinyvec_slice::SliceVec;
+use tinyvec_array::SliceVec;
 
 /// A push writes the slot after the list, and no other: the owner of the slots sees it.
 pub fn pushed(slots: &mut [u8])

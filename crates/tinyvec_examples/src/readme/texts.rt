@@ -1,7 +1,7 @@
 //! A message spelled into an array.
 ghost use Rattle.std.specs.Prelude.{◌≡◌, ◌++◌, codes, IfOk};
 ghost use Rattle.std.specs.Fmt.{decimal};
-ghost use Rattle.tinyvec_array.specs.Slots.{items};
+ghost use Rattle.tinyvec_array.specs.ArrayVec.{items};
 
 use std::fmt;
 use std::fmt::Write;

@@ -2,22 +2,23 @@
 //! One that names `SliceVec` knows it by `drain_each` and `drain_into`.
 ghost use Rattle.std.specs.Prelude.{◌≡◌, ◌≤◌, ◌-◌, ◌+◌, ◌++◌, ◌∷◌, [], pos, length, take, drop, slice_get, slice_range, vec_len, vec_capacity};
 ghost use Rattle.std.specs.List.{remove_range};
-ghost use Rattle.tinyvec_slice.specs.Slots.{Vacates};
-ghost use Rattle.tinyvec_slice.specs.Ranges.{IsRangeOf, before, after};
-ghost use Rattle.tinyvec_slice.specs.SliceVec.{items_of, name_of, view_of, items, spare, name};
+ghost use Rattle.tinyvec_array.specs.Slots.{Vacates};
+ghost use Rattle.tinyvec_array.specs.Ranges.{IsRangeOf, before, after};
+ghost use Rattle.tinyvec_array.specs.ArrayVec.{items_of, name_of, view_of};
+ghost use Rattle.tinyvec_array.specs.SliceVec.{items, spare, name};
 
 use std::ops::RangeBounds;
-use tinyvec_slice::{GenericSliceVec, Lent, SliceVec};
+use tinyvec_array::{ArrayVec, SliceVec, Slots};
 
 /// Dropped at the end of its scope, after one item of two.
-pub fn drain_one<B: Lent>(v: &mut GenericSliceVec<B>) -> Option<B::Item>
+pub fn drain_one<B: Slots>(v: &mut ArrayVec<B>) -> Option<B::Item>
 where
     B::Item: Default,
-    requires { 3 ≤ length (items_of B.Lent v.old) }
-    ensures same_reference { name_of B.Lent v.new ≡ name_of B.Lent v.old }
-    ensures items { items_of B.Lent v.new ≡ remove_range (items_of B.Lent v.old) 1 3 }
-    ensures spare { Vacates B.Item.is_default 2 (view_of B.Lent v.old) (view_of B.Lent v.new) }
-    ensures value { result ≡ slice_get (items_of B.Lent v.old) 1 }
+    requires { 3 ≤ length (items_of B.Slots v.old) }
+    ensures same_reference { name_of B.Slots v.new ≡ name_of B.Slots v.old }
+    ensures items { items_of B.Slots v.new ≡ remove_range (items_of B.Slots v.old) 1 3 }
+    ensures spare { Vacates B.Item.is_default 2 (view_of B.Slots v.old) (view_of B.Slots v.new) }
+    ensures value { result ≡ slice_get (items_of B.Slots v.old) 1 }
 {
     let mut d = v.drain(1..3);
     d.next()
@@ -36,34 +37,29 @@ pub fn one_drained() -> [i32; 5]
 }
 
 /// Any range of any vector: what preceded and followed it is left.
-pub fn cut<B: Lent, R: RangeBounds<usize>>(v: &mut GenericSliceVec<B>, range: R)
+pub fn cut<B: Slots, R: RangeBounds<usize>>(v: &mut ArrayVec<B>, range: R)
 where
     B::Item: Default,
     requires not_exhausted { R.has_bounds range }
-    requires in_list { IsRangeOf (items_of B.Lent v.old) (R.start_bound range) (R.end_bound range) }
-    ensures same_reference { name_of B.Lent v.new ≡ name_of B.Lent v.old }
-    ensures items { items_of B.Lent v.new
-        ≡ before (items_of B.Lent v.old) (R.start_bound range) ++ after (items_of B.Lent v.old) (R.end_bound range) }
+    requires in_list { IsRangeOf (items_of B.Slots v.old) (R.start_bound range) (R.end_bound range) }
+    ensures same_reference { name_of B.Slots v.new ≡ name_of B.Slots v.old }
+    ensures items { items_of B.Slots v.new
+        ≡ before (items_of B.Slots v.old) (R.start_bound range) ++ after (items_of B.Slots v.old) (R.end_bound range) }
 {
     let _items = v.drain(range);
 }
 
 /// Moves the items from `start` up to `end` after those of `out`, which has room for them.
-pub fn drain_into<B: Lent>(
-    v: &mut GenericSliceVec<B>,
-    start: usize,
-    end: usize,
-    out: &mut Vec<B::Item>,
-)
+pub fn drain_into<B: Slots>(v: &mut ArrayVec<B>, start: usize, end: usize, out: &mut Vec<B::Item>)
 where
     B::Item: Default,
     requires start_le_end { start ≤ end }
-    requires in_bounds { end ≤ length (items_of B.Lent v.old) }
+    requires in_bounds { end ≤ length (items_of B.Slots v.old) }
     requires room { vec_len out.old + (end - start) ≤ vec_capacity out.old }
-    ensures same_reference { name_of B.Lent v.new ≡ name_of B.Lent v.old }
-    ensures items { items_of B.Lent v.new ≡ remove_range (items_of B.Lent v.old) start end }
-    ensures spare { Vacates B.Item.is_default (end - start) (view_of B.Lent v.old) (view_of B.Lent v.new) }
-    ensures moved { out.new.items ≡ out.old.items ++ slice_range (items_of B.Lent v.old) start end }
+    ensures same_reference { name_of B.Slots v.new ≡ name_of B.Slots v.old }
+    ensures items { items_of B.Slots v.new ≡ remove_range (items_of B.Slots v.old) start end }
+    ensures spare { Vacates B.Item.is_default (end - start) (view_of B.Slots v.old) (view_of B.Slots v.new) }
+    ensures moved { out.new.items ≡ out.old.items ++ slice_range (items_of B.Slots v.old) start end }
 {
     for x in v.drain(start..end) {
         out.push_reserved(x);

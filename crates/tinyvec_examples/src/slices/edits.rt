@@ -1,8 +1,8 @@
 //! What the owner sees after pushes and edits.
 ghost use Rattle.std.specs.Prelude.{◌≡◌, ◌<◌, ◌≤◌, ◌+◌, ◌∷◌, [], length, take, drop, insert, pos, remove};
-ghost use Rattle.tinyvec_slice.specs.SliceVec.{items, spare, name};
+ghost use Rattle.tinyvec_array.specs.SliceVec.{items, spare, name};
 
-use tinyvec_slice::SliceVec;
+use tinyvec_array::SliceVec;
 
 /// Pushes in a loop.
 pub fn push_fives(v: &mut SliceVec<'_, i32>, n: usize)

@@ -1,8 +1,7 @@
 //! What the owner sees after items came from elsewhere, and after some were kept.
 ghost use Rattle.std.specs.Prelude.{◌≡◌, ◌∷◌, [], pos};
 
-use tinyvec_array::ArrayVec;
-use tinyvec_slice::SliceVec;
+use tinyvec_array::{ArrayVec, SliceVec};
 
 /// As many items as there is room for.
 pub fn filled() -> [i32; 3]

@@ -1,8 +1,8 @@
 //! Items put in where there may be no room, taken out where there may be none, replaced, and kept by a test.
 ghost use Rattle.std.specs.Prelude.{◌≡◌, ◌+◌, ◌<◌, ◌≤◌, ◌∷◌, [], ◌++◌, ◌↔◌, length, drop, pos, IsSome, IfSome, IfNone, OnOk, OnErr};
-ghost use Rattle.tinyvec_slice.specs.SliceVec.{items, spare, name};
+ghost use Rattle.tinyvec_array.specs.SliceVec.{items, spare, name};
 
-use tinyvec_slice::{CapacityError, SliceVec};
+use tinyvec_array::{CapacityError, SliceVec};
 
 /// A full vector returns the item.
 pub fn push_or_return(v: &mut SliceVec<'_, u8>, x: u8) -> Option<u8>

@@ -1,8 +1,9 @@
 //! Writes through what the vector lends. The owner sees each of them.
 ghost use Rattle.std.specs.Prelude.{◌≡◌, ◌<◌, ◌≤◌, ◌++◌, length, take, drop, insert, slice_set};
-ghost use Rattle.tinyvec_slice.specs.SliceVec.{items, items_of, name_of};
+ghost use Rattle.tinyvec_array.specs.ArrayVec.{items_of, name_of};
+ghost use Rattle.tinyvec_array.specs.SliceVec.{items};
 
-use tinyvec_slice::{GenericSliceVec, Lent, SliceVec};
+use tinyvec_array::{ArrayVec, SliceVec, Slots};
 
 /// The item that was pushed.
 pub fn pushed_written(xs: &mut [u8])
@@ -23,10 +24,10 @@ pub fn inserted_written(xs: &mut [u8])
 }
 
 /// One item, by its index, in any vector in lent slots.
-pub fn write_any<B: Lent>(v: &mut GenericSliceVec<B>, i: usize, x: B::Item)
-    requires { i < length (items_of B.Lent v.old) }
-    ensures same_reference { name_of B.Lent v.new ≡ name_of B.Lent v.old }
-    ensures items { items_of B.Lent v.new ≡ slice_set (items_of B.Lent v.old) i x }
+pub fn write_any<B: Slots>(v: &mut ArrayVec<B>, i: usize, x: B::Item)
+    requires { i < length (items_of B.Slots v.old) }
+    ensures same_reference { name_of B.Slots v.new ≡ name_of B.Slots v.old }
+    ensures items { items_of B.Slots v.new ≡ slice_set (items_of B.Slots v.old) i x }
 {
     v[i] = x;
 }
@@ -41,6 +42,6 @@ pub fn three_written(xs: &mut [u8])
     list[0] = 7;
     let behind = v.grab_spare_slice_mut();
     behind[0] = 6;
-    let all = v.as_mut_inner();
+    let all = v.as_mut_slots();
     all[4] = 5;
 }

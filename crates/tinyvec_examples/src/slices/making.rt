@@ -1,7 +1,7 @@
 //! Vectors made over a slice.
 ghost use Rattle.std.specs.Prelude.{◌≡◌, ◌<◌, ◌≤◌, ◌∷◌, [], length, pos, slice_set, true};
 
-use tinyvec_slice::SliceVec;
+use tinyvec_array::SliceVec;
 
 /// If there are fewer slots, no vector is made.
 pub fn refused(slots: &mut [i32]) -> bool

@@ -2,20 +2,21 @@
 ghost use Rattle.std.specs.Prelude.{◌≡◌, ◌≤◌, ◌↔◌, ◌++◌, length, drop, codes, OnOk, IsTrue};
 ghost use Rattle.std.specs.Bool.{OnTrue, OnFalse};
 ghost use Rattle.std.specs.Fmt.{decimal};
-ghost use Rattle.tinyvec_slice.specs.SliceVec.{items_of, spare_of, name_of, items, spare};
+ghost use Rattle.tinyvec_array.specs.ArrayVec.{items_of, spare_of, name_of};
+ghost use Rattle.tinyvec_array.specs.SliceVec.{items, spare};
 
 use std::fmt;
 use std::fmt::Write;
-use tinyvec_slice::{GenericSliceVec, Lent, SliceVec};
+use tinyvec_array::{ArrayVec, SliceVec, TakesClones};
 
 /// Two numbers and text between them, after the list of any vector of bytes. If not all of it fits, the caller of
 /// `write!` knows nothing of the vector.
-pub fn write_pair<B: Lent<Item = u8>>(v: &mut GenericSliceVec<B>, x: u32, y: u32) -> fmt::Result
-    ensures same_reference { OnOk result (name_of B.Lent v.new ≡ name_of B.Lent v.old) }
+pub fn write_pair<B: TakesClones<Item = u8>>(v: &mut ArrayVec<B>, x: u32, y: u32) -> fmt::Result
+    ensures same_reference { OnOk result (name_of B.Slots v.new ≡ name_of B.Slots v.old) }
     ensures items { OnOk result
-        (items_of B.Lent v.new ≡ items_of B.Lent v.old ++ (decimal x ++ (codes ", " ++ decimal y))) }
-    ensures spare { OnOk result (spare_of B.Lent v.new
-        ≡ drop (length (decimal x ++ (codes ", " ++ decimal y))) (spare_of B.Lent v.old)) }
+        (items_of B.Slots v.new ≡ items_of B.Slots v.old ++ (decimal x ++ (codes ", " ++ decimal y))) }
+    ensures spare { OnOk result (spare_of B.Slots v.new
+        ≡ drop (length (decimal x ++ (codes ", " ++ decimal y))) (spare_of B.Slots v.old)) }
 {
     write!(v, "{x}, {y}")
 }
@@ -30,11 +31,11 @@ pub fn pair_into(bytes: &mut [u8], x: u32, y: u32) -> bool
 }
 
 /// Any text after the list of any vector of bytes. It is written as a whole or not at all.
-pub fn write_text<B: Lent<Item = u8>>(v: &mut GenericSliceVec<B>, s: &str) -> bool
-    ensures fits { IsTrue result ↔ (length s.now ≤ length (spare_of B.Lent v.old)) }
-    ensures same_reference { name_of B.Lent v.new ≡ name_of B.Lent v.old }
-    ensures items { OnTrue result (items_of B.Lent v.new ≡ items_of B.Lent v.old ++ s.now) }
-    ensures spare { OnTrue result (spare_of B.Lent v.new ≡ drop (length s.now) (spare_of B.Lent v.old)) }
+pub fn write_text<B: TakesClones<Item = u8>>(v: &mut ArrayVec<B>, s: &str) -> bool
+    ensures fits { IsTrue result ↔ (length s.now ≤ length (spare_of B.Slots v.old)) }
+    ensures same_reference { name_of B.Slots v.new ≡ name_of B.Slots v.old }
+    ensures items { OnTrue result (items_of B.Slots v.new ≡ items_of B.Slots v.old ++ s.now) }
+    ensures spare { OnTrue result (spare_of B.Slots v.new ≡ drop (length s.now) (spare_of B.Slots v.old)) }
     ensures refused { OnFalse result (v.new ≡ v.old) }
 {
     v.write_str(s).is_ok()

@@ -1,7 +1,7 @@
 //! A driven splice of a `TinyVec`.
 ghost use Rattle.std.specs.Prelude.{◌≡◌, ◌+◌, ◌<◌, ◌≤◌, IfOk, IfErr, vec_len};
 ghost use Rattle.std.specs.Iterator.Adapters.{fuse_steps};
-ghost use Rattle.tinyvec.specs.TinyVec.{tiny_view, tiny_items, tiny_len, tiny_capacity};
+ghost use Rattle.tinyvec.specs.TinyVec.{tiny_view_of, tiny_items_of, tiny_len_of, tiny_capacity};
 ghost use Rattle.tinyvec_script.specs.Driving.{TinySplices, SpliceComputes};
 
 use crate::End;
@@ -22,11 +22,11 @@ pub fn drive_tiny_splice<A: Array>(
     word: &[End],
 ) -> Result<Driven<A::Item>, NoMemory<Vec<A::Item>>>
     requires start_le_end { start ≤ end }
-    requires in_bounds { end ≤ tiny_len vec.old }
-    ensures splices { IfOk result (λ driven. TinySplices A.Item.is_default A.CAPACITY (tiny_view vec.old)
-        start end word.now replacement.items driven.yields.items driven.rest.items (tiny_view vec.new)) }
-    ensures computed { IfOk result (λ driven. SpliceComputes (tiny_capacity A.CAPACITY vec.new) (tiny_items vec.old)
-        start end word.now replacement.items driven.yields.items driven.rest.items (tiny_items vec.new)) }
+    requires in_bounds { end ≤ tiny_len_of A.Slots vec.old }
+    ensures splices { IfOk result (λ driven. TinySplices A.Item.is_default A.CAPACITY (tiny_view_of A.Slots vec.old)
+        start end word.now replacement.items driven.yields.items driven.rest.items (tiny_view_of A.Slots vec.new)) }
+    ensures computed { IfOk result (λ driven. SpliceComputes (tiny_capacity A.CAPACITY vec.new) (tiny_items_of A.Slots vec.old)
+        start end word.now replacement.items driven.yields.items driven.rest.items (tiny_items_of A.Slots vec.new)) }
     ensures refused { IfErr result (λ refused. (refused.0 ≡ replacement) × (vec.new ≡ vec.old)
         × (start < end + vec_len replacement)) }
 {
@@ -45,11 +45,11 @@ impl<'a, A: Array, I: DoubleEndedIterator<Item = A::Item>> TwoEnds
 
     type Item = A::Item;
 
-    ghost can = { λ s. SpliceCanNext I.can_next s × SpliceCanNext I.can_next_back s };
+    ghost can = { λ s. SpliceCanNext A.Slots I.can_next s × SpliceCanNext A.Slots I.can_next_back s };
 
-    ghost gives = { SpliceSteps (fuse_steps I.next_gives) };
+    ghost gives = { SpliceSteps A.Slots (fuse_steps I.next_gives) };
 
-    ghost gives_back = { SpliceStepsBack (fuse_steps I.next_back_gives) };
+    ghost gives_back = { SpliceStepsBack A.Slots (fuse_steps I.next_back_gives) };
 
     fn take_from(&mut self, end: End) -> Option<A::Item> {
         match end {

@@ -1,7 +1,9 @@
 //! Bytes of a list that are copied to the heap, or replaced by others, by moves of memory.
 ghost use Rattle.std.specs.Prelude.{◌≡◌, ◌+◌, ◌-◌, ◌*◌, ◌≤◌, ◌++◌, ◌∷◌, [], length, take, drop, false, is_ok, if◌then◌else◌, IsOk, IfOk, OnErr, vec_len, vec_capacity};
-ghost use Rattle.tinyvec_slots.specs.Slots.{Gains, items, items_len};
-ghost use Rattle.tinyvec.specs.TinyVec.{tiny_items, tiny_len, tiny_capacity, is_inline, IsInline, IsTail, Becomes};
+ghost use Rattle.tinyvec_slots.specs.Slots.{Gains};
+ghost use Rattle.tinyvec_array.specs.ArrayVec.{items, items_len, view};
+ghost use Rattle.tinyvec.specs.TinyVec.{tiny_items, tiny_len, tiny_capacity, is_inline, IsInline, tiny_view};
+ghost use Rattle.tinyvec.specs.View.{IsTail, Becomes};
 ghost use Rattle.tinyvec.specs.Room.{GrowsFor, MakesRoom};
 ghost use Rattle.tinyvec.specs.OnHeap.{HeapBecomes};
 
@@ -39,9 +41,9 @@ pub fn split_bytes<const N: usize>(
     at: usize,
 ) -> Result<TinyVec<[u8; N]>, AllocError>
     requires { at ≤ tiny_len list.old }
-    ensures becomes { Becomes (λ b. b ≡ 0) N list.old list.new
+    ensures becomes { Becomes (λ b. b ≡ 0) N (tiny_view list.old) (tiny_view list.new)
         (if is_ok result then take at (tiny_items list.old) else tiny_items list.old) }
-    ensures tail { IfOk result (IsTail (λ b. b ≡ 0) N at list.old) }
+    ensures tail { IfOk result (λ v. IsTail (λ b. b ≡ 0) N at (tiny_view list.old) (tiny_view v)) }
     ensures succeeds { IsInline list.old → IsOk result }
     ensures succeeds_at_the_end { at ≡ tiny_len list.old → IsOk result }
     ensures refused { OnErr result (list.new ≡ list.old) }
@@ -64,7 +66,7 @@ pub fn replace_bytes<const N: usize>(
     requires start_le_end { start ≤ end }
     requires in_list { end ≤ tiny_len list.old }
     requires room { tiny_len list.old - (end - start) + length bytes.now ≤ tiny_capacity N list.old }
-    ensures { Becomes (λ b. b ≡ 0) N list.old list.new
+    ensures { Becomes (λ b. b ≡ 0) N (tiny_view list.old) (tiny_view list.new)
         (take start (tiny_items list.old) ++ bytes.now ++ drop end (tiny_items list.old)) }
 {
     let gap = end - start;
@@ -83,7 +85,7 @@ pub fn replace_bytes<const N: usize>(
 pub fn remove_bytes<const N: usize>(list: &mut TinyVec<[u8; N]>, start: usize, end: usize)
     requires start_le_end { start ≤ end }
     requires in_list { end ≤ tiny_len list.old }
-    ensures { Becomes (λ b. b ≡ 0) N list.old list.new
+    ensures { Becomes (λ b. b ≡ 0) N (tiny_view list.old) (tiny_view list.new)
         (take start (tiny_items list.old) ++ drop end (tiny_items list.old)) }
 {
     let left = list.len() - (end - start);
@@ -96,7 +98,7 @@ pub fn remove_bytes<const N: usize>(list: &mut TinyVec<[u8; N]>, start: usize, e
 fn insert_bytes<const N: usize>(list: &mut TinyVec<[u8; N]>, index: usize, bytes: &[u8])
     requires in_list { index ≤ tiny_len list.old }
     requires room { tiny_len list.old + length bytes.now ≤ tiny_capacity N list.old }
-    ensures { Becomes (λ b. b ≡ 0) N list.old list.new
+    ensures { Becomes (λ b. b ≡ 0) N (tiny_view list.old) (tiny_view list.new)
         (take index (tiny_items list.old) ++ bytes.now ++ drop index (tiny_items list.old)) }
 {
     let behind = list.len() - index;
@@ -116,7 +118,8 @@ pub fn put_bytes<const N: usize>(
     requires { index ≤ tiny_len list.old }
     ensures items { tiny_items list.new ≡ (if is_ok result
         then take index (tiny_items list.old) ++ bytes.now ++ drop index (tiny_items list.old) else tiny_items list.old) }
-    ensures room { MakesRoom GrowsFor (λ b. b ≡ 0) N (tiny_len list.old + length bytes.now) list.old list.new result }
+    ensures room { MakesRoom GrowsFor (λ b. b ≡ 0) N (tiny_len list.old + length bytes.now)
+        (tiny_view list.old) (tiny_view list.new) result }
 {
     match list {
         TinyVec::Inline(v, _) if bytes.len() <= v.capacity() - v.len() => insert_inline(
@@ -143,7 +146,8 @@ pub fn put_byte<const N: usize>(
     requires { index ≤ tiny_len list.old }
     ensures items { tiny_items list.new ≡ (if is_ok result
         then take index (tiny_items list.old) ++ byte ∷ [] ++ drop index (tiny_items list.old) else tiny_items list.old) }
-    ensures room { MakesRoom GrowsFor (λ b. b ≡ 0) N (tiny_len list.old + 1) list.old list.new result }
+    ensures room { MakesRoom GrowsFor (λ b. b ≡ 0) N (tiny_len list.old + 1)
+        (tiny_view list.old) (tiny_view list.new) result }
 {
     match list {
         TinyVec::Inline(v, _) if v.len() < v.capacity() => insert_inline(v, index, &[byte]),
@@ -166,7 +170,8 @@ fn put_byte_slow<const N: usize>(
     requires { index ≤ tiny_len list.old }
     ensures items { tiny_items list.new ≡ (if is_ok result
         then take index (tiny_items list.old) ++ byte ∷ [] ++ drop index (tiny_items list.old) else tiny_items list.old) }
-    ensures room { MakesRoom GrowsFor (λ b. b ≡ 0) N (tiny_len list.old + 1) list.old list.new result }
+    ensures room { MakesRoom GrowsFor (λ b. b ≡ 0) N (tiny_len list.old + 1)
+        (tiny_view list.old) (tiny_view list.new) result }
 {
     put_bytes(list, index, &[byte])
 }
@@ -176,9 +181,11 @@ fn put_byte_slow<const N: usize>(
 fn insert_inline<const N: usize>(v: &mut ArrayVec<[u8; N]>, index: usize, bytes: &[u8])
     requires in_list { index ≤ items_len v.old }
     requires room { length bytes.now ≤ N - items_len v.old }
-    ensures { Gains N (length bytes.now) v.old v.new
+    ensures { Gains N (length bytes.now) (view v.old) (view v.new)
         (take index (items v.old) ++ bytes.now ++ drop index (items v.old)) }
 {
+    // Tells the proof how many slots there are.
+    let _slots = v.capacity();
     let len = v.len();
     v.set_len(len + bytes.len());
     // The minimum is all that is behind, which LLVM does not know.
@@ -279,7 +286,8 @@ pub fn push_bytes<const N: usize>(
 ) -> Result<(), AllocError>
     ensures items { tiny_items list.new
         ≡ (if is_ok result then tiny_items list.old ++ bytes.now else tiny_items list.old) }
-    ensures room { MakesRoom GrowsFor (λ b. b ≡ 0) N (tiny_len list.old + length bytes.now) list.old list.new result }
+    ensures room { MakesRoom GrowsFor (λ b. b ≡ 0) N (tiny_len list.old + length bytes.now)
+        (tiny_view list.old) (tiny_view list.new) result }
 {
     match list {
         TinyVec::Inline(v, _) if bytes.len() <= v.capacity() - v.len() => append_inline(v, bytes),
@@ -295,7 +303,8 @@ pub fn push_bytes<const N: usize>(
 #[inline(always)]
 pub fn append_bytes<const N: usize>(list: &mut TinyVec<[u8; N]>, bytes: &[u8])
     requires { tiny_len list.old + length bytes.now ≤ tiny_capacity N list.old }
-    ensures { Becomes (λ b. b ≡ 0) N list.old list.new (tiny_items list.old ++ bytes.now) }
+    ensures { Becomes (λ b. b ≡ 0) N (tiny_view list.old) (tiny_view list.new)
+        (tiny_items list.old ++ bytes.now) }
 {
     match list {
         TinyVec::Inline(v, _) => append_inline(v, bytes),
@@ -308,7 +317,8 @@ pub fn append_bytes<const N: usize>(list: &mut TinyVec<[u8; N]>, bytes: &[u8])
 pub fn push_few<const N: usize>(list: &mut TinyVec<[u8; N]>, bytes: &[u8]) -> Result<(), AllocError>
     ensures items { tiny_items list.new
         ≡ (if is_ok result then tiny_items list.old ++ bytes.now else tiny_items list.old) }
-    ensures room { MakesRoom GrowsFor (λ b. b ≡ 0) N (tiny_len list.old + length bytes.now) list.old list.new result }
+    ensures room { MakesRoom GrowsFor (λ b. b ≡ 0) N (tiny_len list.old + length bytes.now)
+        (tiny_view list.old) (tiny_view list.new) result }
 {
     match list {
         TinyVec::Inline(v, _) if bytes.len() <= v.capacity() - v.len() => append_inline(v, bytes),
@@ -327,7 +337,8 @@ fn push_few_slow<const N: usize>(
 ) -> Result<(), AllocError>
     ensures items { tiny_items list.new
         ≡ (if is_ok result then tiny_items list.old ++ bytes.now else tiny_items list.old) }
-    ensures room { MakesRoom GrowsFor (λ b. b ≡ 0) N (tiny_len list.old + length bytes.now) list.old list.new result }
+    ensures room { MakesRoom GrowsFor (λ b. b ≡ 0) N (tiny_len list.old + length bytes.now)
+        (tiny_view list.old) (tiny_view list.new) result }
 {
     push_bytes(list, bytes)
 }
@@ -336,8 +347,10 @@ fn push_few_slow<const N: usize>(
 #[inline(always)]
 fn append_inline<const N: usize>(v: &mut ArrayVec<[u8; N]>, bytes: &[u8])
     requires { length bytes.now ≤ N - items_len v.old }
-    ensures { Gains N (length bytes.now) v.old v.new (items v.old ++ bytes.now) }
+    ensures { Gains N (length bytes.now) (view v.old) (view v.new) (items v.old ++ bytes.now) }
 {
+    // Tells the proof how many slots there are.
+    let _slots = v.capacity();
     let len = v.len();
     let end = bytes.len();
     write_over(&mut v.grab_spare_slice_mut()[0..end], bytes, N);
@@ -417,7 +430,8 @@ fn write_ends<const W: usize>(to: &mut [u8], bytes: &[u8])
 fn append_on_heap<const N: usize>(list: &mut TinyVec<[u8; N]>, bytes: &[u8])
     requires place { is_inline list.old ≡ false }
     requires room { tiny_len list.old + length bytes.now ≤ tiny_capacity N list.old }
-    ensures { Becomes (λ b. b ≡ 0) N list.old list.new (tiny_items list.old ++ bytes.now) }
+    ensures { Becomes (λ b. b ≡ 0) N (tiny_view list.old) (tiny_view list.new)
+        (tiny_items list.old ++ bytes.now) }
 {
     let TinyVec::Heap(heap) = list else {
         unreachable!();

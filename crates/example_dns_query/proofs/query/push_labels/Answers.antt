@@ -2,7 +2,7 @@ use Rattle.std.proofs.Common.{◌≡◌, ◌∷◌, ◌∙◌, ap, arith}
 use Rattle.std.proofs.lemmas.List.Elements.{All-rest}
 use Rattle.std.specs.Option.{option_copied}
 use Rattle.example_dns_query.specs.Name.{IsLabel, labels_in, label_wire}
-use Rattle.tinyvec_slice.proofs.AppendsLemmas.{length-spare, appends_rest}
+use Rattle.tinyvec_array.proofs.AppendsLemmas.{length-spare, appends_rest}
 use Rattle.example_dns_query.proofs.NameLemmas.{wire_len-cut}
 use Rattle.example_dns_query.proofs.query.push_labels.Goals as goal
 

@@ -1,8 +1,8 @@
 use Rattle.std.proofs.Common.{◌≤◌, ℕ, length, All}
 use Rattle.std.specs.List.{flat_map}
 use Rattle.std.specs.Option.{option_copied}
-use Rattle.tinyvec_slice.specs.SliceVec.{spare}
-use Rattle.tinyvec_slice.specs.Appends.{LentVec, Appends}
+use Rattle.tinyvec_array.specs.SliceVec.{spare}
+use Rattle.tinyvec_array.specs.Appends.{LentVec, Appends}
 use Rattle.example_dns_query.specs.Name.{IsLabel, labels_in, label_wire}
 use Rattle.example_dns_query.proofs.query.push_labels.Given as goal
 

@@ -1,5 +1,5 @@
 use Rattle.std.proofs.Common.{◌∷◌, []}
-use Rattle.tinyvec_slice.proofs.AppendsLemmas.{Appends-then}
+use Rattle.tinyvec_array.proofs.AppendsLemmas.{Appends-then}
 use Rattle.example_dns_query.proofs.query.push_name.Goals as goal
 
 pub returns : goal.returns

@@ -1,4 +1,4 @@
-use Rattle.tinyvec_slice.proofs.AppendsLemmas.{Appends-then}
+use Rattle.tinyvec_array.proofs.AppendsLemmas.{Appends-then}
 use Rattle.example_dns_query.proofs.query.push_query.Goals as goal
 
 pub returns : goal.returns

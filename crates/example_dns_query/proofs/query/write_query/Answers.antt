@@ -1,9 +1,9 @@
 use Rattle.std.proofs.Common.{◌≡◌, ◌∙◌, ◌+◌, ◌++◌, ap, arith, rules, length, drop}
-use Rattle.tinyvec_slice.specs.SliceVec.{slots}
-use Rattle.tinyvec_slice.specs.Appends.{Appends}
+use Rattle.tinyvec_array.specs.SliceVec.{slots}
+use Rattle.tinyvec_array.specs.Appends.{Appends}
 use Rattle.example_dns_query.specs.Name.{labels_of, labels_in, name_wire}
 use Rattle.example_dns_query.specs.Message.{query}
-use Rattle.tinyvec_slice.proofs.AppendsLemmas.{owner_sees_appended}
+use Rattle.tinyvec_array.proofs.AppendsLemmas.{owner_sees_appended}
 use Rattle.example_dns_query.proofs.SpellingLemmas.{spells_only}
 use Rattle.example_dns_query.proofs.MessageLemmas.{length-query}
 use Rattle.example_dns_query.proofs.query.write_query.Goals as goal

@@ -1,4 +1,4 @@
-use Rattle.std.proofs.Common.{◌≡◌, ◌∙◌, ◌++◌, ◌∷◌, [], None, Some, Ok, ap, length, rules, string_bytes, sym}
+use Rattle.std.proofs.Common.{◌≡◌, ◌∙◌, ◌++◌, ◌∷◌, [], None, Some, Ok, Err, ap, length, rules, string_bytes, sym}
 use Rattle.tinyvec_borsh.proofs.Outcomes.{if-ok}
 use Rattle.example_records.specs.Shown.{len_text}
 use Rattle.example_records.proofs.Showing.{answered, more_bytes}
@@ -32,3 +32,10 @@ returns-else-len-eq1 c =
     (λ text same. answered c.args.line.now c.args.stream.now.items c.run.new.stream.items (string_bytes text) c.run.result (Ok None) run.answers run.text run.unknown run.tells is
     (same ∙ more_bytes c.len-len.result c.if-len-eq1.false ∙ ap (λ n. len_text n ++ 10 ∷ []) len))
     c.format-in-Ok-None.ensures.ok
+
+pub returns-in-Err : goal.returns-in-Err
+returns-in-Err c =
+    let run = c.run.ensures in
+    if-ok c.format-in-Err.result
+    (λ text same. answered c.args.line.now c.args.stream.now.items c.run.new.stream.items (string_bytes text) c.run.result (Err c.in-Err.error) run.answers run.text run.unknown run.tells c.in-Err.is same)
+    c.format-in-Err.ensures.ok

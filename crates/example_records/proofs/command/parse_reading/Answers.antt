@@ -1,6 +1,6 @@
 use Rattle.std.proofs.Common.{inl, refl, rules}
 use Rattle.std.proofs.lemmas.Result.{err_from_is_err_and}
-use Rattle.tinyvec_slots.specs.Slots.{items}
+use Rattle.tinyvec_array.specs.ArrayVec.{items}
 use Rattle.example_records.specs.Commands.{AreSamples, HasStation, rest_of, word_of}
 use Rattle.example_records.proofs.command.parse_reading.Goals as goal
 

@@ -1,6 +1,7 @@
-use Rattle.std.proofs.Common.{◌≡◌, ◌≢◌, ◌≤◌, ◌<◌, ◌^◌, ◌++◌, ◌+◌, ◌∷◌, [], Some, None, ap, append-nil, arith, codes, inr, length, option_copied, rules, subst, subst₂, sym}
+use Rattle.std.proofs.Common.{◌≡◌, ◌≢◌, ◌≤◌, ◌<◌, ◌^◌, ◌++◌, ◌+◌, ◌∷◌, [], Some, None, ◌∙◌, ap, append-nil, arith, codes, drop, inr, length, length-drop, option_copied, rules, subst, subst₂, sym}
 use Rattle.std.proofs.lemmas.Grind.{common_steps}
-use Rattle.tinyvec_slots.specs.Slots.{items}
+use Rattle.std.proofs.lemmas.List.{length_push}
+use Rattle.tinyvec_array.specs.ArrayVec.{items, items_len, spare}
 use Rattle.example_records.specs.Commands.{AreNumbers, behind_comma, part_of}
 use Rattle.example_records.proofs.CommandLaws.{AreBefore, AreWith, before_next, is_decimal, no_number, no_room, not_decimal, shorter, text_left, with_next}
 use Rattle.example_records.proofs.command.parse_samples.Goals as goal
@@ -18,7 +19,8 @@ returns-then-is_some-clause-refused c =
     let other : c.args.text.now ≢ codes "-" = first_of (search rules, grind (arith, common_steps)) in
     let first : AreBefore c.args.text.now (items c.loop-rest.samples) (Some c.in-Some.text.now) =
     subst (λ rest. AreBefore c.args.text.now (items c.loop-rest.samples) (option_copied rest)) c.in-Some.is c.loop-rest.invariant.before in
-    let full : 8 ≤ length (items c.loop-rest.samples) = first_of (search rules, grind (arith, common_steps)) in
+    let none : length (spare c.loop-rest.samples) ≡ 0 = first_of (search rules, grind (arith, common_steps)) in
+    let full : 8 ≤ items_len c.loop-rest.samples = omega (arith, none, c.loop-rest.invariant.slots) in
     no_room c.args.text.now (items c.loop-rest.samples) c.in-Some.text.now other first full
 
 pub loop-rest-smaller : goal.loop-rest-smaller
@@ -33,6 +35,8 @@ loop-rest-preserved c =
     let numbers = items c.loop-rest.samples in
     let rest = c.in-Some.text.now in
     let pushed : items c.try_push.new.self ≡ items c.loop-rest.samples ++ c.in-Ok.sample ∷ [] = first_of (search rules, grind (arith, common_steps)) in
+    let used : spare c.try_push.new.self ≡ drop 1 (spare c.loop-rest.samples) = first_of (search rules, grind (arith, common_steps)) in
+    let room : 0 < length (spare c.loop-rest.samples) = first_of (search rules, grind (arith, common_steps)) in
     let behind = c.first_part.ensures.behind in
     let parsed = c.in-Ok.ensures.value.0 in
     let is = is_decimal c.in-Ok.sample c.first_part.result.0.now (part_of rest) c.first_part.ensures.part parsed.0.0 parsed.1 in
@@ -41,6 +45,13 @@ loop-rest-preserved c =
     record {
       before = subst₂ (AreBefore text) (sym pushed) (sym behind) (before_next text numbers rest c.in-Ok.sample is before);
       with = subst₂ (AreWith text) (sym pushed) (sym behind) (with_next text numbers rest c.in-Ok.sample is with);
+      slots = omega (
+        arith,
+        room,
+        c.loop-rest.invariant.slots,
+        ap length pushed ∙ length_push numbers c.in-Ok.sample,
+        ap length used ∙ length-drop 1 (spare c.loop-rest.samples),
+      );
     }
 
 pub returns-clause-ok : goal.returns-clause-ok

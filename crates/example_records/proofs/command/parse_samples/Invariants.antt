@@ -1,5 +1,5 @@
-use Rattle.std.proofs.Common.{option_copied}
-use Rattle.tinyvec_slots.specs.Slots.{items}
+use Rattle.std.proofs.Common.{◌≡◌, ◌+◌, length, option_copied}
+use Rattle.tinyvec_array.specs.ArrayVec.{items, items_len, spare}
 use Rattle.example_records.proofs.CommandLaws.{AreBefore, AreWith, text_left}
 use Rattle.example_records.proofs.command.parse_samples.Given as goal
 
@@ -8,6 +8,7 @@ abbrev pub invariant-loop-rest : goal.invariant-loop-rest
 invariant-loop-rest l = record {
   before : AreBefore l.fn.text (items l.samples) (option_copied l.rest);
   with : AreWith l.fn.text (items l.samples) (option_copied l.rest);
+  slots : items_len l.samples + length (spare l.samples) ≡ 8;
 }
 
 abbrev pub decreases-loop-rest : goal.decreases-loop-rest

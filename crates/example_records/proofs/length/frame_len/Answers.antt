@@ -1,5 +1,5 @@
 use Rattle.std.proofs.Common.{◌≡◌, arith, length, rules}
-use Rattle.tinyvec_slots.specs.Slots.{items}
+use Rattle.tinyvec_array.specs.ArrayVec.{items}
 use Rattle.tinyvec.specs.TinyVec.{tiny_items}
 use Rattle.example_records.proofs.Lengths.{frame-length}
 use Rattle.example_records.proofs.length.frame_len.Goals as goal

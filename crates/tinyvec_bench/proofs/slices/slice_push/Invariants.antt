@@ -1,6 +1,6 @@
 use Rattle.std.proofs.Common.{length}
 use Rattle.std.specs.Bool.{⊤}
-use Rattle.tinyvec_slice.specs.SliceVec.{spare}
+use Rattle.tinyvec_array.specs.SliceVec.{spare}
 use Rattle.tinyvec_bench.proofs.slices.slice_push.Given as goal
 
 abbrev pub invariant-loop-vec : goal.invariant-loop-vec

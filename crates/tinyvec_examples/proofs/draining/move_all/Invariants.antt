@@ -1,5 +1,5 @@
 use Rattle.std.proofs.Common.{◌≡◌, ◌++◌}
-use Rattle.tinyvec_slots.specs.Slots.{items}
+use Rattle.tinyvec_array.specs.ArrayVec.{items_of, SameLender}
 use Rattle.tinyvec_array.specs.Drain.{DrainKeeps, drain_items}
 use Rattle.tinyvec_examples.proofs.draining.move_all.Given as goal
 
@@ -7,6 +7,7 @@ abbrev pub invariant-loop-x : goal.invariant-loop-x
 invariant-loop-x g l = record {
   can : (goal.iterator-loop-x g).can_next l.x-iterator;
   ends : (goal.iterator-loop-x g).is_finite l.x-iterator;
-  keeps : DrainKeeps l.initial.x-iterator l.x-iterator;
-  moved : items l.fn.from ≡ items l.to ++ drain_items l.x-iterator;
+  keeps : DrainKeeps g.A.Slots l.initial.x-iterator l.x-iterator;
+  moved : items_of g.A.Slots l.fn.from ≡ items_of g.A.Slots l.to ++ drain_items g.A.Slots l.x-iterator;
+  lender : SameLender g.A.Slots l.fn.to l.to;
 }

@@ -1,6 +1,6 @@
 use Rattle.std.proofs.Common.{◌≤◌, length, rules}
 use Rattle.std.proofs.lemmas.Iterator.Adapters.{YieldsList-from_vec}
-use Rattle.tinyvec_slice.specs.SliceVec.{spare}
+use Rattle.tinyvec_array.specs.SliceVec.{spare}
 use Rattle.tinyvec_examples.proofs.known_items.into_slots.Goals as goal
 
 pub returns-clause-items : goal.returns-clause-items

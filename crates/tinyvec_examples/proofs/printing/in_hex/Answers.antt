@@ -9,4 +9,4 @@ unfolding digits
 returns c =
     let text : Slots ℕ → Option (List ℕ) = λ v. list_in_radix Some 16 false (items v) in
     subst (λ v. IfOk c.format.result (λ s. IfSome (text v) (λ bs. string_bytes s ≡ bs)))
-    c.from_array_len-v.ensures c.format.ensures.ok
+    c.from_array_len-v.ensures.value c.format.ensures.ok

@@ -13,14 +13,14 @@ returns-clause-asked g c = let t = c.next_back-last.new.self in (c.next-first.ne
 pub returns-clause-spliced : goal.returns-clause-spliced
 returns-clause-spliced g c = λ rest ends.
     let t = c.next_back-last.new.self in
-    RunsWord-splices (fused_rest rest) (fuse_steps g.I.Iterator.next_gives) (fuse_steps g.I.DoubleEndedIterator.next_back_gives) (fused_ends _ _ rest ends)
+    RunsWord-splices g.A.Slots (fused_rest rest) (fuse_steps g.I.Iterator.next_gives) (fuse_steps g.I.DoubleEndedIterator.next_back_gives) (fused_ends _ _ rest ends)
     c.args.splice.now (front ∷ back ∷ []) (c.next-first.result ∷ c.next_back-last.result ∷ []) t
     (c.next-first.new.self, c.next-first.ensures.steps, (t, c.next_back-last.ensures.steps, refl))
 
 pub returns-clause-kept : goal.returns-clause-kept
 returns-clause-kept g c =
     let t = c.next_back-last.new.self in
-    let counts = tiny_counted (fuse_steps g.I.Iterator.next_gives) (fuse_steps g.I.DoubleEndedIterator.next_back_gives)
+    let counts = tiny_counted g.A.Slots (fuse_steps g.I.Iterator.next_gives) (fuse_steps g.I.DoubleEndedIterator.next_back_gives)
     c.args.splice.now (front ∷ back ∷ []) (c.next-first.result ∷ c.next_back-last.result ∷ []) t
     (c.next-first.new.self, c.next-first.ensures.steps, (t, c.next_back-last.ensures.steps, refl)) in
     counts.kept

@@ -1,6 +1,7 @@
 use Rattle.std.proofs.Common.{◌++◌, subst, rules}
 use Rattle.tinyvec_slots.specs.Ranges.{before, after}
-use Rattle.tinyvec.specs.TinyVec.{tiny_items, Becomes}
+use Rattle.tinyvec.specs.TinyVec.{tiny_items_of, tiny_view_of}
+use Rattle.tinyvec.specs.View.{Becomes}
 use Rattle.tinyvec.proofs.DrainLemmas.{DrainKeeps-refl, tiny_drained}
 use Rattle.tinyvec_examples.proofs.tiny_vec.cut.Goals as goal
 
@@ -11,6 +12,6 @@ returns g c =
     let d = c.drain.result in
     let D = g.A.Item.Default.is_default in
     let slots = g.A.Array.CAPACITY in
-    let left : Becomes D slots old new (before (tiny_items old) (g.R.RangeBounds.start_bound c.args.range) ++ after (tiny_items old) (g.R.RangeBounds.end_bound c.args.range)) =
-    subst (Becomes D slots old new) c.drain.ensures.kept (tiny_drained D slots old d d new c.drain.ensures.frame (DrainKeeps-refl d) c.drop.ensures) in
+    let left : Becomes D slots (tiny_view_of g.A.Slots old) (tiny_view_of g.A.Slots new) (before (tiny_items_of g.A.Slots old) (g.R.RangeBounds.start_bound c.args.range) ++ after (tiny_items_of g.A.Slots old) (g.R.RangeBounds.end_bound c.args.range)) =
+    subst (Becomes D slots (tiny_view_of g.A.Slots old) (tiny_view_of g.A.Slots new)) c.drain.ensures.kept (tiny_drained g.A.Slots D slots old d d new c.drain.ensures.frame (DrainKeeps-refl g.A.Slots d) c.drop.ensures) in
     search rules

@@ -1,6 +1,7 @@
 use Rattle.std.proofs.Common.{◌++◌, subst, rules}
 use Rattle.tinyvec_slots.specs.Ranges.{before, after}
-use Rattle.tinyvec.specs.TinyVec.{tiny_items, Becomes}
+use Rattle.tinyvec.specs.TinyVec.{tiny_items_of, tiny_view_of}
+use Rattle.tinyvec.specs.View.{Becomes}
 use Rattle.tinyvec.proofs.DrainLemmas.{nth-keeps, tiny_drained}
 use Rattle.tinyvec_examples.proofs.tiny_vec.nth_of.Goals as goal
 
@@ -10,8 +11,8 @@ returns-clause-left g c =
     let new = c.drop-d.new.self.0 in
     let D = g.A.Item.Default.is_default in
     let slots = g.A.Array.CAPACITY in
-    let kept = nth-keeps c.drain-d.result c.args.n c.nth.result c.nth.new.self c.nth.ensures.ran in
-    let left : Becomes D slots old new (before (tiny_items old) (g.R.RangeBounds.start_bound c.args.range) ++ after (tiny_items old) (g.R.RangeBounds.end_bound c.args.range)) =
-    subst (Becomes D slots old new) c.drain-d.ensures.kept (tiny_drained D slots old c.drain-d.result c.nth.new.self new c.drain-d.ensures.frame kept c.drop-d.ensures) in
+    let kept = nth-keeps g.A.Slots c.drain-d.result c.args.n c.nth.result c.nth.new.self c.nth.ensures.ran in
+    let left : Becomes D slots (tiny_view_of g.A.Slots old) (tiny_view_of g.A.Slots new) (before (tiny_items_of g.A.Slots old) (g.R.RangeBounds.start_bound c.args.range) ++ after (tiny_items_of g.A.Slots old) (g.R.RangeBounds.end_bound c.args.range)) =
+    subst (Becomes D slots (tiny_view_of g.A.Slots old) (tiny_view_of g.A.Slots new)) c.drain-d.ensures.kept (tiny_drained g.A.Slots D slots old c.drain-d.result c.nth.new.self new c.drain-d.ensures.frame kept c.drop-d.ensures) in
     let same = kept.same_reference in
     search rules

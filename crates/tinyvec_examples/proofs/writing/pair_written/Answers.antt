@@ -1,6 +1,8 @@
-use Rattle.std.proofs.Common.{rules}
-use Rattle.tinyvec_slots.proofs.TextLemmas.{items_after}
+use Rattle.std.proofs.lemmas.Fmt.{contents_after_writes}
+use Rattle.std.proofs.lemmas.Result.{on_ok_weaker}
+use Rattle.tinyvec_array.specs.ArrayVec.{items_of}
 use Rattle.tinyvec_examples.proofs.writing.pair_written.Goals as goal
 
 pub returns : goal.returns
-returns g c = search (rules, items_after)
+returns g c =
+    on_ok_weaker c.write.result (contents_after_writes _ (items_of g.A.Slots) (λ v bs w wrote. wrote.0) c.args.v.now _ c.write.new.self) c.write.ensures.writes

@@ -9,7 +9,7 @@ abbrev pub invariant-loop-front : goal.invariant-loop-front
 invariant-loop-front g l =
     (lines : List ℕ) × (output : List ℕ) × (l.bytes ≡ lines ++ l.rest)
     × Gathers g.W.Write.contents l.fn.writer l.fn.gathered l.writer l.gathered output
-    × Feeds (state_of g.B.Lent l.fn.vectors) l.fn.line lines output (state_of g.B.Lent l.vectors) l.line
+    × Feeds (state_of g.B.Slots l.fn.vectors) l.fn.line lines output (state_of g.B.Slots l.vectors) l.line
 
 abbrev pub decreases-loop-front : goal.decreases-loop-front
 decreases-loop-front g l = length l.rest

@@ -2,7 +2,8 @@ use Rattle.std.proofs.Common.{refl, ◌≡◌, ◌++◌, List, ℕ, [], take, po
 use Rattle.tinyvec_slots.specs.Slots.{spare, split_at}
 use Rattle.tinyvec_slots.proofs.SlotsLemmas.{defaults_are}
 use Rattle.tinyvec_script.specs.Script.{start, zeros, State, IsZero}
-use Rattle.tinyvec_slice.specs.SliceVec.{view}
+use Rattle.tinyvec_array.specs.ArrayVec.{view as array_view, all_slots}
+use Rattle.tinyvec_array.specs.SliceVec.{view}
 use Rattle.tinyvec.specs.TinyVec.{tiny_view}
 use Rattle.tinyvec.specs.View.{Place, in_array, on_heap, lies_inline}
 use Rattle.std.proofs.KnownBytes.{Appends-nil, Appends-trans, Consumes-nil, Consumes-trans, Consumes-kept}
@@ -17,8 +18,8 @@ is_in_array (on_heap n) h = absurd (let no = h in cc)
 
 pub loop-piece-init : goal.loop-piece-init
 loop-piece-init g c =
-    let array = c.new.result in
-    let border = c.new.ensures.border in
+    let array = array_view c.new.result in
+    let border : array ≡ split_at 0 (all_slots c.new.result) = c.new.ensures.border in
     let empty = defaults_are IsZero (pos 0) (λ x h. h) 4 (spare array) c.new.ensures.spare in
     let a_begins : array ≡ zeros = border ∙ ap (split_at 0) (sym (ap spare border) ∙ empty) in
     let s_begins : view c.from_slice_len.result ≡ zeros = c.from_slice_len.ensures.value in

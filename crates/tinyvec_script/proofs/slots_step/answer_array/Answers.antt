@@ -1,63 +1,83 @@
-use Rattle.std.proofs.Common.{refl, ◌<◌, ◌≤◌, ◌++◌, ap, ◌∙◌, arith, rules}
+use Rattle.std.proofs.Common.{refl, ◌<◌, ◌≤◌, ◌++◌, length, ap, ◌∙◌, arith, rules, length-append}
+use Rattle.std.proofs.lemmas.Grind.{common_steps}
 use Rattle.std.specs.declared.ops.Bound.TheVariants.{Included, Excluded}
-use Rattle.tinyvec_slots.specs.Slots.{items, items_len}
+use Rattle.tinyvec_slots.specs.Slots.{items, spare, items_len, all_slots}
 use Rattle.tinyvec_slots.specs.Ranges.{removed}
 use Rattle.tinyvec_script.specs.Driving.{ArraySplices}
 use Rattle.tinyvec_script.specs.Step.{ArrayStep}
 use Rattle.tinyvec_script.specs.declared.call.Call.TheVariants.{Splice}
+use Rattle.tinyvec_script.proofs.DrivingLemmas.{splice_answers}
+use Rattle.tinyvec_slots.proofs.SlotsLemmas.{slots_are}
+use Rattle.tinyvec_array.specs.ArrayVec.{view_of}
 use Rattle.tinyvec.proofs.TinyLemmas.{slots_pushed, slots_inserted, slots_removed}
 use Rattle.std.proofs.lemmas.Option.{slice_get_read}
 use Rattle.tinyvec_script.proofs.StepLemmas.{swap_removes, truncates, drains}
-use Rattle.tinyvec_script.proofs.DrivingLemmas.{splice_answers}
 use Rattle.tinyvec_script.proofs.slots_step.answer_array.Goals as goal
 
-pub returns-in-Push : goal.returns-in-Push
-returns-in-Push g c =
+pub returns-in-Push-clause-step : goal.returns-in-Push-clause-step
+returns-in-Push-clause-step g c =
+    let old = view_of g.S.Slots c.args.vec.now in
+    let some : 0 < length (spare old) = search rules in
+    let whole = ap length (slots_are old) ∙ length-append (items old) (spare old) in
     let made = c.push.ensures in
-    rw c.in-Push.is (search rules, made.items, slots_pushed g.A.Item.Default.is_default c.args.vec.now c.push.new.self c.in-Push.x made.items made.spare)
+    rw c.in-Push.is (omega (arith, some, whole), made.items, slots_pushed g.S.Item.Default.is_default old (view_of g.S.Slots c.push.new.self) c.in-Push.x made.items made.spare)
 
-pub returns-in-Insert : goal.returns-in-Insert
-returns-in-Insert g c =
+pub returns-in-Insert-clause-step : goal.returns-in-Insert-clause-step
+returns-in-Insert-clause-step g c =
+    let old = view_of g.S.Slots c.args.vec.now in
+    let some : 0 < length (spare old) = search rules in
+    let whole = ap length (slots_are old) ∙ length-append (items old) (spare old) in
     let made = c.insert.ensures in
-    let in_list : c.in-Insert.i ≤ items_len c.args.vec.now = omega arith in
-    rw c.in-Insert.is (in_list, search rules, made.items, slots_inserted g.A.Item.Default.is_default c.args.vec.now c.insert.new.self c.in-Insert.i c.in-Insert.x in_list made.items made.spare)
+    let in_list : c.in-Insert.i ≤ items_len old = omega (arith, c.len.ensures.value) in
+    rw c.in-Insert.is (in_list, omega (arith, some, whole), made.items, slots_inserted g.S.Item.Default.is_default old (view_of g.S.Slots c.insert.new.self) c.in-Insert.i c.in-Insert.x in_list made.items made.spare)
 
-pub returns-in-Remove : goal.returns-in-Remove
-returns-in-Remove g c =
+pub returns-in-Remove-clause-step : goal.returns-in-Remove-clause-step
+returns-in-Remove-clause-step g c =
+    let old = view_of g.S.Slots c.args.vec.now in
     let made = c.remove.ensures in
-    let old = c.args.vec.now in
-    let in_list : c.in-Remove.i < items_len old = omega arith in
-    rw c.in-Remove.is (slice_get_read (items old) _ c.in-Remove.i _ refl in_list made.value, made.becomes.items, slots_removed g.A.Item.Default.is_default old c.remove.new.self c.in-Remove.i in_list made.becomes.items made.becomes.spare)
+    let in_list : c.in-Remove.i < items_len old = omega (arith, c.len-in-Remove.ensures.value) in
+    rw c.in-Remove.is (slice_get_read (items old) _ c.in-Remove.i _ refl in_list made.value, made.becomes.items, slots_removed g.S.Item.Default.is_default old (view_of g.S.Slots c.remove.new.self) c.in-Remove.i in_list made.becomes.items made.becomes.spare)
 
-pub returns-in-SwapRemove : goal.returns-in-SwapRemove
-returns-in-SwapRemove g c =
+pub returns-in-SwapRemove-clause-step : goal.returns-in-SwapRemove-clause-step
+returns-in-SwapRemove-clause-step g c =
+    let old = view_of g.S.Slots c.args.vec.now in
     let made = c.swap_remove.ensures in
-    rw c.in-SwapRemove.is (swap_removes g.A.Item.Default.is_default g.A.Array.CAPACITY c.args.vec.now c.swap_remove.new.self c.in-SwapRemove.i
-    c.swap_remove.result (omega arith) made.value made.becomes.items made.becomes.spare)
+    rw c.in-SwapRemove.is (swap_removes g.S.Item.Default.is_default (length (all_slots old)) old (view_of g.S.Slots c.swap_remove.new.self)
+    c.in-SwapRemove.i c.swap_remove.result (omega (arith, c.len-in-SwapRemove.ensures.value)) made.value made.becomes.items made.becomes.spare)
 
-pub returns-in-Truncate : goal.returns-in-Truncate
-returns-in-Truncate g c =
-    let made = c.truncate.ensures in
-    rw c.in-Truncate.is (truncates g.A.Item.Default.is_default g.A.Array.CAPACITY c.args.vec.now c.truncate.new.self c.in-Truncate.n made.items made.spare)
-
-pub returns-in-Drain : goal.returns-in-Drain
-returns-in-Drain g c =
-    let old = c.args.vec.now in
+pub returns-in-Drain-clause-step : goal.returns-in-Drain-clause-step
+returns-in-Drain-clause-step g c =
+    let old = view_of g.S.Slots c.args.vec.now in
     let i = c.in-Drain.start in
     let j = c.in-Drain.end in
     let left = c.drain_into.ensures in
     let in_order : i ≤ j = omega arith in
     let in_list : j ≤ items_len old = omega arith in
     let taken = left.moved ∙ ap (λ xs. xs ++ removed (items old) (Included i) (Excluded j)) c.in-Ok.ensures.items in
-    let made = drains g.A.Item.Default.is_default g.A.Array.CAPACITY old c.drain_into.new.self i j c.drain_into.new.out.items in_order in_list taken left.becomes.items left.becomes.spare in
+    let made = drains g.S.Item.Default.is_default (length (all_slots old)) old (view_of g.S.Slots c.drain_into.new.self) i j c.drain_into.new.out.items in_order in_list taken left.becomes.items left.becomes.spare in
     rw c.in-Drain.is ((in_order, in_list), made.0, made.1)
 
-pub returns-in-Ok-drive_array_splice : goal.returns-in-Ok-drive_array_splice
-returns-in-Ok-drive_array_splice g c =
-    let D = g.A.Item.Default.is_default in
-    let capacity = g.A.Array.CAPACITY in
-    let old = c.args.vec.now in
-    let new = c.drive_array_splice.new.vec in
+pub returns-then-is_full-clause-step : goal.returns-then-is_full-clause-step
+returns-then-is_full-clause-step g c = grind (arith, common_steps)
+
+pub returns-then-is_full-2-clause-step : goal.returns-then-is_full-2-clause-step
+returns-then-is_full-2-clause-step g c = grind (arith, common_steps)
+
+pub returns-in-Truncate-clause-step : goal.returns-in-Truncate-clause-step
+returns-in-Truncate-clause-step g c =
+    let old = view_of g.S.Slots c.args.vec.now in
+    let made = c.truncate.ensures in
+    rw c.in-Truncate.is (truncates g.S.Item.Default.is_default (length (all_slots old)) old (view_of g.S.Slots c.truncate.new.self) c.in-Truncate.n made.items made.spare)
+
+pub drain_into-requires-clause-room : goal.drain_into-requires-clause-room
+drain_into-requires-clause-room g c = grind (arith, common_steps)
+
+pub returns-in-Ok-drive_array_splice-clause-step : goal.returns-in-Ok-drive_array_splice-clause-step
+returns-in-Ok-drive_array_splice-clause-step g c =
+    let D = g.S.Item.Default.is_default in
+    let old = view_of g.S.Slots c.args.vec.now in
+    let capacity = length (all_slots old) in
+    let new = view_of g.S.Slots c.drive_array_splice.new.vec in
     let start = c.in-Splice.start in
     let end = c.in-Splice.end in
     let word = c.in-Splice.word in

@@ -1,7 +1,7 @@
 use Rattle.std.proofs.Common.{◌≤◌, refl, arith}
 use Rattle.std.proofs.lemmas.Grind.{common_steps}
 use Rattle.std.proofs.lemmas.Option.{slice_get_read}
-use Rattle.tinyvec.specs.TinyVec.{tiny_view, tiny_items, tiny_len, tiny_capacity}
+use Rattle.tinyvec.specs.TinyVec.{tiny_view_of, tiny_items_of, tiny_len_of, tiny_capacity}
 use Rattle.tinyvec_script.specs.Driving.{TinySplices}
 use Rattle.tinyvec_script.specs.TinyCalls.{TinyAnswers}
 use Rattle.tinyvec_script.specs.declared.call.Call.TheVariants.{Splice}
@@ -19,14 +19,14 @@ returns-in-Ok-drive_tiny_splice-clause-answered g c =
     let word = c.in-Splice.word in
     let replacement = c.in-Splice.replacement in
     let in_order : start ≤ end = omega arith in
-    let in_list : end ≤ tiny_len old = omega arith in
+    let in_list : end ≤ tiny_len_of g.A.Slots old = omega arith in
     let answered = c.answer_driven.ensures in
     let driven = c.in-Ok-drive_tiny_splice.driven in
     let did = rw c.as_slice.ensures.value at c.in-Ok-drive_tiny_splice.ensures.splices in
-    rw c.in-Splice.is (splice_answers (tiny_capacity slots new) (tiny_items old) (tiny_items new) start end word.items replacement.items driven.yields driven.rest
+    rw c.in-Splice.is (splice_answers (tiny_capacity slots new) (tiny_items_of g.A.Slots old) (tiny_items_of g.A.Slots new) start end word.items replacement.items driven.yields driven.rest
     c.answer_driven.result in_order in_list answered.items answered.spliced did.list
-    (λ yields rest. TinySplices D slots (tiny_view old) start end word.items replacement.items yields rest (tiny_view new)) did
-    (λ answer. TinyAnswers D slots (tiny_view old) (Splice start end word replacement) answer (tiny_view new))
+    (λ yields rest. TinySplices D slots (tiny_view_of g.A.Slots old) start end word.items replacement.items yields rest (tiny_view_of g.A.Slots new)) did
+    (λ answer. TinyAnswers D slots (tiny_view_of g.A.Slots old) (Splice start end word replacement) answer (tiny_view_of g.A.Slots new))
     (λ fits all. ((in_order, in_list), (fits, all))) (λ over some. ((in_order, in_list), (over, some))))
 
 pub returns-in-Pop-clause-answered : goal.returns-in-Pop-clause-answered
@@ -35,12 +35,12 @@ returns-in-Pop-clause-answered g c = grind (arith, common_steps)
 pub returns-in-Remove-clause-answered : goal.returns-in-Remove-clause-answered
 returns-in-Remove-clause-answered g c =
     let made = c.remove.ensures in
-    rw c.in-Remove.is (slice_get_read (tiny_items c.args.vec.now) _ c.in-Remove.i _ refl (omega arith) made.value, made.becomes)
+    rw c.in-Remove.is (slice_get_read (tiny_items_of g.A.Slots c.args.vec.now) _ c.in-Remove.i _ refl (omega arith) made.value, made.becomes)
 
 pub returns-in-SwapRemove-clause-answered : goal.returns-in-SwapRemove-clause-answered
 returns-in-SwapRemove-clause-answered g c =
     let made = c.swap_remove.ensures in
-    rw c.in-SwapRemove.is (slice_get_read (tiny_items c.args.vec.now) _ c.in-SwapRemove.i _ refl (omega arith) made.value, made.becomes)
+    rw c.in-SwapRemove.is (slice_get_read (tiny_items_of g.A.Slots c.args.vec.now) _ c.in-SwapRemove.i _ refl (omega arith) made.value, made.becomes)
 
 pub drain_into-requires-clause-room : goal.drain_into-requires-clause-room
 drain_into-requires-clause-room g c = grind (arith, common_steps)

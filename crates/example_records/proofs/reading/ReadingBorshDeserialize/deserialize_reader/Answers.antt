@@ -1,7 +1,7 @@
 use Rattle.std.proofs.Common.{lit<, subst}
 use Rattle.std.proofs.lemmas.Result.{err_from_is_err_and}
 use Rattle.std.proofs.lemmas.List.{map-id}
-use Rattle.tinyvec_slots.specs.Slots.{items}
+use Rattle.tinyvec_array.specs.ArrayVec.{items}
 use Rattle.tinyvec.specs.TinyVec.{tiny_items}
 use Rattle.tinyvec_borsh.specs.Number.{SpellsNumber, TooFewBytes}
 use Rattle.tinyvec_borsh.specs.NumberLaws.{number_apart}

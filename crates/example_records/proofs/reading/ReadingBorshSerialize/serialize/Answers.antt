@@ -1,7 +1,7 @@
 use Rattle.std.proofs.Common.{lit<, subst}
 use Rattle.std.proofs.lemmas.List.{map-id}
 use Rattle.tinyvec.specs.TinyVec.{tiny_items}
-use Rattle.tinyvec_slots.specs.Slots.{items}
+use Rattle.tinyvec_array.specs.ArrayVec.{items}
 use Rattle.tinyvec_borsh.proofs.Outcomes.{on-ok}
 use Rattle.example_records.specs.Readings.{NoteFits, SamplesFit}
 use Rattle.std.proofs.lemmas.Result.{err_from_is_err_and}

@@ -1,13 +1,13 @@
 use Rattle.std.proofs.Common.{◌+◌, ◌-◌, refl, arith, ap, ◌∙◌}
 use Rattle.std.specs.List.{remove_range}
 use Rattle.tinyvec_slots.proofs.Lists.{slice_range_last, remove_range-set}
-use Rattle.tinyvec.specs.TinyVec.{tiny_items}
+use Rattle.tinyvec.specs.TinyVec.{tiny_items_of}
 use Rattle.tinyvec.proofs.drain.TinyVecDrainDoubleEndedIterator.next_back.Goals as goal
 
 pub returns-clause-steps : goal.returns-clause-steps
 returns-clause-steps g c =
     let d = c.args.self.now in
-    let xs = tiny_items d.vec.now in
+    let xs = tiny_items_of g.A.Slots d.vec.now in
     let end = d.start + d.gap in
     let can = c.requires in
     let after = c.take_at.ensures.after in

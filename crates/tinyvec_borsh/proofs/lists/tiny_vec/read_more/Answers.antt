@@ -1,5 +1,5 @@
 use Rattle.std.proofs.Common.{◌≡◌, ◌∙◌, ◌+◌, ◌≤◌, [], ap, inl, inr, length, length-append, arith, le_refl, refl, rules}
-use Rattle.tinyvec.specs.TinyVec.{tiny_items, tiny_len}
+use Rattle.tinyvec.specs.TinyVec.{tiny_items_of, tiny_len_of, tiny_view_of}
 use Rattle.tinyvec.specs.Lends.{tiny_with_items}
 use Rattle.tinyvec.proofs.TinyLemmas.{tiny_framed-with, tiny_items-with, tiny_slots_then_framed}
 use Rattle.tinyvec_borsh.specs.TwoParts.{joined}
@@ -14,22 +14,22 @@ use Rattle.tinyvec_borsh.proofs.lists.tiny_vec.read_more.Goals as goal
 pub returns-clause-place : goal.returns-clause-place
 returns-clause-place g c =
     let mid = c.resize_with.new.self in
-    let same : length c.read_items.new.slots ≡ tiny_len mid = search rules in
-    let framed = tiny_framed-with mid c.read_items.new.slots same in
+    let same : length c.read_items.new.slots ≡ tiny_len_of g.A.Slots mid = search rules in
+    let framed = tiny_framed-with g.A.Slots mid c.read_items.new.slots same in
     let made = c.in-Ok.ensures in
-    on-ok c.read_items.result (λ _. place-framed g.A.Array.CAPACITY _ c.args.v.now mid (tiny_with_items mid c.read_items.new.slots) made.room.place framed.place (framed.len ∙ made.len)) c.read_items.ensures.ok
+    on-ok c.read_items.result (λ _. place-framed g.A.Array.CAPACITY _ (tiny_view_of g.A.Slots c.args.v.now) (tiny_view_of g.A.Slots mid) (tiny_view_of g.A.Slots (tiny_with_items g.A.Slots mid c.read_items.new.slots)) made.room.place framed.place (framed.len ∙ made.len)) c.read_items.ensures.ok
 
 pub returns-clause-ok : goal.returns-clause-ok
 returns-clause-ok g c =
     let mid = c.resize_with.new.self in
-    let same : length c.read_items.new.slots ≡ tiny_len mid = search rules in
-    let framed = tiny_framed-with mid c.read_items.new.slots same in
-    let long : tiny_len c.args.v.now ≤ tiny_len mid = search rules in
-    let fewer : tiny_len mid ≤ c.args.count = search rules in
-    let some : tiny_len c.args.v.now + 1 ≤ tiny_len mid = search rules in
+    let same : length c.read_items.new.slots ≡ tiny_len_of g.A.Slots mid = search rules in
+    let framed = tiny_framed-with g.A.Slots mid c.read_items.new.slots same in
+    let long : tiny_len_of g.A.Slots c.args.v.now ≤ tiny_len_of g.A.Slots mid = search rules in
+    let fewer : tiny_len_of g.A.Slots mid ≤ c.args.count = search rules in
+    let some : tiny_len_of g.A.Slots c.args.v.now + 1 ≤ tiny_len_of g.A.Slots mid = search rules in
     on-ok c.read_items.result (λ t. (
       t.0,
-      tiny_items-with mid c.read_items.new.slots same ∙ grown c.len-start.result (c.len-start.result + c.min.result) (tiny_items c.args.v.now) c.in-Ok.ensures.items.0 (tiny_items mid) c.read_items.new.slots t.0 (search rules) (search rules) c.in-Ok.ensures.items.2 (search rules) (search rules),
+      tiny_items-with g.A.Slots mid c.read_items.new.slots same ∙ grown c.len-start.result (c.len-start.result + c.min.result) (tiny_items_of g.A.Slots c.args.v.now) c.in-Ok.ensures.items.0 (tiny_items_of g.A.Slots mid) c.read_items.new.slots t.0 (search rules) (search rules) c.in-Ok.ensures.items.2 (search rules) (search rules),
       search rules,
       omega (arith, framed.len, fewer),
       t.3,
@@ -39,17 +39,17 @@ returns-clause-ok g c =
 pub returns-clause-slot_rule : goal.returns-clause-slot_rule
 returns-clause-slot_rule g c =
     let mid = c.resize_with.new.self in
-    let same : length c.read_items.new.slots ≡ tiny_len mid = search rules in
-    on-ok c.read_items.result (λ _. tiny_slots_then_framed g.A.Item.Default.is_default c.args.v.now mid (tiny_with_items mid c.read_items.new.slots) c.resize_with.ensures.room.slot_rule (tiny_framed-with mid c.read_items.new.slots same)) c.read_items.ensures.ok
+    let same : length c.read_items.new.slots ≡ tiny_len_of g.A.Slots mid = search rules in
+    on-ok c.read_items.result (λ _. tiny_slots_then_framed g.A.Item.Default.is_default (tiny_view_of g.A.Slots c.args.v.now) (tiny_view_of g.A.Slots mid) (tiny_view_of g.A.Slots (tiny_with_items g.A.Slots mid c.read_items.new.slots)) c.resize_with.ensures.room.slot_rule (tiny_framed-with g.A.Slots mid c.read_items.new.slots same)) c.read_items.ensures.ok
 
 pub returns-clause-capacity : goal.returns-clause-capacity
 returns-clause-capacity g c =
     let slots = g.A.Array.CAPACITY in
     let mid = c.resize_with.new.self in
-    let same : length c.read_items.new.slots ≡ tiny_len mid = search rules in
-    let framed = tiny_framed-with mid c.read_items.new.slots same in
+    let same : length c.read_items.new.slots ≡ tiny_len_of g.A.Slots mid = search rules in
+    let framed = tiny_framed-with g.A.Slots mid c.read_items.new.slots same in
     let few : c.len-start.result + c.min.result ≤ c.args.count = search rules in
-    let grown = room-grown slots (c.len-start.result + c.min.result) c.args.count c.args.v.now mid c.resize_with.ensures.room.same_room c.in-Ok.ensures.room.grown few in
+    let grown = room-grown slots (c.len-start.result + c.min.result) c.args.count (tiny_view_of g.A.Slots c.args.v.now) (tiny_view_of g.A.Slots mid) c.resize_with.ensures.room.same_room c.in-Ok.ensures.room.grown few in
     on-ok c.read_items.result (λ _. omega (arith, framed.capacity slots, grown)) c.read_items.ensures.ok
 
 pub returns-clause-fails : goal.returns-clause-fails

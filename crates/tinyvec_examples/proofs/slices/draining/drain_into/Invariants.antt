@@ -1,12 +1,12 @@
 use Rattle.std.proofs.Common.{◌≡◌, ◌++◌, vec_capacity}
-use Rattle.tinyvec_slice.specs.Drain.{DrainKeeps, drain_items}
+use Rattle.tinyvec_array.specs.Drain.{DrainKeeps, drain_items}
 use Rattle.tinyvec_examples.proofs.slices.draining.drain_into.Given as goal
 
 abbrev pub invariant-loop-x : goal.invariant-loop-x
 invariant-loop-x g l = record {
   can : (goal.iterator-loop-x g).can_next l.x-iterator;
   ends : (goal.iterator-loop-x g).is_finite l.x-iterator;
-  keeps : DrainKeeps g.B.Lent l.initial.x-iterator l.x-iterator;
-  moved : l.out.items ++ drain_items g.B.Lent l.x-iterator ≡ l.fn.out.items ++ drain_items g.B.Lent l.initial.x-iterator;
+  keeps : DrainKeeps g.B.Slots l.initial.x-iterator l.x-iterator;
+  moved : l.out.items ++ drain_items g.B.Slots l.x-iterator ≡ l.fn.out.items ++ drain_items g.B.Slots l.initial.x-iterator;
   room : vec_capacity l.out ≡ vec_capacity l.fn.out;
 }

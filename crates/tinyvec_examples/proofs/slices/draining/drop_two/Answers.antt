@@ -1,7 +1,7 @@
 use Rattle.std.proofs.Common.{rules, ◌≡◌, ◌++◌, ◌∙◌, pos, ap, length, replicate, slice_range}
 use Rattle.std.proofs.lemmas.List.{places}
 use Rattle.tinyvec_slots.proofs.SlotsLemmas.{freed}
-use Rattle.tinyvec_slice.specs.SliceVec.{view, items, spare}
+use Rattle.tinyvec_array.specs.SliceVec.{view, items, spare}
 use Rattle.tinyvec_examples.proofs.slices.draining.drop_two.Goals as goal
 
 pub returns-clause-spare : goal.returns-clause-spare

@@ -1,7 +1,7 @@
 use Rattle.std.proofs.Common.{◌≡◌, ◌∷◌, [], ◌++◌, pos, rules, refl, ap, ◌∙◌, length, replicate}
 use Rattle.tinyvec_slots.proofs.SlotsLemmas.{freed}
-use Rattle.tinyvec_slice.specs.SliceVec.{items, spare, slots, view}
-use Rattle.tinyvec_slice.proofs.ViewLemmas.{owner_sees}
+use Rattle.tinyvec_array.specs.SliceVec.{items, spare, slots, view}
+use Rattle.tinyvec_array.proofs.ViewLemmas.{owner_sees}
 use Rattle.tinyvec_examples.proofs.slices.edits.appended.Goals as goal
 
 pub returns-clause-longer : goal.returns-clause-longer

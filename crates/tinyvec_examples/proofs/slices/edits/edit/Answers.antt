@@ -1,5 +1,5 @@
 use Rattle.std.proofs.Common.{◌-◌, ◌∷◌, ◌++◌, pos, ap, ◌∙◌, length, replicate, drop}
-use Rattle.tinyvec_slice.specs.SliceVec.{items, spare, view}
+use Rattle.tinyvec_array.specs.SliceVec.{items, spare, view}
 use Rattle.tinyvec_slots.proofs.SlotsLemmas.{freed}
 use Rattle.tinyvec_examples.proofs.slices.edits.edit.Goals as goal
 

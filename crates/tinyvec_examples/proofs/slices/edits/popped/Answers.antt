@@ -1,8 +1,8 @@
 use Rattle.std.proofs.Common.{◌≡◌, ◌-◌, ◌∷◌, [], pos, rules, refl, ap, ◌∙◌, length, take}
 use Rattle.tinyvec_slots.specs.Slots.{Vacates}
 use Rattle.tinyvec_slots.proofs.SlotsLemmas.{freed}
-use Rattle.tinyvec_slice.specs.SliceVec.{items, spare, slots, view}
-use Rattle.tinyvec_slice.proofs.ViewLemmas.{owner_sees}
+use Rattle.tinyvec_array.specs.SliceVec.{items, spare, slots, view}
+use Rattle.tinyvec_array.proofs.ViewLemmas.{owner_sees}
 use Rattle.tinyvec_examples.proofs.slices.edits.popped.Goals as goal
 
 pub returns : goal.returns

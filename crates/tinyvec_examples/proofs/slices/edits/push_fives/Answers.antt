@@ -1,6 +1,6 @@
 use Rattle.std.proofs.Common.{rules, arith, ◌∷◌, [], ◌∙◌, ap, length, take, drop, pos}
 use Rattle.std.proofs.lemmas.List.{drop-drop, take-append-le, places}
-use Rattle.tinyvec_slice.specs.SliceVec.{items, spare}
+use Rattle.tinyvec_array.specs.SliceVec.{items, spare}
 use Rattle.tinyvec_examples.proofs.slices.edits.push_fives.Goals as goal
 
 pub loop-i-preserved : goal.loop-i-preserved

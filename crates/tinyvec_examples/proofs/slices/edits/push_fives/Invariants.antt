@@ -1,5 +1,5 @@
 use Rattle.std.proofs.Common.{◌≡◌, ◌+◌, length, take, drop}
-use Rattle.tinyvec_slice.specs.SliceVec.{items, spare, name}
+use Rattle.tinyvec_array.specs.SliceVec.{items, spare, name}
 use Rattle.tinyvec_examples.proofs.slices.edits.push_fives.Given as goal
 
 abbrev pub invariant-loop-i : goal.invariant-loop-i

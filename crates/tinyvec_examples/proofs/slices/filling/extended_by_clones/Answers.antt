@@ -1,6 +1,6 @@
 use Rattle.std.proofs.Common.{◌≡◌, ◌∷◌, [], ◌++◌, pos, rules, refl, ◌∙◌, drop}
-use Rattle.tinyvec_slice.specs.SliceVec.{items, spare, slots}
-use Rattle.tinyvec_slice.proofs.ViewLemmas.{owner_sees}
+use Rattle.tinyvec_array.specs.SliceVec.{items, spare, slots}
+use Rattle.tinyvec_array.proofs.ViewLemmas.{owner_sees}
 use Rattle.tinyvec_examples.proofs.slices.filling.extended_by_clones.Goals as goal
 
 pub returns : goal.returns

@@ -2,8 +2,8 @@ use Rattle.std.proofs.Common.{◌≡◌, ◌∷◌, [], ◌-◌, ◌%◌, nat_eq
 use Rattle.std.specs.Prelude.{filter}
 use Rattle.std.proofs.lemmas.Fn.{filter_same}
 use Rattle.tinyvec_slots.proofs.SlotsLemmas.{freed}
-use Rattle.tinyvec_slice.specs.SliceVec.{items, spare, slots, view}
-use Rattle.tinyvec_slice.proofs.ViewLemmas.{owner_sees}
+use Rattle.tinyvec_array.specs.SliceVec.{items, spare, slots, view}
+use Rattle.tinyvec_array.proofs.ViewLemmas.{owner_sees}
 use Rattle.tinyvec_examples.proofs.slices.filling.retained.Goals as goal
 
 pub returns : goal.returns

@@ -4,8 +4,8 @@ use Rattle.tinyvec_script.proofs.gathered.Gathered.put_after_send.Goals as goal
 pub returns-in-Err : goal.returns-in-Err
 returns-in-Err g c = gathers_unsent c.in-Err.is c.send.ensures
 
-pub returns-then-text-le-ROOM : goal.returns-then-text-le-ROOM
-returns-then-text-le-ROOM g c =
+pub returns-then-text-capacity : goal.returns-then-text-capacity
+returns-then-text-capacity g c =
     gathers_then (gathers_sent c.in_default.is c.send.ensures) (rw (← c.self.view_is) (gathers_more _ _ _ _ c.extend_from_slice_copy.ensures.items))
 
 pub returns-in-Err-write_all : goal.returns-in-Err-write_all

@@ -6,7 +6,7 @@ use Rattle.tinyvec_text.proofs.Lists.{text_utf8, text_cut, text_kept, text_same}
 use Rattle.tinyvec_text.proofs.inline_text.InlineText.insert_ascii.Goals as goal
 
 pub put_byte-requires : goal.put_byte-requires
-put_byte-requires g c = (search rules, (text_cut c.self.inside.list c.args.self.now c.self.view_is c.self.invariant c.args.index c.requires.boundary).0)
+put_byte-requires g c = (search rules, (search rules, (text_cut c.self.inside.list c.args.self.now c.self.view_is c.self.invariant c.args.index c.requires.boundary).0))
 
 pub invariant_of-self : goal.invariant_of-self
 invariant_of-self g c = text_same c.self.inside.list c.put_byte.new.list c.in_err-put_byte.ensures.room.refused c.self.invariant

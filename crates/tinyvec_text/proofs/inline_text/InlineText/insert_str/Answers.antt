@@ -5,7 +5,7 @@ use Rattle.tinyvec_text.proofs.Lists.{text_utf8, text_cut, text_kept, text_same}
 use Rattle.tinyvec_text.proofs.inline_text.InlineText.insert_str.Goals as goal
 
 pub put_bytes-requires : goal.put_bytes-requires
-put_bytes-requires g c = (search rules, (text_cut c.self.inside.list c.args.self.now c.self.view_is c.self.invariant c.args.index c.requires).0)
+put_bytes-requires g c = (search rules, (search rules, (text_cut c.self.inside.list c.args.self.now c.self.view_is c.self.invariant c.args.index c.requires).0))
 
 pub invariant_of-self : goal.invariant_of-self
 invariant_of-self g c = text_same c.self.inside.list c.put_bytes.new.list c.in_err-put_bytes.ensures.room.refused c.self.invariant

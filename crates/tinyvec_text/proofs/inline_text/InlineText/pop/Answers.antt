@@ -34,7 +34,7 @@ returns-then-last-lt128-clause-text g c =
 
 pub pop_wide-requires : goal.pop_wide-requires
 pop_wide-requires g c =
-    (search rules, (omega (arith, c.if-last-lt128.false), subst IsUtf8 c.in-Some.ensures.some (text_utf8 c.self.inside.list c.self.invariant)))
+    (search rules, (search rules, (omega (arith, c.if-last-lt128.false), subst IsUtf8 c.in-Some.ensures.some (text_utf8 c.self.inside.list c.self.invariant))))
 
 pub invariant_of-self-2 : goal.invariant_of-self-2
 invariant_of-self-2 g c =

@@ -1,5 +1,5 @@
 use Rattle.std.proofs.Common.{◌≡◌, ◌-◌, ◌+◌, ◌++◌, IsUtf8, ap, sym, subst, ◌∙◌, chars, length, take, drop, arith, rules}
-use Rattle.tinyvec.specs.TinyVec.{tiny_items}
+use Rattle.tinyvec.specs.TinyVec.{tiny_items, tiny_view}
 use Rattle.tinyvec.proofs.ReplacingLemmas.{replaced_room}
 use Rattle.tinyvec_slots.specs.Ranges.{range_start, range_end, before, after}
 use Rattle.tinyvec_slots.proofs.Lists.{length-replaced}
@@ -89,6 +89,6 @@ returns-clause-room g c =
     let order = cuts.order in
     let long = size ∙ (λ i. length (c.self.view_is i).bytes - (range_end end (length (c.self.view_is i).bytes) - a) + length (c.as_bytes-bytes.ensures.value i)) in
     made_room g.row.N _ list c.replace_bytes.new.list c.args.self.now _ c.self.view_is long
-    (replaced_room g.row.N c.saturating_sub-more.result list mid c.replace_bytes.new.list (omega (arith, c.len.ensures.fits, c.len.ensures.value))
+    (replaced_room g.row.N c.saturating_sub-more.result (tiny_view list) (tiny_view mid) (tiny_view c.replace_bytes.new.list) (omega (arith, c.len.ensures.fits, c.len.ensures.value))
     (omega (arith, size, more, starts, ends, order, inside)) (λ some. omega (arith, size, more, starts, ends, order, inside, some))
-    (λ b. b ≡ 0) _ _ c.in_ok-reserve.ensures.stays c.in_ok-reserve.ensures.room c.replace_bytes.ensures)
+    (λ b. b ≡ 0) _ _ (λ i. ap tiny_view (c.in_ok-reserve.ensures.stays i)) c.in_ok-reserve.ensures.room c.replace_bytes.ensures)

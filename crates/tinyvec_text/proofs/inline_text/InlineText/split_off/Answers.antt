@@ -7,7 +7,7 @@ use Rattle.tinyvec_text.proofs.Lists.{text_utf8, text_cut, text_stays, text_made
 use Rattle.tinyvec_text.proofs.inline_text.InlineText.split_off.Goals as goal
 
 pub split_bytes-requires : goal.split_bytes-requires
-split_bytes-requires g c = (search rules, (text_cut c.self.inside.list c.args.self.now c.self.view_is c.self.invariant c.args.at c.requires).0)
+split_bytes-requires g c = (search rules, (search rules, (text_cut c.self.inside.list c.args.self.now c.self.view_is c.self.invariant c.args.at c.requires).0))
 
 pub invariant_of-self : goal.invariant_of-self
 invariant_of-self g c = subst IsText (sym c.in_err-list.ensures.refused) c.self.invariant

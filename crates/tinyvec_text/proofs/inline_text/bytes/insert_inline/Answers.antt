@@ -1,8 +1,11 @@
-use Rattle.std.proofs.Common.{◌≡◌, ◌+◌, ◌-◌, ◌++◌, length, take, drop, sym, ap, ◌∙◌, arith, rules}
+use Rattle.std.proofs.Common.{◌≡◌, ◌-◌, ◌++◌, length, take, drop, sym, ap, ◌∙◌, arith, rules}
 use Rattle.std.proofs.Math.Seq.{take-add}
 use Rattle.std.proofs.lemmas.List.{drop-drop}
-use Rattle.tinyvec_slots.specs.Slots.{items, items_len, spare}
-use Rattle.tinyvec_slots.proofs.SlotsLemmas.{items-with_items, spare-with_items}
+use Rattle.tinyvec_slots.specs.Slots.{items as listed, spare as left}
+use Rattle.tinyvec_slots.proofs.BorderLemmas.{list_to, spare_from}
+use Rattle.tinyvec_array.specs.ArrayVec.{items, items_len, spare}
+use Rattle.tinyvec_array.specs.CutLaws.{written_of}
+use Rattle.tinyvec_array.proofs.Named.{array_slots}
 use Rattle.tinyvec_text.proofs.Moving.{inserted}
 use Rattle.tinyvec_text.proofs.inline_text.bytes.insert_inline.Goals as goal
 
@@ -16,15 +19,26 @@ returns g c =
     let seen = c.as_mut_slice.result.now in
     let ws = c.put_few_before.new.items in
     let long : length ws ≡ items_len mid = c.put_few_before.auto.items ∙ ap length c.as_mut_slice.ensures.value in
-    let at : len ≡ v.len = c.len-len.ensures.field in
+    let at : len ≡ items_len v = c.len-len.ensures.value in
     let grown : seen ≡ items v ++ take n (spare v) =
-    c.as_mut_slice.ensures.value ∙ ap (λ w. items w) c.set_len.ensures.value ∙ ap (λ k. take (k + n) v.slots) at ∙ take-add v.len n v.slots in
+    c.as_mut_slice.ensures.value ∙ ap (λ w. listed w) c.set_len.ensures.value ∙ take-add len n v.slots
+    ∙ (λ i. list_to v.len.len v.slots len at i ++ take n (spare_from v.len.len v.slots len at i)) in
     let behind : c.min.result ≡ items_len v - c.args.index = search rules in
+    let written = written_of (array_slots g.row.N) mid ws long in
+    let count : length v.slots ≡ g.row.N = c.capacity-slots.ensures.slot_count in
     record {
-      items =
-          items-with_items mid ws long ∙ c.put_few_before.ensures
-          ∙ inserted (items v) (take n (spare v)) xs seen c.args.index c.min.result c.requires.in_list behind grown;
+      items = written.0 ∙ c.put_few_before.ensures ∙ inserted (items v) (take n (spare v)) xs seen c.args.index c.min.result c.requires.in_list behind grown;
       spare =
-          spare-with_items mid ws long ∙ ap (λ w. spare w) c.set_len.ensures.value ∙ ap (λ k. drop (k + n) v.slots) at ∙ sym (drop-drop n v.len v.slots);
-      fits = omega (arith, ap length (items-with_items mid ws long), long, c.set_len.ensures.len, c.len-len.ensures.value, c.len-len.ensures.fits, c.requires.room);
+          written.1.1.0 ∙ ap (λ w. left w) c.set_len.ensures.value ∙ sym (drop-drop n len v.slots) ∙ ap (drop n) (spare_from v.len.len v.slots len at);
+      fits = omega (
+        arith,
+        ap length written.0,
+        long,
+        c.set_len.ensures.len,
+        at,
+        count,
+        c.capacity-slots.ensures.value,
+        c.capacity-slots.ensures.parts,
+        c.requires.room,
+      );
     }

@@ -1,6 +1,7 @@
-use Rattle.std.proofs.Common.{◌≡◌, ◌+◌, ◌-◌, ◌≤◌, ◌∷◌, ℕ, List, [], length, drop, ap, subst, sym, ◌∙◌, arith, rules}
-use Rattle.tinyvec_slots.specs.Slots.{items, items_len, spare}
-use Rattle.tinyvec.specs.TinyVec.{TinySlotRule}
+use Rattle.std.proofs.Common.{◌≡◌, ◌+◌, ◌-◌, ◌≤◌, ◌∷◌, [], length, drop, ap, subst, sym, ◌∙◌, arith, rules}
+use Rattle.tinyvec_array.specs.ArrayVec.{items, items_len, spare}
+use Rattle.tinyvec.specs.View.{TinySlotRule}
+use Rattle.tinyvec.specs.TinyVec.{tiny_view}
 use Rattle.tinyvec.specs.declared.tiny_vec.TinyVec.TheVariants.{Inline}
 use Rattle.tinyvec_slots.proofs.Lists.{length-replaced}
 use Rattle.tinyvec_text.proofs.inline_text.bytes.put_byte.Goals as goal
@@ -15,11 +16,11 @@ returns-in-Inline-clause-room g c =
     ap length made.items ∙ length-replaced c.args.index c.args.index (c.args.byte ∷ []) (items v) (omega arith) inside ∙ omega (arith, inside) in
     let count : 1 ≡ items_len new - items_len v = omega (arith, size) in
     let none : 0 ≡ items_len v - items_len new = omega (arith, size) in
-    let slots : TinySlotRule {A = List ℕ} (λ b. b ≡ 0) (Inline v c.in-Inline.field-1) (Inline new c.in-Inline.field-1) =
+    let slots : TinySlotRule (λ b. b ≡ 0) (tiny_view (Inline v c.in-Inline.field-1)) (tiny_view (Inline new c.in-Inline.field-1)) =
     λ _ _. ([], (none, λ k d few. absurd (omega (arith, few))), made.spare ∙ ap (λ k. drop k (spare v)) count) in
     record {
       place = search rules;
-      slot_rule = subst (λ l. TinySlotRule {A = List ℕ} (λ b. b ≡ 0) l (Inline new c.in-Inline.field-1)) (sym c.in-Inline.is) slots;
+      slot_rule = subst (λ l. TinySlotRule (λ b. b ≡ 0) (tiny_view l) (tiny_view (Inline new c.in-Inline.field-1))) (sym c.in-Inline.is) slots;
       capacity = search rules;
       same_room = search rules;
       grown = search rules;

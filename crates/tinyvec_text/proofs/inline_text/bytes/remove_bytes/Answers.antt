@@ -1,8 +1,7 @@
 use Rattle.std.proofs.Common.{◌≡◌, ◌-◌, ◌++◌, length, take, drop, sym, ap, subst, ◌∙◌}
-use Rattle.tinyvec.specs.Lends.{tiny_with_items}
-use Rattle.tinyvec.specs.SpliceLaws.{frame_becomes}
-use Rattle.tinyvec.specs.TinyVec.{tiny_items, tiny_len, Becomes}
-use Rattle.tinyvec.proofs.TinyLemmas.{tiny_items-with, tiny_framed-with}
+use Rattle.tinyvec.specs.TinyVec.{tiny_items, tiny_len, tiny_view}
+use Rattle.tinyvec.specs.View.{Becomes}
+use Rattle.tinyvec_text.proofs.Lists.{overwritten}
 use Rattle.tinyvec_text.proofs.inline_text.bytes.remove_bytes.Goals as goal
 
 pub returns : goal.returns
@@ -14,7 +13,7 @@ returns g c =
     let long : length ws ≡ tiny_len old = c.move_down.auto.bytes ∙ ap length same in
     let gap = c.args.end - c.args.start in
     let left : c.len.result - gap ≡ length seen - gap = ap (λ n. n - gap) (c.len.ensures.value ∙ sym (ap length same)) in
-    let is : take (c.len.result - gap) (tiny_items (tiny_with_items old ws)) ≡ take c.args.start (tiny_items old) ++ drop c.args.end (tiny_items old) =
-    (λ i. take (left i) (tiny_items-with old ws long i)) ∙ c.move_down.ensures ∙ (λ i. take c.args.start (same i) ++ drop c.args.end (same i)) in
-    subst (Becomes (λ b. b ≡ 0) g.row.N old c.truncate.new.self) is
-    (frame_becomes (λ b. b ≡ 0) g.row.N old (tiny_with_items old ws) c.truncate.new.self _ (tiny_framed-with old ws long) c.truncate.ensures)
+    let is : take (c.len.result - gap) ws ≡ take c.args.start (tiny_items old) ++ drop c.args.end (tiny_items old) =
+    (λ i. take (left i) ws) ∙ c.move_down.ensures ∙ (λ i. take c.args.start (same i) ++ drop c.args.end (same i)) in
+    let made = overwritten g.row.N old ws long c.truncate.new.self (take (c.len.result - gap)) c.truncate.ensures in
+    subst (Becomes (λ b. b ≡ 0) g.row.N (tiny_view old) (tiny_view c.truncate.new.self)) is made

@@ -1,10 +1,9 @@
 use Rattle.std.proofs.Common.{◌≡◌, ◌+◌, ◌-◌, ◌≤◌, ◌++◌, length, take, drop, ap, subst, ◌∙◌, append_assoc, arith, rules}
 use borrow.Rule.Slice.PartMut.{put_mid, same_len_mid}
 use Rattle.std.proofs.lemmas.Slice.{take-put_mid, drop-put_mid}
-use Rattle.tinyvec.specs.Lends.{tiny_with_items}
-use Rattle.tinyvec.specs.SpliceLaws.{frame_becomes}
-use Rattle.tinyvec.specs.TinyVec.{tiny_items, tiny_len, Becomes}
-use Rattle.tinyvec.proofs.TinyLemmas.{tiny_items-with, tiny_framed-with}
+use Rattle.tinyvec.specs.TinyVec.{tiny_items, tiny_len, tiny_view}
+use Rattle.tinyvec.specs.View.{Becomes}
+use Rattle.tinyvec_text.proofs.Lists.{overwritten}
 use Rattle.tinyvec_text.proofs.inline_text.bytes.replace_bytes.Goals as goal
 
 pub returns-then-bytes-gap : goal.returns-then-bytes-gap
@@ -26,9 +25,8 @@ returns-then-bytes-gap g c =
     let count : length own ≡ n - a = ap length c.copy_from_slice.ensures.after ∙ omega arith in
     let front = take-put_mid a (n - a) seen own n (omega (arith, count)) inside ∙ (λ i. take a (same i) ++ c.copy_from_slice.ensures.after i) in
     let back = drop-put_mid a (n - a) seen own e (omega (arith, few, order)) inside count ∙ ap (drop e) same in
-    let is = (λ i. take n (tiny_items-with old ws long i) ++ drop e (tiny_items-with old ws long i)) ∙ (λ i. front i ++ back i) in
-    subst (Becomes (λ b. b ≡ 0) g.row.N old c.remove_bytes.new.list) is
-    (frame_becomes (λ b. b ≡ 0) g.row.N old (tiny_with_items old ws) c.remove_bytes.new.list _ (tiny_framed-with old ws long) c.remove_bytes.ensures)
+    let made = overwritten g.row.N old ws long c.remove_bytes.new.list (λ l. take n l ++ drop e l) c.remove_bytes.ensures in
+    subst (Becomes (λ b. b ≡ 0) g.row.N (tiny_view old) (tiny_view c.remove_bytes.new.list)) (λ i. front i ++ back i) made
 
 pub returns : goal.returns
 returns g c =
@@ -50,7 +48,7 @@ returns g c =
     let front = take-put_mid a (e - a) seen own e (omega (arith, count, order)) inside ∙ (λ i. take a (same i) ++ c.copy_from_slice-2.ensures.after i) in
     let back = drop-put_mid a (e - a) seen own e (omega (arith, order)) inside count ∙ ap (drop e) same in
     let joined : first ++ more ≡ bs = search rules in
-    let is = (λ i. take e (tiny_items-with old ws long i) ++ more ++ drop e (tiny_items-with old ws long i)) ∙ (λ i. front i ++ more ++ back i)
+    let is = (λ i. front i ++ more ++ back i)
     ∙ ap (λ l. l ++ drop e (tiny_items old)) (append_assoc (take a (tiny_items old)) first more ∙ ap (λ l. take a (tiny_items old) ++ l) joined) in
-    subst (Becomes (λ b. b ≡ 0) g.row.N old c.insert_bytes.new.list) is
-    (frame_becomes (λ b. b ≡ 0) g.row.N old (tiny_with_items old ws) c.insert_bytes.new.list _ (tiny_framed-with old ws long) c.insert_bytes.ensures)
+    let made = overwritten g.row.N old ws long c.insert_bytes.new.list (λ l. take e l ++ more ++ drop e l) c.insert_bytes.ensures in
+    subst (Becomes (λ b. b ≡ 0) g.row.N (tiny_view old) (tiny_view c.insert_bytes.new.list)) is made

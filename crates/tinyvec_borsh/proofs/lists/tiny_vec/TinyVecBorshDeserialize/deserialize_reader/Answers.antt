@@ -1,5 +1,6 @@
-use Rattle.std.proofs.Common.{◌∙◌, inl, inr, ap, length, length-append, arith, ◌-◌, ◌^◌}
-use Rattle.tinyvec.specs.TinyVec.{tiny_items}
+use Rattle.std.proofs.Common.{◌≡◌, ◌≤◌, ◌∙◌, inl, inr, ap, subst, length, length-append, arith, ◌-◌, ◌^◌}
+use Rattle.tinyvec_slots.specs.Slots.{AreDefaults}
+use Rattle.tinyvec.specs.TinyVec.{tiny_items_of, tiny_len_of, tiny_spare_of, tiny_view_of}
 use Rattle.std.proofs.lemmas.List.{length-map}
 use Rattle.std.proofs.lemmas.Result.{err_from_is_err_and}
 use Rattle.tinyvec_borsh.specs.Items.{CountsAbove}
@@ -28,14 +29,31 @@ returns-in_default-clause-fails g c =
       failed = count.fails.failed;
     }
 
+pub loop-alloc-init : goal.loop-alloc-init
+loop-alloc-init g c =
+    let none = c.in-Ok.ensures.items in
+    let made = c.in-Ok.ensures.made in
+    let size = ap length none in
+    let some : c.min-ahead.result ≤ c.in_ok-count.count = omega (arith, c.min-ahead.ensures) in
+    let left : g.A.Array.CAPACITY - 0 ≡ g.A.Array.CAPACITY - tiny_len_of g.A.Slots c.in-Ok.v = omega (arith, size) in
+    record {
+      read = rw none (read-first g.A.Item.BorshForm.Spells g.A.Item.BorshForm.Fits _ _ _ c.in_ok-count.ensures.ok);
+      few = omega (arith, size);
+      place = record { fits = λ _. omega (arith, size); all_fit = λ fit. made.place.1 (omega (arith, some, fit)) };
+      spare = λ inline. subst (λ n. AreDefaults g.A.Item.Default.is_default n (tiny_spare_of g.A.Slots c.in-Ok.v)) left (made.spare inline);
+      room = omega (arith, made.exact, some);
+      grows = c.in_ok-count.ensures.fails.grows;
+      failed = c.in_ok-count.ensures.fails.failed.exact;
+    }
+
 pub loop-alloc-preserved : goal.loop-alloc-preserved
 loop-alloc-preserved g c =
     let t = c.in_ok-read_more.ensures.ok in
     record {
       read = read-appended g.A.Item.BorshForm.Spells g.A.Item.BorshForm.Fits g.A.Item.BorshForm.content_of _ _ t.0 _ _ _ _ t.1 c.loop-alloc.invariant.read t.5 t.4;
       few = t.3;
-      spare = spare-longer g.A.Item.Default.is_default g.A.Array.CAPACITY c.loop-alloc.v c.read_more.new.v (omega (arith, ap length t.1, length-append (tiny_items c.loop-alloc.v) t.0)) c.in_ok-read_more.ensures.place c.in_ok-read_more.ensures.slot_rule c.loop-alloc.invariant.spare;
-      place = placed-longer g.A.Array.CAPACITY _ c.loop-alloc.v c.read_more.new.v t.3 c.in_ok-read_more.ensures.place c.loop-alloc.invariant.place;
+      spare = spare-longer g.A.Item.Default.is_default g.A.Array.CAPACITY (tiny_view_of g.A.Slots c.loop-alloc.v) (tiny_view_of g.A.Slots c.read_more.new.v) (omega (arith, ap length t.1, length-append (tiny_items_of g.A.Slots c.loop-alloc.v) t.0)) c.in_ok-read_more.ensures.place c.in_ok-read_more.ensures.slot_rule c.loop-alloc.invariant.spare;
+      place = placed-longer g.A.Array.CAPACITY _ (tiny_view_of g.A.Slots c.loop-alloc.v) (tiny_view_of g.A.Slots c.read_more.new.v) t.3 c.in_ok-read_more.ensures.place c.loop-alloc.invariant.place;
       room = omega (arith, c.in_ok-read_more.ensures.capacity, c.loop-alloc.invariant.room);
       grows = omega arith;
       failed = c.in_ok-read_more.ensures.fails.failed.exact ∙ c.loop-alloc.invariant.failed;
@@ -44,7 +62,7 @@ loop-alloc-preserved g c =
 pub returns-in_err-read_more-clause-fails : goal.returns-in_err-read_more-clause-fails
 returns-in_err-read_more-clause-fails g c =
     let p = err_from_is_err_and c.from_residual-in_err-read_more.result c.from_residual-in_err-read_more.ensures.1 in
-    let long = length-map (tiny_items c.loop-alloc.v) g.A.Item.BorshForm.content_of in
+    let long = length-map (tiny_items_of g.A.Slots c.loop-alloc.v) g.A.Item.BorshForm.content_of in
     rw (p.1, p.2) (fails-wanting g.A.Item.BorshForm.Spells g.A.Item.BorshForm.Fits g.A.Item.BorshDeserialize.Reason g.met.A.Item.BorshDeserialize.apart.front_is_cut g.A.Array.CAPACITY (2 ^ 64 - 1) c.in_ok-count.count _
     _ _ c.loop-alloc.invariant.read (omega (arith, long, c.loop-alloc.invariant.few)) (omega (arith, long, c.loop-alloc.invariant.few, c.in_ok-count.ensures.valid)) c.loop-alloc.invariant.grows c.loop-alloc.invariant.failed
-    (λ wanting. wanting-above g.A.Array.CAPACITY c.in_ok-count.count c.loop-alloc.v wanting c.loop-alloc.invariant.place) c.in_err-read_more.ensures.fails)
+    (λ wanting. wanting-above g.A.Array.CAPACITY c.in_ok-count.count (tiny_view_of g.A.Slots c.loop-alloc.v) wanting c.loop-alloc.invariant.place) c.in_err-read_more.ensures.fails)

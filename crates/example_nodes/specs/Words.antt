@@ -1,0 +1,28 @@
+-- Brackets and numbers, and how they are written.
+use Rattle.std.specs.Prelude.{ℕ, ◌+◌, List, [], ◌∷◌, ◌++◌, Bool, true, false, if◌then◌else◌}
+use Rattle.std.specs.Fmt.{decimal}
+
+pub data Word : Type 0 where
+  opening : Word
+  closing : Word
+  number : ℕ → Word
+
+-- how many words begin a node: each but the closing brackets
+abbrev pub beginnings : List Word → ℕ
+beginnings [] = 0
+beginnings (opening ∷ ws) = 1 + beginnings ws
+beginnings (closing ∷ ws) = beginnings ws
+beginnings (number n ∷ ws) = 1 + beginnings ws
+
+abbrev pub blank_if : Bool → List ℕ
+blank_if wanted = if wanted then 32 ∷ [] else []
+
+-- The text of some words. A blank is before each node that another precedes in its list: `blank` is for the first word.
+abbrev pub spelled_after : Bool → List Word → List ℕ
+spelled_after blank [] = []
+spelled_after blank (opening ∷ ws) = blank_if blank ++ 40 ∷ spelled_after false ws
+spelled_after blank (closing ∷ ws) = 41 ∷ spelled_after true ws
+spelled_after blank (number n ∷ ws) = blank_if blank ++ (decimal n ++ spelled_after true ws)
+
+abbrev pub spelled : List Word → List ℕ
+spelled ws = spelled_after false ws

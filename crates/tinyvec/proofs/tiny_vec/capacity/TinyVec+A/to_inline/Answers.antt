@@ -1,0 +1,28 @@
+use Rattle.std.proofs.Common.{◌≡◌, ◌+◌, ◌-◌, ◌∷◌, ◌++◌, [], length, ap, ◌∙◌, sym, arith, append_assoc, length-append, length-drop}
+use Rattle.std.proofs.lemmas.List.{length_push}
+use Rattle.std.proofs.lemmas.List.Elements.{All-drop}
+use Rattle.std.specs.Vec.Iter.{drain_items}
+use Rattle.tinyvec_array.specs.ArrayVec.{items_of, spare_of, len_of}
+use Rattle.tinyvec.proofs.tiny_vec.capacity.TinyVec+A.to_inline.Goals as goal
+
+pub loop-x-preserved : goal.loop-x-preserved
+loop-x-preserved g c =
+    let inv = c.loop-x.invariant in
+    let step = c.in-Some.ensures.steps in
+    let old = c.loop-x.v in
+    let x = c.in-Some.x in
+    let put = c.push.ensures in
+    let rest = drain_items c.next.new.self in
+    let grown : len_of g.A.Slots c.push.new.self ≡ len_of g.A.Slots old + 1 = rw put.items (length_push (items_of g.A.Slots old) x) in
+    let less : length (spare_of g.A.Slots c.push.new.self) ≡ length (spare_of g.A.Slots old) - 1 = rw put.spare (length-drop 1 (spare_of g.A.Slots old)) in
+    let all = ap length inv.moved in
+    let moved : (items_of g.A.Slots old ++ x ∷ []) ++ rest ≡ items_of g.A.Slots old ++ drain_items c.loop-x.x-iterator = append_assoc (items_of g.A.Slots old) (x ∷ []) rest ∙ ap (λ xs. items_of g.A.Slots old ++ xs) (sym step.0) in
+    let front = length-append (items_of g.A.Slots old) (drain_items c.loop-x.x-iterator) in
+    let more = ap length step.0 in
+    let count = c.args.heap.now.ok.0 in record {
+      can = tt;
+      ends = tt;
+      moved = rw put.items (moved ∙ inv.moved);
+      room = omega (arith, inv.room, c.requires);
+      defaults = rw (put.spare) (All-drop g.A.Item.Default.is_default 1 (spare_of g.A.Slots old) inv.defaults);
+    }

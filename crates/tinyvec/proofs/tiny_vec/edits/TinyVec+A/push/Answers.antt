@@ -1,0 +1,45 @@
+use Rattle.std.proofs.Common.{◌≡◌, [], ◌∷◌, ◌++◌, length, refl, sym, ap, ◌∙◌, arith}
+use Rattle.std.proofs.lemmas.List.{length_push}
+use Rattle.tinyvec.specs.TinyVec.{tiny_items_of}
+use Rattle.tinyvec.proofs.FrameLemmas.{Took, took_inline, took_heap, took_grown}
+use Rattle.tinyvec.proofs.tiny_vec.edits.TinyVec+A.push.Goals.{in-Inline, in-Heap, in_default+else-is_err, in_default-via-in-Inline+else-not-is_full, in_default-via-in-Heap+else-len-capacity}
+use Rattle.tinyvec.proofs.tiny_vec.edits.TinyVec+A.push.Goals as goal
+
+-- the list has the value, in room that was there or was made
+pushed : (g : _) (c : goal.Joined-self g) (E : Type 0)
+    → Took g.A.Slots g.A.Item.Default.is_default g.A.Array.CAPACITY (tiny_items_of g.A.Slots c.args.self.now ++ c.args.value ∷ []) c.args.self.now c.match-self.self E
+pushed g c E =
+    let G = g.A.Slots in
+    let D = g.A.Item.Default.is_default in
+    let slots = g.A.Array.CAPACITY in
+    let old = c.args.self.now in
+    let x = c.args.value in
+    elim c.match-self.branch as (λ _. Took g.A.Slots g.A.Item.Default.is_default g.A.Array.CAPACITY (tiny_items_of g.A.Slots c.args.self.now ++ c.args.value ∷ []) c.args.self.now c.match-self.self E) [
+      | in-Inline w ↦
+          took_inline G D slots (λ xs. xs ++ x ∷ []) old _ w.in-Inline.v w.push.new.self _ _ w.in-Inline.is w.self-is (length_push (tiny_items_of G old) x)
+          c.len-len.ensures.slot_count w.if-not-is_full.ensures.value w.push.ensures
+      | in-Heap w ↦
+          let v = w.in-Heap.v in
+          took_heap G D slots (λ xs. xs ++ x ∷ []) old _ v w.push_reserved.new.self w.in-Heap.is w.self-is
+          (omega (arith, v.ok.0, w.len.ensures, w.capacity.ensures, w.if-len-capacity.true)) w.push_reserved.ensures.items w.push_reserved.ensures.capacity
+      | in_default+else-is_err w ↦
+          let same : w.in_default.self ≡ old =
+          elim w.in_default.branch as (λ _. w.in_default.self ≡ old) [
+            | in_default-via-in-Inline+else-not-is_full f ↦ f.self-is ∙ sym f.in-Inline.is
+            | in_default-via-in-Heap+else-len-capacity f ↦ f.self-is ∙ sym f.in-Heap.is
+          ] in
+          let grown = rw same at w.grow_one.ensures in
+          rw w.self-is (took_grown G D slots (λ xs. xs ++ x ∷ []) old w.push_reserved-in_default.new.self w.grow_one.new.self w.grow_one.result
+          w.if-is_err.ensures.value grown.items grown.place grown.room w.push_reserved-in_default.ensures)
+    ]
+
+pub returns : goal.returns
+returns g c =
+    let made = pushed g c _ in record {
+      items = made.0;
+      len = ap length made.0 ∙ length_push (tiny_items_of g.A.Slots c.args.self.now) c.args.value;
+      room = made.1;
+      succeeds_inline = λ _ _. refl;
+      full = tt;
+      value_returned = tt;
+    }

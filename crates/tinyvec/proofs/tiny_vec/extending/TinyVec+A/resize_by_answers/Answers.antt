@@ -1,0 +1,12 @@
+use Rattle.std.proofs.Common.{◌≡◌, ◌<◌, ◌++◌, take, take_all, sym, ap, ◌∙◌, arith}
+use Rattle.tinyvec.specs.TinyVec.{tiny_items_of, tiny_len_of}
+use Rattle.tinyvec.proofs.tiny_vec.extending.TinyVec+A.resize_by_answers.Goals as goal
+
+pub returns-then-n-len-clause-items : goal.returns-then-n-len-clause-items
+returns-then-n-len-clause-items g c =
+    let olds = tiny_items_of g.A.Slots c.args.self.now in
+    let n = c.args.n in
+    let longer : tiny_len_of g.A.Slots c.args.self.now < n = omega (arith, c.len-len.ensures.value) in
+    let front : tiny_items_of g.A.Slots c.reserve.new.self ≡ take n olds = c.reserve.ensures.items ∙ sym (take_all n olds (omega arith)) in
+    let h = c.push_answers.ensures.items in
+    (h.0, h.1 ∙ ap (λ l. l ++ h.0) front, h.2)

@@ -1,0 +1,55 @@
+-- Lemmas on a vector over slots once an item was put in.
+use Rattle.std.proofs.Common.{◌≡◌, ℕ, ◌+◌, ◌<◌, ◌≤◌, List, ◌∷◌, ◌++◌, length, take, drop, insert, set, get_or, sym, ap, ◌∙◌, arith, append_assoc, length-append, length-drop, length-take-le, take_at, drop_at}
+use Rattle.std.proofs.lemmas.List.{set_at, places, drop-drop}
+use Rattle.std.proofs.lemmas.List.Edits.{length-insert}
+use Rattle.tinyvec_slots.proofs.BorderLemmas.{list_to, spare_from}
+use Rattle.tinyvec_array.specs.ArrayVec.{items_of, spare_of, slots_of, Gains}
+use Rattle.tinyvec_array.specs.Lends.{at_slots, inserted_at}
+use Rattle.tinyvec_array.specs.declared.storage.Slots as Storage
+use Rattle.tinyvec_array.specs.declared.array_vec.ArrayVec.{ArrayVec}
+use Rattle.tinyvec_array.proofs.ViewLemmas.{parts_of}
+
+-- n is how long the list is, and k the vector's `len`
+pub put_in_parts : {X : Type 0} (k : ℕ) (xs : List X) (n : ℕ) (is : n ≡ length (take k xs)) (i : ℕ) (x : X)
+    → insert (take n xs) i x ++ drop (n + 1) xs ≡ insert (take k xs) i x ++ drop 1 (drop k xs)
+put_in_parts k xs n is i x =
+    ap (λ l. insert l i x ++ drop (n + 1) xs) (list_to k xs n is)
+    ∙ ap (λ l. insert (take k xs) i x ++ l) (sym (drop-drop 1 n xs) ∙ ap (drop 1) (spare_from k xs n is))
+
+module _ {S T L : Type 0} (g : Storage.Ghosts S T L) (v : ArrayVec S L) (i : ℕ) (x : T) (le : i ≤ length (items_of g v)) where
+  holds : g.slots (inserted_at g v i x).slots ≡ insert (items_of g v) i x ++ drop 1 (spare_of g v)
+  holds = g.slots_written v.slots (insert (items_of g v) i x ++ drop 1 (spare_of g v))
+
+  long : length (insert (items_of g v) i x) ≡ length (items_of g v) + 1
+  long = length-insert (items_of g v) i x le
+
+  pub Gains-inserted : g.Counts (slots_of g v) → 0 < length (spare_of g v) → Gains g 1 v (inserted_at g v i x) (insert (items_of g v) i x)
+  Gains-inserted all room =
+      let n = length (items_of g v) + 1 in
+      let list = insert (items_of g v) i x in
+      let behind = drop 1 (spare_of g v) in
+      let count = ap length holds ∙ length-append list behind in
+      let is = g.count_of n (slots_of g v) all (omega (arith, parts_of g v, room)) in
+      record {
+        lender = record {
+          same_reference = g.name_kept v.slots (list ++ behind);
+          slot_count = omega (arith, count, long, length-drop 1 (spare_of g v), parts_of g v, room);
+        };
+        items = ap (λ k. take k (g.slots (inserted_at g v i x).slots)) is ∙ ap (take n) holds ∙ take_at list behind n long;
+        spare = ap (λ k. drop k (g.slots (inserted_at g v i x).slots)) is ∙ ap (drop n) holds ∙ drop_at list behind n long;
+      }
+
+  -- the item that was put in is written
+  pub inserted-set : (w : T) → at_slots g (inserted_at g v i x) (set (g.slots (inserted_at g v i x).slots) i w) ≡ inserted_at g v i w
+  inserted-set w =
+      let L = items_of g v in
+      let S = drop 1 (spare_of g v) in
+      let written = ap (λ l. set l i w) (holds ∙ append_assoc (take i L) (x ∷ drop i L) S)
+      ∙ set_at (take i L) x (drop i L ++ S) w i (length-take-le i L le)
+      ∙ sym (append_assoc (take i L) (w ∷ drop i L) S) in
+      ap (at_slots g (inserted_at g v i x)) written
+      ∙ ap (λ lent. record { slots = lent; len = g.of_count (length L + 1) }) (g.rewritten v.slots (insert L i x ++ S) (insert L i w ++ S))
+
+  -- and it is there to be lent
+  pub inserted-item : (d : T) → get_or (g.slots (inserted_at g v i x).slots) i d ≡ x
+  inserted-item d = ap (λ l. get_or l i d) holds ∙ grind (arith, places, length-take-le i (items_of g v) le)

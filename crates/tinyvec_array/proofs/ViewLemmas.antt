@@ -1,0 +1,121 @@
+-- Lemmas on the list and the spare slots of a vector.
+use Rattle.std.proofs.Common.{◌≡◌, ℕ, ◌+◌, ◌-◌, ◌<◌, ◌≤◌, List, ◌++◌, length, take, drop, set, slice_range, refl, sym, ap, ◌∙◌, arith, rules, length-append, length-take, length-drop, take-append-drop}
+use Rattle.std.proofs.Math.Seq.{take-set-lt}
+use Rattle.std.proofs.lemmas.List.{places}
+use Rattle.std.specs.Borrow.{MutBor}
+use Rattle.std.specs.List.{refill, length_refill}
+use Rattle.tinyvec_slots.specs.Filters.{Shortened}
+use Rattle.tinyvec_slots.proofs.BorderLemmas.{list_to, spare_from}
+use Rattle.tinyvec_slots.proofs.SlotsLemmas.{slots_used}
+use Rattle.tinyvec_slots.proofs.Lists.{length-remove_range, length-slice_range}
+use Rattle.tinyvec_array.specs.SliceParts.{with_front, with_back, with_front-as_long, with_back-as_long}
+use Rattle.tinyvec_array.specs.ArrayVec.{view_of, items_of, spare_of, slots_of, len_of, SameLender, VacatesOf, Grows, Shortens, Changes}
+use Rattle.tinyvec_array.specs.SliceVec.{items, spare, slots}
+use Rattle.tinyvec_array.specs.Lends.{at_slots, with_items_of}
+use Rattle.tinyvec_array.specs.CutLaws.{CutOf}
+use Rattle.tinyvec_array.specs.SpliceLaws.{cut_lender}
+pub use Rattle.tinyvec_array.specs.SpliceLaws.{parts_of, vacated_count}
+use Rattle.tinyvec_array.specs.declared.storage.Slots as Storage
+use Rattle.tinyvec_array.specs.declared.array_vec.ArrayVec.{ArrayVec}
+
+-- what was written over the first n slots leaves the list as long as it was
+front_len : {X : Type 0} (k : ℕ) (xs : List X) (n : ℕ) → n ≡ length (take k xs) → (ws : List X) → length (take k (with_front xs n ws)) ≡ n
+front_len k xs n is ws =
+    let first = length-take k xs in
+    let part = length-take n xs in
+    let written = length_refill n (take n xs) ws (omega (arith, is, first, part)) in
+    let all = length-append (refill n (take n xs) ws) (drop n xs) in
+    let behind = length-drop n xs in
+    omega (arith, length-take k (with_front xs n ws), all, written, behind, first, is)
+
+-- the items were written as a slice
+module _ {S T L : Type 0} (g : Storage.Ghosts S T L) (v : ArrayVec S L) (ws : List T) where
+  pub slots_of-written : length ws ≡ length (items_of g v) → slots_of g (with_items_of g v ws) ≡ ws ++ spare_of g v
+  slots_of-written long =
+      g.slots_written v.slots (with_front (g.slots v.slots) (length (items_of g v)) ws)
+      ∙ sym (with_front-as_long (g.slots v.slots) ws (length (items_of g v)) long)
+      ∙ ap (λ l. ws ++ l) (spare_from (g.count v.len) (g.slots v.slots) (length (items_of g v)) refl)
+
+  -- however long the written slice is
+  pub len_of-written : len_of g (with_items_of g v ws) ≡ len_of g v
+  len_of-written =
+      ap (λ l. length (take (g.count v.len) l)) (g.slots_written v.slots (with_front (g.slots v.slots) (length (items_of g v)) ws))
+      ∙ front_len (g.count v.len) (g.slots v.slots) (length (items_of g v)) refl ws
+
+-- the spare slots were written
+module _ {S T L : Type 0} (g : Storage.Ghosts S T L) (v : ArrayVec S L) (ws : List T) where
+  abbrev pub put_back : ArrayVec S L
+  put_back = at_slots g v (with_back (slots_of g v) (len_of g v) ws)
+
+  pub slots_of-back : length ws ≡ length (spare_of g v) → slots_of g put_back ≡ items_of g v ++ ws
+  slots_of-back long =
+      let behind = spare_from (g.count v.len) (g.slots v.slots) (len_of g v) refl in
+      g.slots_written v.slots (with_back (slots_of g v) (len_of g v) ws)
+      ∙ sym (with_back-as_long (slots_of g v) ws (len_of g v) (long ∙ sym (ap length behind)))
+      ∙ ap (λ l. l ++ ws) (list_to (g.count v.len) (slots_of g v) (len_of g v) refl)
+
+  pub back_lender : length ws ≡ length (spare_of g v) → SameLender g v put_back
+  back_lender long = record {
+    same_reference = g.name_kept v.slots (with_back (slots_of g v) (len_of g v) ws);
+    slot_count = ap length (slots_of-back long) ∙ length-append (items_of g v) ws ∙ omega (arith, long, parts_of g v);
+  }
+
+-- what is read of a vector whose slots were written
+pub view_of-at : {S T L : Type 0} (g : Storage.Ghosts S T L) (v : ArrayVec S L) (xs : List T)
+    → view_of g (at_slots g v xs) ≡ record { slots = xs; len = (view_of g v).len }
+view_of-at g v xs i = record { slots = g.slots_written v.slots xs i; len = g.count v.len }
+
+-- the slots are the list and the spare slots
+pub slots-parts : {S T L : Type 0} (g : Storage.Ghosts S T L) (v : ArrayVec S L) → slots_of g v ≡ items_of g v ++ spare_of g v
+slots-parts g v = sym (take-append-drop (g.count v.len) (g.slots v.slots))
+
+-- a list in as many slots fits them
+pub still_fits : {S T L : Type 0} (g : Storage.Ghosts S T L) (v w : ArrayVec S L) (n : ℕ) → len_of g v + length (spare_of g v) ≡ n
+    → SameLender g v w → len_of g w ≤ n
+still_fits g v w n sum same = omega (arith, sum, parts_of g v, parts_of g w, same.slot_count)
+
+-- a call, or two one after the other, keeps to the same slots
+module _ {S T L : Type 0} (g : Storage.Ghosts S T L) where
+  pub same_lender : (v : ArrayVec S L) → SameLender g v v
+  same_lender v = record { same_reference = refl; slot_count = refl }
+
+  pub SameLender-then : (u v w : ArrayVec S L) → SameLender g u v → SameLender g v w → SameLender g u w
+  SameLender-then u v w first second = record {
+    same_reference = second.same_reference ∙ first.same_reference;
+    slot_count = second.slot_count ∙ first.slot_count;
+  }
+
+-- where the slots of a range were vacated, there are as many as before
+module _ {S T L : Type 0} (g : Storage.Ghosts S T L) (D : T → Type 0) (old new : ArrayVec S L) where
+  pub cut_count : (i j : ℕ) → i ≤ j → j ≤ length (items_of g old) → items_of g new ≡ take i (items_of g old) ++ drop j (items_of g old)
+      → VacatesOf g D (length (slice_range (items_of g old) i j)) old new → length (slots_of g new) ≡ length (slots_of g old)
+  cut_count i j le within listed h =
+      let left = ap length listed ∙ length-remove_range (items_of g old) i j le within in
+      let gone = length-slice_range (items_of g old) i j le within in
+      vacated_count g D old new (length (slice_range (items_of g old) i j)) (omega (arith, left, gone, le, within)) h
+
+-- a call of `tinyvec_slots` that only removes items
+pub shortened : {S T L : Type 0} (g : Storage.Ghosts S T L) (D : T → Type 0) (old new : ArrayVec S L)
+    → Shortened (items_of g) (λ v. length (slots_of g v)) (CutOf g D) old new → Shortens g D old new
+shortened g D old new h = record { lender = cut_lender g D old new h.cut; bound = h.bound; spare = h.cut.1.spare }
+
+-- a call that only adds items
+pub grown : {S T L : Type 0} (g : Storage.Ghosts S T L) (D : T → Type 0) (old new : ArrayVec S L) (xs : List T)
+    → items_of g new ≡ items_of g old ++ xs → Grows g old new → Changes g D old new
+grown g D old new xs listed h =
+    let longer = ap length listed ∙ length-append (items_of g old) xs in
+    let more : length (items_of g new) - length (items_of g old) ≡ length xs = omega (arith, longer) in
+    record {
+      lender = h.lender;
+      slot_rule = slots_used D (view_of g old) (view_of g new) (length xs) longer (h.spare ∙ ap (λ n. drop n (spare_of g old)) more);
+    }
+
+-- one item was written
+module _ {S T L : Type 0} (g : Storage.Ghosts S T L) (v : ArrayVec S L) (i : ℕ) (x : T) (lt : i < length (items_of g v)) where
+  pub items_of-set : items_of g (at_slots g v (set (g.slots v.slots) i x)) ≡ set (items_of g v) i x
+  items_of-set = ap (take (g.count v.len)) (g.slots_written v.slots (set (g.slots v.slots) i x)) ∙ take-set-lt (g.count v.len) (g.slots v.slots) i x (search (rules, lt, places))
+
+-- what the owner of a slice sees of a vector over it
+pub owner_sees : {T : Type 0} (v : ArrayVec (MutBor (List T)) ℕ) (xs ys : List T) → items v ≡ xs → spare v ≡ ys → slots v ≡ xs ++ ys
+owner_sees v xs ys listed behind =
+    sym (take-append-drop v.len v.slots.now) ∙ ap (λ l. l ++ spare v) listed ∙ ap (λ l. xs ++ l) behind

@@ -1,0 +1,13 @@
+use Rattle.std.proofs.Common.{rules, arith}
+use Rattle.std.proofs.lemmas.Grind.{common_steps}
+use Rattle.tinyvec_slots.proofs.BorderLemmas.{drop-pushed}
+use Rattle.tinyvec_array.proofs.array_vec.edits.ArrayVec+S.push.Goals as goal
+
+pub returns : goal.returns
+returns g c =
+    let v = c.args.self.now in
+    record {
+      lender = search rules;
+      items = grind (arith, common_steps);
+      spare = rw (g.S.Slots.slots_written, c.to_len.ensures.number, c.bounded_index-at.ensures, c.all_mut.ensures.value) (drop-pushed (g.S.Slots.count v.len) (g.S.Slots.slots v.slots) c.len-len.result c.len-len.ensures.value c.args.value);
+    }

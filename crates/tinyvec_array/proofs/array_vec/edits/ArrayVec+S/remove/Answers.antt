@@ -1,0 +1,36 @@
+use Rattle.std.proofs.Common.{refl, rules, ◌<◌, ◌∷◌, [], arith, ◌∙◌}
+use Rattle.std.proofs.lemmas.Grind.{common_steps}
+use Rattle.std.proofs.lemmas.List.Elements.{All-cons, All-nil}
+use Rattle.tinyvec_slots.proofs.Lists.{length-moved, take-moved}
+use Rattle.tinyvec_array.specs.ArrayVec.{items_of}
+use Rattle.tinyvec_slots.proofs.BorderLemmas.{take-taken, drop-taken}
+use Rattle.tinyvec_array.proofs.array_vec.edits.ArrayVec+S.remove.Goals as goal
+
+pub returns-clause-becomes : goal.returns-clause-becomes
+returns-clause-becomes g c = record {
+  lender = search rules;
+  items = c.take_last.ensures.becomes.items ∙ take-moved (items_of g.S.Slots c.args.self.now) _ c.args.index c.requires c.move_to_end.ensures.items;
+  spare = search rules;
+}
+
+pub returns-then-prefers_shifting_in-clause-becomes : goal.returns-then-prefers_shifting_in-clause-becomes
+returns-then-prefers_shifting_in-clause-becomes g c =
+    let v = c.args.self.now in
+    let n = c.len-len.result in
+    let after = c.remove_shifting-item.ensures.after in
+    let one = All-cons g.S.Item.Default.is_default after.0 [] after.1 (All-nil _) in
+    let in_list : c.args.index < n = search rules in
+    record {
+      lender = search rules;
+      items = rw (g.S.Slots.slots_written, c.to_len.ensures.number, after.2, c.all_mut.ensures.value) (take-taken (g.S.Slots.count v.len) (g.S.Slots.slots v.slots) n c.len-len.ensures.value c.args.index after.0 in_list);
+      spare = (after.0 ∷ [], (refl, one), rw (g.S.Slots.slots_written, c.to_len.ensures.number, after.2, c.all_mut.ensures.value) (drop-taken (g.S.Slots.count v.len) (g.S.Slots.slots v.slots) n c.len-len.ensures.value c.args.index after.0 in_list));
+    }
+
+pub returns-then-prefers_shifting_in-clause-value : goal.returns-then-prefers_shifting_in-clause-value
+returns-then-prefers_shifting_in-clause-value g c = grind (arith, common_steps)
+
+pub returns-clause-value : goal.returns-clause-value
+returns-clause-value g c = grind (arith, common_steps)
+
+pub take_last-requires : goal.take_last-requires
+take_last-requires g c = let long = length-moved (items_of g.S.Slots c.args.self.now) _ c.args.index c.requires c.move_to_end.ensures.items in omega (arith, long, c.requires)

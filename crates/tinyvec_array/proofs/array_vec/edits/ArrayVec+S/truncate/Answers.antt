@@ -1,0 +1,22 @@
+use Rattle.std.proofs.Common.{◌-◌, ◌≤◌, ◌++◌, length, rules, arith, ap, ◌∙◌, append_assoc, drop_at, length-take-le, take, drop}
+use Rattle.std.proofs.lemmas.Grind.{common_steps}
+use Rattle.tinyvec_slots.proofs.BorderLemmas.{spare_from, within}
+use Rattle.tinyvec_array.proofs.array_vec.edits.ArrayVec+S.truncate.Goals as goal
+
+pub returns-then-new_len-len : goal.returns-then-new_len-len
+returns-then-new_len-len g c =
+    let v = c.args.self.now in
+    let slots = g.S.Slots.slots v.slots in
+    let m = c.args.new_len in
+    let n = c.len-len.result in
+    let long = c.len-len.ensures.value in
+    let made = c.fill_default.ensures in
+    let le : m ≤ length slots = omega (arith, c.if-new_len-len.true, within (g.S.Slots.count v.len) slots n long) in
+    let behind = ap (drop m) (append_assoc (take m slots) made.0 (drop n slots))
+    ∙ drop_at (take m slots) (made.0 ++ drop n slots) m (length-take-le m slots le)
+    ∙ ap (λ l. made.0 ++ l) (spare_from (g.S.Slots.count v.len) slots n long) in
+    record {
+      lender = search rules;
+      items = grind (arith, common_steps);
+      spare = (made.0, (made.1.0 ∙ ap (λ k. k - m) long, made.1.1), rw (g.S.Slots.slots_written, c.to_len.ensures.number, made.2, c.all_mut.ensures.value) behind);
+    }

@@ -1,0 +1,19 @@
+use Rattle.std.proofs.Common.{◌≡◌, length, ap, ◌∙◌, arith, rules, length-append}
+use Rattle.tinyvec_slots.specs.Slots.{spare}
+use Rattle.tinyvec_array.specs.ArrayVec.{items_of, spare_of}
+use Rattle.tinyvec_array.proofs.ViewLemmas.{slots_of-written, parts_of}
+use Rattle.tinyvec_array.proofs.array_vec.extending.ArrayVec+S.append.Goals as goal
+
+pub returns-clause-emptied : goal.returns-clause-emptied
+returns-clause-emptied g c =
+    let other = c.args.other.now in
+    let left = c.append_slots.new.from in
+    let made = c.append_slots.ensures.left in
+    let long : length c.as_mut_slice.result.now ≡ length (items_of g.S.Slots other) = ap length c.as_mut_slice.ensures.value in
+    let written = slots_of-written g.S.Slots other left (made.0 ∙ long) in
+    let count = ap length written ∙ length-append left (spare_of g.S.Slots other) in
+    record {
+      lender = record { same_reference = search rules; slot_count = omega (arith, c.set_len.ensures.lender.slot_count, count, parts_of g.S.Slots other, made.0, long) };
+      items = search rules;
+      spare = (left, (made.0 ∙ long, made.1), ap (λ v. spare v) c.set_len.ensures.value ∙ written);
+    }

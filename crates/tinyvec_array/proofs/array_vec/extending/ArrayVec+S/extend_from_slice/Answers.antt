@@ -1,0 +1,21 @@
+use Rattle.std.proofs.Common.{length, refl, ap, ◌∙◌, rules}
+use Rattle.tinyvec_slots.proofs.BorderLemmas.{clones_added, clones_not_added}
+use Rattle.tinyvec_array.specs.ArrayVec.{view_of}
+use Rattle.tinyvec_array.proofs.array_vec.extending.ArrayVec+S.extend_from_slice.Goals as goal
+
+pub returns-in_err-write_clones-clause-clones : goal.returns-in_err-write_clones-clause-clones
+returns-in_err-write_clones-clause-clones g c =
+    let v = c.args.self.now in
+    let written = g.S.Slots.slots_written v.slots c.write_clones.new.slots in
+    let h = rw (c.all_mut.ensures.value, ← written) at c.in_err-write_clones.ensures.refused in
+    clones_not_added g.S.Item.Clone (view_of g.S.Slots v) c.len-len.result c.len-len.ensures.value c.args.other.now _ c.requires.room _ (search rules) h.0 h.1 h.2
+
+pub returns : goal.returns
+returns g c =
+    let v = c.args.self.now in
+    let written = g.S.Slots.slots_written v.slots c.write_clones.new.slots in
+    let made = rw (c.all_mut.ensures.value, ← written) at c.in_ok-write_clones.ensures.ok in
+    record {
+      lender = record { same_reference = search rules; slot_count = ap length written ∙ c.write_clones.auto.slots ∙ ap length c.all_mut.ensures.value };
+      clones = rw c.to_len.ensures.number (clones_added g.S.Item.Clone (view_of g.S.Slots v) c.len-len.result c.len-len.ensures.value c.args.other.now _ c.requires.room _ refl made);
+    }

@@ -1,0 +1,32 @@
+use Rattle.std.proofs.Common.{length, refl, ap, ◌∙◌, rules}
+use Rattle.tinyvec_slots.specs.Ranges.{removed}
+use Rattle.tinyvec_slots.proofs.BorderLemmas.{removed_in, clones_added, clones_not_added}
+use Rattle.tinyvec_array.specs.ArrayVec.{view_of, items_of}
+use Rattle.tinyvec_array.proofs.array_vec.extending.ArrayVec+S.extend_from_within.Goals as goal
+
+pub returns-in_err-clone_within-clause-clones : goal.returns-in_err-clone_within-clause-clones
+returns-in_err-clone_within-clause-clones g c =
+    let v = c.args.self.now in
+    let len = c.len-len in
+    let part = c.resolve_range-part in
+    let first = g.R.RangeBounds.start_bound c.args.range in
+    let last = g.R.RangeBounds.end_bound c.args.range in
+    let range = removed_in (view_of g.S.Slots v) first last len.result part.result.start part.result.end len.ensures.value part.ensures.start part.ensures.end c.requires.in_list in
+    let written = g.S.Slots.slots_written v.slots c.clone_within.new.slots in
+    let h = rw (c.all_mut.ensures.value, range.0, ← written) at c.in_err-clone_within.ensures.refused in
+    clones_not_added g.S.Item.Clone (view_of g.S.Slots v) len.result len.ensures.value (removed (items_of g.S.Slots v) first last) _ c.requires.room _ (search rules) h.0 h.1 h.2
+
+pub returns : goal.returns
+returns g c =
+    let v = c.args.self.now in
+    let len = c.len-len in
+    let part = c.resolve_range-part in
+    let first = g.R.RangeBounds.start_bound c.args.range in
+    let last = g.R.RangeBounds.end_bound c.args.range in
+    let range = removed_in (view_of g.S.Slots v) first last len.result part.result.start part.result.end len.ensures.value part.ensures.start part.ensures.end c.requires.in_list in
+    let written = g.S.Slots.slots_written v.slots c.clone_within.new.slots in
+    let made = rw (c.all_mut.ensures.value, range.0, ← written) at c.in_ok-clone_within.ensures.ok in
+    record {
+      lender = record { same_reference = search rules; slot_count = ap length written ∙ c.clone_within.auto.slots ∙ ap length c.all_mut.ensures.value };
+      clones = rw (c.to_len.ensures.number, range.1) (clones_added g.S.Item.Clone (view_of g.S.Slots v) len.result len.ensures.value (removed (items_of g.S.Slots v) first last) _ c.requires.room _ refl made);
+    }

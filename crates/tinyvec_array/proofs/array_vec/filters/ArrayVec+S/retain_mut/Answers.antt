@@ -1,0 +1,5 @@
+use Rattle.tinyvec_array.proofs.ViewLemmas.{shortened}
+use Rattle.tinyvec_array.proofs.array_vec.filters.ArrayVec+S.retain_mut.Goals as goal
+
+pub returns-clause-shorter : goal.returns-clause-shorter
+returns-clause-shorter g c = shortened _ _ _ _ c.retain_mut.ensures.shorter

@@ -1,0 +1,19 @@
+use Rattle.std.proofs.Common.{◌≡◌, length, ap, ◌∙◌, arith, rules, length-append}
+use Rattle.tinyvec_slots.specs.Slots.{items, spare}
+use Rattle.tinyvec_array.specs.ArrayVec.{items_of, spare_of}
+use Rattle.tinyvec_array.proofs.ViewLemmas.{slots_of-written, parts_of}
+use Rattle.tinyvec_array.proofs.drain.ArrayVec+S.drain_to_vec_and_reserve.Goals as goal
+
+pub returns-clause-emptied : goal.returns-clause-emptied
+returns-clause-emptied g c =
+    let v = c.args.self.now in
+    let left = c.take_all.new.slots in
+    let taken = c.take_all.ensures.emptied in
+    let long : length c.as_mut_slice.result.now ≡ length (items_of g.S.Slots v) = ap length c.as_mut_slice.ensures.value in
+    let written = slots_of-written g.S.Slots v left (taken.0 ∙ long) in
+    let count = ap length written ∙ length-append left (spare_of g.S.Slots v) in
+    record {
+      lender = record { same_reference = search rules; slot_count = omega (arith, c.set_len.ensures.lender.slot_count, count, parts_of g.S.Slots v, taken.0, long) };
+      items = ap items c.set_len.ensures.value;
+      spare = (left, (taken.0 ∙ long, taken.1), ap spare c.set_len.ensures.value ∙ written);
+    }

@@ -1,0 +1,29 @@
+//! How slots are read and moved.
+ghost use Rattle.std.specs.Prelude.{◌≡◌, ◌≤◌, length};
+ghost use Rattle.tinyvec_slots.specs.Ranges.{Within};
+
+use crate::Slots;
+use tinyvec_slots::prefers_shifting;
+
+// Returns `i`. Going through `u32` shows LLVM that the address cannot wrap onto the length field, which precedes the slots.
+// So the length stays in a register, and a loop of pushes is vectorized.
+#[inline(always)]
+pub(crate) fn bounded_index(i: usize, most: usize) -> usize
+    requires { i ≤ most }
+    ensures { result ≡ i }
+{
+    if most > u32::MAX as usize {
+        return i;
+    }
+    i as u32 as usize
+}
+
+// Whether the slots from `start` up to `end` are moved one by one. For an array of few slots the result is a constant.
+#[inline(always)]
+pub(crate) fn prefers_shifting_in<S: Slots>(slots: &S, start: usize, end: usize) -> bool
+    requires { Within start end (length (S.slots slots.now)) }
+{
+    let all = slots.all();
+    // For a lent slice, whose number of slots is not known, the range alone decides.
+    slots.most() <= 128 && prefers_shifting(all) || prefers_shifting(&all[start..end])
+}

@@ -1,7 +1,0 @@
-use Rattle.std.proofs.Common.{rules}
-use Rattle.std.proofs.lemmas.Fn.{dedup_same}
-use Rattle.tinyvec_slice.proofs.slice_vec.GenericSliceVec.dedup.Goals as goal
-
-pub returns-clause-items : goal.returns-clause-items
-returns-clause-items g c =
-    dedup_same _ _ _ (λ x y b f' x' y' k. search rules) _ _ c.dedup_by.ensures.filtered

@@ -1,5 +1,0 @@
-use Rattle.tinyvec_slice.proofs.ViewLemmas.{shortened}
-use Rattle.tinyvec_slice.proofs.slice_vec.GenericSliceVec.retain.Goals as goal
-
-pub returns-clause-shorter : goal.returns-clause-shorter
-returns-clause-shorter g c = shortened _ _ _ _ c.retain.ensures.shorter

@@ -1,6 +1,0 @@
-use Rattle.std.proofs.Common.{arith, rules}
-use Rattle.std.proofs.lemmas.Grind.{common_steps}
-use Rattle.tinyvec_slice.proofs.slice_vec.GenericSliceVec.swap_remove.Goals as goal
-
-pub returns-clause-becomes : goal.returns-clause-becomes
-returns-clause-becomes g c = record { lender = search rules; items = grind (arith, common_steps); spare = search rules }
