@@ -54,7 +54,8 @@ impl Parser {
 
     // Reads one byte.
     fn step(&mut self, alloc: Global, byte: u8, column: usize) -> Result<(), ParseError>
-        ensures { Answers result column (fault (state_of self.old) byte) (state_of self.new) (next (state_of self.old) byte) }
+        ensures { Answers result column (fault (state_of self.old) byte) (state_of self.new)
+            (next (state_of self.old) byte) }
     {
         if byte.is_ascii_digit() {
             return self.digit(byte, column);
