@@ -67,6 +67,20 @@ def keep(crate, program, to):
 
 
 @contextlib.contextmanager
+def laid(crate, files_of=lambda it: it.files):
+    """Lays a crate that is no folder of this repository, with those below it, in one of their own."""
+    crate.out.mkdir(exist_ok=True)
+    with tempfile.TemporaryDirectory(prefix=f"{crate.name}-", dir=crate.out) as room:
+        top, needed = pathlib.Path(room), crates.with_below([crate])
+        for it in needed:
+            files = {path: text for path, text in files_of(it).items() if path.startswith(("src/", "c/"))}
+            crates.write_files(top / "crates" / it.name, files)
+        crates.write_files(top, {"crates.txt": "".join(f"{it.row}\n" for it in needed).encode(), ".git/HEAD": b""})
+        crate.folder = top / "crates" / crate.name
+        yield
+
+
+@contextlib.contextmanager
 def keeping_kit(crate):
     """The command `rt` of a kit that is made of links, but for a linker that leaves the program in a file, and that file.
     Nothing stands in the place of the kit's prover: `rt try` has it read all sources for a hint that is not needed here."""

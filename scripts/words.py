@@ -131,7 +131,7 @@ def plain(statement):
         end = contracts.end_of(statement)
         statement = re.sub(r"^ *→ ", "", statement[end:]).lstrip()
     statement = re.sub(r" \{\w+ = [^}]*\}", "", statement)
-    statement = re.sub(r"(?:[\w.]+ ∷ )+\[\]", lambda it: f"[{', '.join(it[0].split(' ∷ ')[:-1])}]", statement)
+    statement = re.sub(r"(?:(?:Some )?[\w.]+ ∷ )+\[\]", lambda it: f"[{', '.join(it[0].split(' ∷ ')[:-1])}]", statement)
     statement = re.sub(r"\((\[[^]]*\])\)", r"\1", statement)
     statement = re.sub(r"\(nums (\[[^]]*\])\)|\bnums (\[[^]]*\])", lambda it: it[1] or it[2], statement)
     return re.sub(r"\(over (\[[^]]*\]) (\[[^]]*\])\)|\bover (\[[^]]*\]) (\[[^]]*\])", lambda it: f"({it[1] or it[3]} {it[2] or it[4]})", statement)

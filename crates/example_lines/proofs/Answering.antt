@@ -1,5 +1,5 @@
 -- A text that is read and answered line by line.
-use Rattle.std.proofs.Common.{◌≡◌, ◌≢◌, ◌∙◌, ℕ, ◌<◌, List, [], ◌∷◌, ◌++◌, map, length, Option, Result, Ok, Err, OnOk, ap, refl, sym, subst, arith, append_assoc, append-nil}
+use Rattle.std.proofs.Common.{◌≡◌, ◌≢◌, ◌∙◌, ℕ, ◌<◌, List, [], ◌∷◌, ◌++◌, map, length, Option, ap, refl, sym, subst, arith, append_assoc, append-nil}
 use Rattle.std.specs.Str.Lines.{strip_carriage_return}
 use Rattle.std.proofs.lemmas.List.{map-append}
 use Rattle.std.proofs.lemmas.List.Elements.{All-nil}
@@ -8,10 +8,6 @@ use Rattle.tinyvec_io.specs.Counted.{AppendsFront}
 use Rattle.tinyvec_io.specs.Lines.{IsLine, last_line, Splits}
 use Rattle.tinyvec_io.proofs.LineLemmas.{Splits-line, Splits-piece, Splits-ended}
 use Rattle.example_lines.specs.Answers.{Advances, AnswersEach, AnswersUpTo, IsAnswered}
-
-pub always_ok : {X E P : Type 0} (r : Result X E) → P → OnOk r P
-always_ok (Ok x) p = p
-always_ok (Err e) p = tt
 
 -- all bytes are a front of themselves
 pub front_whole : (old new : Option (List ℕ)) (bytes : List ℕ) → Appends old new bytes → AppendsFront old new bytes
@@ -59,26 +55,35 @@ module _ {S : Type 0} (IsAnswer : S → List ℕ → List ℕ → S → Type 0) 
       (second start (input ++ bytes) (output ++ said) (first start input output so_far)))
 
   -- bytes that end no line
-  pub advances_piece : (a : S) (line piece grown : List ℕ) → IsLine piece → grown ≡ line ++ piece → Advances IsAnswer a line piece [] grown a
+  advances_piece : (a : S) (line piece grown : List ℕ) → IsLine piece → grown ≡ line ++ piece → Advances IsAnswer a line piece [] grown a
   advances_piece a line piece grown inner is start input output so_far = record {
     all = so_far.all;
     split = subst (Splits (input ++ piece) so_far.all) (sym is) (Splits-piece input so_far.all line piece inner so_far.split);
     answers = subst (λ text. AnswersEach IsAnswer start (map strip_carriage_return so_far.all) text a) (sym (append-nil output)) so_far.answers;
   }
 
-  -- a piece, and the line feed that ends the line
-  pub advances_whole : (a b : S) (line grown front said next : List ℕ) → IsLine front → grown ≡ line ++ front → Advances IsAnswer a grown (10 ∷ []) said next b
-      → Advances IsAnswer a line (front ++ 10 ∷ []) said next b
-  advances_whole a b line grown front said next inner is ended = advances_then a a b line grown next front (10 ∷ []) [] said (advances_piece a line front grown inner is) ended
-
   -- a line feed
-  pub advances_line : (a b : S) (line said next : List ℕ) → IsAnswer a (strip_carriage_return line) said b → next ≡ [] → Advances IsAnswer a line (10 ∷ []) said next b
-  advances_line a b line said next is none start input output so_far = record {
+  advances_feed : (a b : S) (line said next : List ℕ) → IsAnswer a (strip_carriage_return line) said b → next ≡ [] → Advances IsAnswer a line (10 ∷ []) said next b
+  advances_feed a b line said next is none start input output so_far = record {
     all = so_far.all ++ line ∷ [];
     split = subst (Splits (input ++ 10 ∷ []) (so_far.all ++ line ∷ [])) (sym none) (Splits-ended input so_far.all line so_far.split);
     answers = subst (λ lines. AnswersEach IsAnswer start lines (output ++ said) b) (sym (map-append strip_carriage_return so_far.all (line ∷ [])))
         (answers_then start a b (map strip_carriage_return so_far.all) (strip_carriage_return line ∷ []) output said so_far.answers (answers_one a b (strip_carriage_return line) said is));
   }
+
+  -- the rest of a line, the line feed that ends it, and its answer
+  pub advances_line : (a b : S) (line grown front said next : List ℕ) → IsLine front → grown ≡ line ++ front → IsAnswer a (strip_carriage_return grown) said b → next ≡ []
+      → Advances IsAnswer a line (front ++ 10 ∷ []) said next b
+  advances_line a b line grown front said next inner is answer none =
+      advances_then a a b line grown next front (10 ∷ []) [] said (advances_piece a line front grown inner is) (advances_feed a b grown said next answer none)
+
+  -- bytes behind, which end no line
+  pub advances_rest : (a b : S) (line before next bytes taken said rest : List ℕ) → bytes ≡ taken ++ rest → Advances IsAnswer a line taken said before b → IsLine rest → next ≡ before ++ rest
+      → Advances IsAnswer a line bytes said next b
+  advances_rest a b line before next bytes taken said rest whole so_far inner is =
+      subst (λ read. Advances IsAnswer a line read said next b) (sym whole)
+      (subst (λ text. Advances IsAnswer a line (taken ++ rest) text next b) (append-nil said)
+      (advances_then a b b line before next taken rest said [] so_far (advances_piece b before rest next inner is)))
 
   -- the last line was answered
   pub all_answered : (start a b : S) (input output line said : List ℕ) → AnswersUpTo IsAnswer start input output line a → AnswersEach IsAnswer a (map strip_carriage_return (last_line line)) said b

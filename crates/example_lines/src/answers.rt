@@ -1,13 +1,14 @@
 //! A text that is answered line by line.
-ghost use Rattle.std.specs.Prelude.{◌≡◌, ◌⊎◌, ◌≤◌, ◌-◌, ◌^◌, ◌++◌, ◌∷◌, [], List, ℕ, length, Err, IfSome, IfNone, OnOk, OnErr, IsErrOf, map};
+ghost use Rattle.std.specs.Prelude.{◌≡◌, ◌⊎◌, ◌≤◌, ◌-◌, ◌^◌, ◌++◌, ◌∷◌, List, ℕ, length, IfSome, IfNone, OnOk, IsErrOf, map};
 ghost use Rattle.std.specs.Io.KnownBytes.{Appends, Consumes, IsAtEnd, Keeps};
 ghost use Rattle.std.specs.Str.Lines.{strip_carriage_return};
 ghost use Rattle.tinyvec_io.specs.Counted.{AppendsFront, Reported};
 ghost use Rattle.tinyvec_io.specs.Lines.{IsLine, last_line};
 ghost use Rattle.example_lines.specs.Answers.{Advances, AdvancesSome, AnsweredSome, AnswersEach, AnswersUpTo, AppendsAnswer, IsAnswered};
+ghost use Rattle.example_lines.specs.Stops.{Reports};
 ghost use Rattle.std.specs.declared.io.Error.{Error as IoError};
 
-use crate::failure::Failure;
+use crate::failure::{Failure, Stop};
 use std::alloc::{AllocError, Global};
 use std::io::{Read, Write};
 use tinyvec_io::Counted;
@@ -75,27 +76,34 @@ pub fn answer_lines<A: Answer, R: Read, W: Write>(
     let mut text = Vec::new(alloc);
     let mut chunk = [0; CHUNK];
     for _piece in 0..u64::MAX {
-        flush(writer)?;
         let count = match reader.read_some(&mut chunk) {
             Ok(count) => count,
             Err(error) => return Err(Failure::Input(error)),
         };
         if count == 0 {
-            return finish(alloc, program, line.as_slice(), &mut text, writer);
+            match finish(alloc, program, line.as_slice(), &mut text, writer) {
+                Ok(()) => return Ok(()),
+                Err(Stop::Memory) => return Err(Failure::Memory),
+                Err(Stop::Output(error)) => return Err(Failure::Output(error)),
+            }
         }
-        answer_chunk(
+        match answer_chunk(
             alloc,
             program,
             &mut line,
             &chunk[..count],
             &mut text,
             writer,
-        )?;
+        ) {
+            Ok(()) => {}
+            Err(Stop::Memory) => return Err(Failure::Memory),
+            Err(Stop::Output(error)) => return Err(Failure::Output(error)),
+        }
     }
     Err(Failure::TooLong)
 }
 
-// Takes bytes of the input, and answers the lines that they end. The memory of `text` is used for each answer.
+// Takes bytes of the input, answers the lines that they end, and flushes. The memory of `text` is used for each answer.
 fn answer_chunk<A: Answer, W: Write>(
     alloc: Global,
     program: &mut A,
@@ -103,30 +111,28 @@ fn answer_chunk<A: Answer, W: Write>(
     bytes: &[u8],
     text: &mut Vec<u8>,
     writer: &mut Counted<W>,
-) -> Result<(), Failure>
+) -> Result<(), Stop>
     ensures ok { OnOk result ((said : List ℕ) × Appends (W.contents writer.old.inner) (W.contents writer.new.inner) said
         × Advances A.IsAnswer program.old line.old.items bytes.now said line.new.items program.new) }
-    ensures memory { IsErrOf result Failure.Memory → (front rest said next : List ℕ) × (bytes.now ≡ front ++ rest)
+    ensures memory { IsErrOf result Stop.Memory → (front rest said next : List ℕ) × (bytes.now ≡ front ++ rest)
         × Appends (W.contents writer.old.inner) (W.contents writer.new.inner) said
         × AdvancesSome A.IsAnswer program.old line.old.items front said next }
-    ensures output { (error : IoError) → IsErrOf result (Failure.Output error)
+    ensures output { (error : IoError) → IsErrOf result (Stop.Output error)
         → (front rest said next : List ℕ) × (bytes.now ≡ front ++ rest)
         × AppendsFront (W.contents writer.old.inner) (W.contents writer.new.inner) said
         × Advances A.IsAnswer program.old line.old.items front said next program.new }
-    ensures no_input { (error : IoError) → IsErrOf result (Failure.Input error) → ⊥ }
-    ensures not_long { IsErrOf result Failure.TooLong → ⊥ }
-    ensures faults_grow { writer.old.faults ≤ writer.new.faults }
-    ensures none_failed { OnOk result (writer.new.failed ≡ writer.old.failed) }
-    ensures output_fault { (error : IoError) → IsErrOf result (Failure.Output error)
-        → Reported writer.old.faults writer.new.faults }
+    ensures faults { Reports writer.old writer.new result }
 {
     let mut rest = bytes;
     while let Some((front, after)) = split_line(rest) {
-        extend_line(line, front)?;
-        end_line(alloc, program, line, text, writer)?;
+        line.extend_from_slice(front)?;
+        answer_line(alloc, program, line.as_slice(), text, writer)?;
+        line.clear();
         rest = after;
     }
-    extend_line(line, rest)
+    line.extend_from_slice(rest)?;
+    writer.flush()?;
+    Ok(())
 }
 
 // The bytes before the first line feed, and those after it.
@@ -143,47 +149,6 @@ fn split_line(bytes: &[u8]) -> Option<(&[u8], &[u8])>
     None
 }
 
-// Takes bytes of a line.
-fn extend_line(line: &mut Vec<u8>, piece: &[u8]) -> Result<(), Failure>
-    ensures ok { OnOk result (line.new.items ≡ line.old.items ++ piece.now) }
-    ensures memory { OnErr result (result ≡ Err Failure.Memory) }
-{
-    match line.extend_from_slice(piece) {
-        Ok(()) => Ok(()),
-        Err(_) => Err(Failure::Memory),
-    }
-}
-
-// Answers the line that a line feed ends, and begins the next. If memory is refused, nothing was written.
-fn end_line<A: Answer, W: Write>(
-    alloc: Global,
-    program: &mut A,
-    line: &mut Vec<u8>,
-    text: &mut Vec<u8>,
-    writer: &mut Counted<W>,
-) -> Result<(), Failure>
-    ensures ok { OnOk result ((said : List ℕ) × Appends (W.contents writer.old.inner) (W.contents writer.new.inner) said
-        × Advances A.IsAnswer program.old line.old.items (10 ∷ []) said line.new.items program.new) }
-    ensures memory { IsErrOf result Failure.Memory → Keeps (W.contents writer.old.inner) (W.contents writer.new.inner) }
-    ensures output { (error : IoError) → IsErrOf result (Failure.Output error) → (said : List ℕ)
-        × AppendsFront (W.contents writer.old.inner) (W.contents writer.new.inner) said
-        × Advances A.IsAnswer program.old line.old.items (10 ∷ []) said [] program.new }
-    ensures no_input { (error : IoError) → IsErrOf result (Failure.Input error) → ⊥ }
-    ensures not_long { IsErrOf result Failure.TooLong → ⊥ }
-    ensures faults_grow { writer.old.faults ≤ writer.new.faults }
-    ensures none_failed { OnOk result (writer.new.failed ≡ writer.old.failed) }
-    ensures output_fault { (error : IoError) → IsErrOf result (Failure.Output error)
-        → Reported writer.old.faults writer.new.faults }
-{
-    match answer_line(alloc, program, line.as_slice(), text, writer) {
-        Ok(()) => {
-            line.clear();
-            Ok(())
-        }
-        Err(failure) => Err(failure),
-    }
-}
-
 // Writes the answer to a line, of which a carriage return at its end is no part. If memory is refused, nothing was written.
 fn answer_line<A: Answer, W: Write>(
     alloc: Global,
@@ -191,28 +156,19 @@ fn answer_line<A: Answer, W: Write>(
     line: &[u8],
     text: &mut Vec<u8>,
     writer: &mut Counted<W>,
-) -> Result<(), Failure>
+) -> Result<(), Stop>
     ensures ok { OnOk result ((said : List ℕ) × Appends (W.contents writer.old.inner) (W.contents writer.new.inner) said
         × A.IsAnswer program.old (strip_carriage_return line.now) said program.new) }
-    ensures memory { IsErrOf result Failure.Memory → Keeps (W.contents writer.old.inner) (W.contents writer.new.inner) }
-    ensures output { (error : IoError) → IsErrOf result (Failure.Output error) → (said : List ℕ)
+    ensures memory { IsErrOf result Stop.Memory → Keeps (W.contents writer.old.inner) (W.contents writer.new.inner) }
+    ensures output { (error : IoError) → IsErrOf result (Stop.Output error) → (said : List ℕ)
         × AppendsFront (W.contents writer.old.inner) (W.contents writer.new.inner) said
         × A.IsAnswer program.old (strip_carriage_return line.now) said program.new }
-    ensures no_input { (error : IoError) → IsErrOf result (Failure.Input error) → ⊥ }
-    ensures not_long { IsErrOf result Failure.TooLong → ⊥ }
-    ensures faults_grow { writer.old.faults ≤ writer.new.faults }
-    ensures none_failed { OnOk result (writer.new.failed ≡ writer.old.failed) }
-    ensures output_fault { (error : IoError) → IsErrOf result (Failure.Output error)
-        → Reported writer.old.faults writer.new.faults }
+    ensures faults { Reports writer.old writer.new result }
 {
     text.clear();
-    let Ok(()) = program.answer(alloc, strip_return(line), text) else {
-        return Err(Failure::Memory);
-    };
-    match writer.write_all(text.as_slice()) {
-        Ok(()) => Ok(()),
-        Err(error) => Err(Failure::Output(error)),
-    }
+    program.answer(alloc, strip_return(line), text)?;
+    writer.write_all(text.as_slice())?;
+    Ok(())
 }
 
 // The line, without a carriage return at its end.
@@ -225,48 +181,27 @@ fn strip_return(line: &[u8]) -> &[u8]
     }
 }
 
-// Answers the last line, if it has bytes.
+// Answers the last line, if it has bytes, and flushes.
 fn finish<A: Answer, W: Write>(
     alloc: Global,
     program: &mut A,
     line: &[u8],
     text: &mut Vec<u8>,
     writer: &mut Counted<W>,
-) -> Result<(), Failure>
+) -> Result<(), Stop>
     ensures ok { OnOk result ((output : List ℕ) × Appends (W.contents writer.old.inner) (W.contents writer.new.inner) output
         × AnswersEach A.IsAnswer program.old (map strip_carriage_return (last_line line.now)) output program.new) }
-    ensures memory { IsErrOf result Failure.Memory → Keeps (W.contents writer.old.inner) (W.contents writer.new.inner) }
-    ensures output { (error : IoError) → IsErrOf result (Failure.Output error) → (output : List ℕ)
+    ensures memory { IsErrOf result Stop.Memory → Keeps (W.contents writer.old.inner) (W.contents writer.new.inner) }
+    ensures output { (error : IoError) → IsErrOf result (Stop.Output error) → (output : List ℕ)
         × AppendsFront (W.contents writer.old.inner) (W.contents writer.new.inner) output
         × AnswersEach A.IsAnswer program.old (map strip_carriage_return (last_line line.now)) output program.new }
-    ensures no_input { (error : IoError) → IsErrOf result (Failure.Input error) → ⊥ }
-    ensures not_long { IsErrOf result Failure.TooLong → ⊥ }
-    ensures faults_grow { writer.old.faults ≤ writer.new.faults }
-    ensures none_failed { OnOk result (writer.new.failed ≡ writer.old.failed) }
-    ensures output_fault { (error : IoError) → IsErrOf result (Failure.Output error)
-        → Reported writer.old.faults writer.new.faults }
+    ensures faults { Reports writer.old writer.new result }
 {
     if line.is_empty() {
-        return flush(writer);
+        writer.flush()?;
+        return Ok(());
     }
-    match answer_line(alloc, program, line, text, writer) {
-        Ok(()) => flush(writer),
-        Err(failure) => Err(failure),
-    }
-}
-
-fn flush<W: Write>(writer: &mut Counted<W>) -> Result<(), Failure>
-    ensures bytes { Keeps (W.contents writer.old.inner) (W.contents writer.new.inner) }
-    ensures memory { IsErrOf result Failure.Memory → ⊥ }
-    ensures no_input { (error : IoError) → IsErrOf result (Failure.Input error) → ⊥ }
-    ensures not_long { IsErrOf result Failure.TooLong → ⊥ }
-    ensures faults_grow { writer.old.faults ≤ writer.new.faults }
-    ensures none_failed { OnOk result (writer.new.failed ≡ writer.old.failed) }
-    ensures output_fault { (error : IoError) → IsErrOf result (Failure.Output error)
-        → Reported writer.old.faults writer.new.faults }
-{
-    match writer.flush() {
-        Ok(()) => Ok(()),
-        Err(error) => Err(Failure::Output(error)),
-    }
+    answer_line(alloc, program, line, text, writer)?;
+    writer.flush()?;
+    Ok(())
 }

@@ -1,8 +1,10 @@
-//! `Failure`.
+//! Why answers end.
 ghost use Rattle.std.specs.Prelude.{◌≡◌, ◌↔◌, IsTrue};
 ghost use Rattle.std.specs.IoError.{error_kind};
 ghost use Rattle.std.specs.declared.io.Error.{Error as IoError};
+ghost use Rattle.example_lines.specs.declared.failure.Stop.TheVariants.{Memory, Output};
 
+use std::alloc::AllocError;
 use std::io::{self, ErrorKind};
 use thiserror::Error;
 
@@ -33,5 +35,28 @@ impl Failure {
             Failure::Output(error) => error.kind() == ErrorKind::BrokenPipe,
             _ => false,
         }
+    }
+}
+
+// Why answers end that no more input is read for.
+#[derive(Drop)]
+pub(crate) enum Stop {
+    Memory,
+    Output(io::Error),
+}
+
+impl From<AllocError> for Stop {
+    ghost from_gives = { λ _ stop. stop ≡ Memory };
+
+    fn from(_refused: AllocError) -> Self {
+        Stop::Memory
+    }
+}
+
+impl From<io::Error> for Stop {
+    ghost from_gives = { λ error stop. stop ≡ Output error };
+
+    fn from(error: io::Error) -> Self {
+        Stop::Output(error)
     }
 }

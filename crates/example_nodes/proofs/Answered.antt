@@ -1,23 +1,29 @@
 -- The text of an answer, piece by piece.
-use Rattle.std.proofs.Common.{◌≡◌, ◌∙◌, ℕ, List, [], ◌∷◌, ◌++◌, codes, sym, ap, append_assoc}
+use Rattle.std.proofs.Common.{◌≡◌, ◌∙◌, ℕ, List, [], ◌∷◌, ◌++◌, Bool, if◌then◌else◌, codes, ap, append_assoc}
 use Rattle.std.specs.Fmt.{decimal}
-use Rattle.tinyvec.specs.TinyVec.{tiny_items}
-use Rattle.example_nodes.specs.Words.{beginnings, spelled}
-use Rattle.example_nodes.specs.Tree.{all_nodes}
-use Rattle.example_nodes.specs.Nodes.{views}
-use Rattle.example_nodes.specs.Outcome.{right, outcome}
-use Rattle.example_nodes.specs.Parsers.{nodes_words}
-use Rattle.example_nodes.specs.Answer.{said}
-use Rattle.example_nodes.proofs.Counted.{beginnings_of}
-use Rattle.example_nodes.proofs.States.{Nodes}
+use Rattle.example_nodes.specs.Machine.{Outcome}
+use Rattle.example_nodes.specs.Faults.{IsSaid}
+use Rattle.example_nodes.specs.Outcome.{outcome}
+use Rattle.example_nodes.specs.Squares.{squares_outcome}
+use Rattle.example_nodes.specs.Answer.{said_of, nodes_said, squares_said}
+use Rattle.example_nodes.specs.declared.parse_error.ParseError.{ParseError}
+use Rattle.example_nodes.specs.declared.parse_error.ParseError.TheVariants.{Syntax, Memory}
 
-pub answered : (line : List ℕ) (number count : ℕ) (v : Nodes) (first second text : List ℕ) → outcome line ≡ right (nodes_words v) → count ≡ all_nodes (views (tiny_items v))
-    → first ≡ decimal count ++ codes ": " → second ≡ first ++ spelled (nodes_words v) → text ≡ second ++ 10 ∷ [] → text ≡ said number (outcome line)
-answered line number count v first second text is counted one two three =
-    let ws = nodes_words v in
-    let n = decimal (beginnings ws) in
+-- a number, and what follows it
+pub answered : (count : ℕ) (body first second text : List ℕ) → first ≡ decimal count ++ codes ": " → second ≡ first ++ body → text ≡ second ++ 10 ∷ []
+    → text ≡ decimal count ++ (codes ": " ++ (body ++ 10 ∷ []))
+answered count body first second text one two three =
+    let n = decimal count in
     three
-    ∙ ap (λ t. t ++ 10 ∷ []) (two ∙ ap (λ t. t ++ spelled ws) (one ∙ ap (λ k. decimal k ++ codes ": ") (counted ∙ sym (beginnings_of (views (tiny_items v))))) ∙ append_assoc n (codes ": ") (spelled ws))
-    ∙ append_assoc n (codes ": " ++ spelled ws) (10 ∷ [])
-    ∙ ap (λ t. n ++ t) (append_assoc (codes ": ") (spelled ws) (10 ∷ []))
-    ∙ ap (said number) (sym is)
+    ∙ ap (λ t. t ++ 10 ∷ []) (two ∙ ap (λ t. t ++ body) one ∙ append_assoc n (codes ": ") body)
+    ∙ append_assoc n (codes ": " ++ body) (10 ∷ [])
+    ∙ ap (λ t. n ++ t) (append_assoc (codes ": ") body (10 ∷ []))
+
+-- by whether a line has squares
+abbrev pub line_by : List ℕ → Bool → Outcome (List ℕ)
+line_by line squares = if squares then said_of squares_said (squares_outcome line) else said_of nodes_said (outcome line)
+
+-- what is wrong with a line is wrong with what is said of it
+pub still_said : {A : Type 0} (f : A → List ℕ) (read : Outcome A) (all : Outcome (List ℕ)) → all ≡ said_of f read → (error : ParseError) → IsSaid read error → IsSaid all error
+still_said f read all here (Syntax column fault) is = here ∙ ap (said_of f) is
+still_said f read all here Memory is = tt

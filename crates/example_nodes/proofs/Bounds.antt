@@ -1,15 +1,15 @@
 -- A line has no more nodes than bytes.
 use Rattle.std.proofs.Common.{◌≡◌, ℕ, suc, ◌+◌, ◌≤◌, ◌==◌, List, [], ◌∷◌, ◌++◌, length, Bool, true, false, if◌then◌else◌, Option, None, Some, ap, arith}
 use Rattle.std.specs.Char.{is_ascii_digit}
-use Rattle.std.proofs.lemmas.Bool.{false≢true}
 use Rattle.tinyvec.specs.TinyVec.{tiny_items}
 use Rattle.example_nodes.specs.Words.{Word, opening, closing, number, beginnings}
 use Rattle.example_nodes.specs.Tree.{all_nodes}
 use Rattle.example_nodes.specs.Nodes.{views}
-use Rattle.example_nodes.specs.Outcome.{State, start, last_words, digit, ended, opened, closed, sign, next, fault, end_fault, Outcome, right, wrong, unless, outcome_on, outcome}
+use Rattle.example_nodes.specs.Machine.{right, outcome_on}
+use Rattle.example_nodes.specs.Outcome.{State, start, last_words, digit, ended, opened, closed, sign, next, fault, end_fault, nodes_line, outcome}
 use Rattle.example_nodes.specs.Parsers.{nodes_words}
-use Rattle.example_nodes.specs.declared.parse_error.Fault.{Fault}
 use Rattle.example_nodes.proofs.Counted.{beginnings_of}
+use Rattle.example_nodes.proofs.Steps.{passes, reads}
 use Rattle.example_nodes.proofs.States.{Nodes}
 
 begun_both : (ws vs : List Word) → beginnings (ws ++ vs) ≡ beginnings ws + beginnings vs
@@ -43,23 +43,11 @@ weight_next : (s : State) (byte : ℕ) (is : Bool) → weight (if is then digit 
 weight_next s byte true = weight_digit s byte
 weight_next s byte false = omega (arith, weight_sign (ended s) (byte == 40) (byte == 41), weight_ended s.words s.depth s.last)
 
-abbrev is_right : Outcome → Bool
-is_right (right ws) = true
-is_right (wrong column f) = false
-
-abbrev words_in : Outcome → List Word
-words_in (right ws) = ws
-words_in (wrong column f) = []
-
-passes : (column : ℕ) (f : Option Fault) (rest : Outcome) (ws : List Word) → unless column f rest ≡ right ws → rest ≡ right ws
-passes column (Some f) rest ws is = absurd (false≢true (ap is_right is))
-passes column None rest ws is = is
-
-bounded : (s : State) (column : ℕ) (bytes : List ℕ) (ws : List Word) → outcome_on s column bytes ≡ right ws → beginnings ws ≤ weight s + length bytes
+bounded : (s : State) (column : ℕ) (bytes : List ℕ) (ws : List Word) → outcome_on nodes_line s column bytes ≡ right ws → beginnings ws ≤ weight s + length bytes
 bounded s column [] ws is =
-    omega (arith, ap (λ o. beginnings (words_in o)) (passes column (end_fault s) (right (ended s).words) ws is), weight_ended s.words s.depth s.last)
+    omega (arith, ap beginnings (reads (ended s).words ws (passes column (end_fault s) (right (ended s).words) ws is)), weight_ended s.words s.depth s.last)
 bounded s column (byte ∷ bytes) ws is =
-    omega (arith, bounded (next s byte) (suc column) bytes ws (passes column (fault s byte) (outcome_on (next s byte) (suc column) bytes) ws is), weight_next s byte (is_ascii_digit byte))
+    omega (arith, bounded (next s byte) (suc column) bytes ws (passes column (fault s byte) (outcome_on nodes_line (next s byte) (suc column) bytes) ws is), weight_next s byte (is_ascii_digit byte))
 
 pub no_more : (line : List ℕ) (v : Nodes) → outcome line ≡ right (nodes_words v) → all_nodes (views (tiny_items v)) ≤ length line
 no_more line v is = omega (arith, bounded start 1 line (nodes_words v) is, beginnings_of (views (tiny_items v)))

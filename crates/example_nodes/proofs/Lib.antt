@@ -2,7 +2,11 @@ pub mod Views
 pub mod Counted
 pub mod Spelled
 pub mod Steps
+pub mod Rejoined
 pub mod States
 pub mod Bounds
 pub mod Ends
 pub mod Answered
+pub mod Texts
+pub mod Filled
+pub mod Spells

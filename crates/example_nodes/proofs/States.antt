@@ -1,5 +1,5 @@
 -- What a step of the parser does to its state.
-use Rattle.std.proofs.Common.{◌≡◌, ◌∙◌, ℕ, zero, suc, ◌+◌, ◌-◌, ◌<◌, ◌==◌, List, [], ◌∷◌, ◌++◌, map, length, vec_len, if◌then◌else◌, None, Some, refl, sym, ap, arith, append_assoc}
+use Rattle.std.proofs.Common.{◌≡◌, ◌∙◌, ℕ, zero, suc, ◌+◌, ◌-◌, ◌<◌, ◌==◌, List, [], ◌∷◌, ◌++◌, map, length, vec_len, if◌then◌else◌, None, Some, sym, ap, arith, append_assoc}
 use Rattle.std.proofs.lemmas.List.{append-nil}
 use Rattle.std.proofs.Math.Dec.{eqb-suc-zero}
 use Rattle.tinyvec.specs.TinyVec.{tiny_items}
@@ -8,19 +8,21 @@ use Rattle.tinyvec_array.specs.declared.bound.UpTo.{UpTo}
 use Rattle.example_nodes.specs.Words.{Word, opening, closing, number}
 use Rattle.example_nodes.specs.Tree.{Tree, tree_words, words_of}
 use Rattle.example_nodes.specs.Nodes.{view, views}
+use Rattle.example_nodes.specs.Machine.{followed_by}
 use Rattle.example_nodes.specs.Outcome.{State, last_words, ended, opened, closed}
-use Rattle.example_nodes.specs.Parsers.{nodes_words, opened_words, state_of}
+use Rattle.example_nodes.specs.Parsers.{nodes_words, state_of}
 use Rattle.example_nodes.specs.declared.node.Node.{Node}
 use Rattle.example_nodes.specs.declared.node.Node.TheVariants.{Number}
 use Rattle.example_nodes.specs.declared.parse.Parser.{Parser}
 use Rattle.example_nodes.specs.declared.parse_error.Fault.TheVariants.{NotOpen}
 use Rattle.example_nodes.proofs.Views.{view_number}
+use Rattle.example_nodes.proofs.Rejoined.{outer_push, rejoined, none_open}
 
 abbrev pub Nodes : Type 0
 Nodes = TinyVec (List Node) Node (UpTo 2)
 
 abbrev outer_words : List Nodes → List Word
-outer_words vs = opened_words (map nodes_words vs)
+outer_words vs = followed_by opening (map nodes_words vs)
 
 words_push : (ns : List Node) (n : Node) → words_of (views (ns ++ n ∷ [])) ≡ words_of (views ns) ++ tree_words (view n)
 words_push [] n = append-nil (tree_words (view n))
@@ -29,14 +31,6 @@ words_push (m ∷ ns) n = ap (λ ws. tree_words (view m) ++ ws) (words_push ns n
 -- one node more
 pub nodes_push : (old new : Nodes) (n : Node) (t : Tree) → tiny_items new ≡ tiny_items old ++ n ∷ [] → view n ≡ t → nodes_words new ≡ nodes_words old ++ tree_words t
 nodes_push old new n t items is = ap (λ ns. words_of (views ns)) items ∙ words_push (tiny_items old) n ∙ ap (λ u. nodes_words old ++ tree_words u) is
-
--- one bracket more
-outer_push : (vs : List Nodes) (v : Nodes) → outer_words (vs ++ v ∷ []) ≡ (outer_words vs ++ nodes_words v) ++ opening ∷ []
-outer_push [] v = refl
-outer_push (u ∷ vs) v =
-    let all = opening ∷ outer_words vs in
-    ap (λ ws. nodes_words u ++ opening ∷ ws) (outer_push vs v)
-    ∙ sym (ap (λ ws. ws ++ opening ∷ []) (append_assoc (nodes_words u) all (nodes_words v)) ∙ append_assoc (nodes_words u) (all ++ nodes_words v) (opening ∷ []))
 
 -- a number ends
 pub number_ends : (p q : Parser) (n : ℕ) → q.outer ≡ p.outer → Some n ≡ p.number → q.number ≡ None → tiny_items q.nodes ≡ tiny_items p.nodes ++ Number n ∷ [] → state_of q ≡ ended (state_of p)
@@ -55,7 +49,7 @@ bracket_opens p q v items len before none same =
     let all = ap (λ ns. outer_words q.outer.items ++ words_of (views ns)) none
     ∙ append-nil (outer_words q.outer.items)
     ∙ ap outer_words items
-    ∙ outer_push p.outer.items v
+    ∙ outer_push opening nodes_words p.outer.items v
     ∙ ap (λ u. (outer_words p.outer.items ++ nodes_words u) ++ opening ∷ []) before in
     λ i. record { words = all i; depth = len i; last = same i }
 
@@ -66,10 +60,8 @@ bracket_closes p q v items len words same =
     let outer = outer_words q.outer.items in
     let inner = nodes_words p.nodes in
     let all = ap (λ ws. outer ++ ws) words
-    ∙ sym (append_assoc ((outer ++ nodes_words v) ++ opening ∷ []) inner (closing ∷ [])
-    ∙ append_assoc (outer ++ nodes_words v) (opening ∷ []) (inner ++ closing ∷ [])
-    ∙ append_assoc outer (nodes_words v) (opening ∷ (inner ++ closing ∷ [])))
-    ∙ ap (λ ws. (ws ++ inner) ++ closing ∷ []) (sym (ap outer_words items ∙ outer_push q.outer.items v)) in
+    ∙ sym (rejoined opening closing outer (nodes_words v) inner)
+    ∙ ap (λ ws. (ws ++ inner) ++ closing ∷ []) (sym (ap outer_words items ∙ outer_push opening nodes_words q.outer.items v)) in
     λ i. record { words = all i; depth = len i; last = same i }
 
 -- some bracket is open
@@ -78,9 +70,5 @@ is_open zero some = absurd (omega (arith, some))
 is_open (suc n) some = ap (λ none. if none then Some NotOpen else None) (eqb-suc-zero n)
 
 -- with no bracket open the words are those of the nodes
-none_outer : (vs : List Nodes) → length vs ≡ 0 → outer_words vs ≡ []
-none_outer [] none = refl
-none_outer (v ∷ vs) none = absurd (omega (arith, none))
-
 pub all_closed : (p : Parser) (s : State) → state_of p ≡ s → length p.outer.items ≡ 0 → nodes_words p.nodes ≡ s.words
-all_closed p s is none = sym (ap (λ ws. ws ++ nodes_words p.nodes) (none_outer p.outer.items none)) ∙ ap (λ t. t.words) is
+all_closed p s is none = sym (ap (λ ws. ws ++ nodes_words p.nodes) (none_open opening nodes_words p.outer.items none)) ∙ ap (λ t. t.words) is

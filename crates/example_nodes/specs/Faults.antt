@@ -1,6 +1,6 @@
 -- What an error says of a line.
 use Rattle.std.specs.Prelude.{◌≡◌, ℕ, Option, None, Some, Result, MatchResult, ⊤}
-use Rattle.example_nodes.specs.Outcome.{State, Outcome, wrong}
+use Rattle.example_nodes.specs.Machine.{Outcome, wrong}
 use Rattle.example_nodes.specs.declared.parse_error.Fault.{Fault}
 use Rattle.example_nodes.specs.declared.parse_error.ParseError.{ParseError}
 use Rattle.example_nodes.specs.declared.parse_error.ParseError.TheVariants.{Syntax, Memory}
@@ -11,10 +11,10 @@ IsAt (Syntax place fault) column found = (place ≡ column) × (found ≡ Some f
 IsAt Memory column found = ⊤
 
 -- the error is what the line says. Memory may be refused for any line.
-abbrev pub IsSaid : Outcome → ParseError → Type 0
+abbrev pub IsSaid : {A : Type 0} → Outcome A → ParseError → Type 0
 IsSaid said (Syntax column fault) = said ≡ wrong column fault
 IsSaid said Memory = ⊤
 
 -- a byte has no such fault, and the state is the next; or the error is the fault
-abbrev pub Answers : Result Unit ParseError → ℕ → Option Fault → State → State → Type 0
+abbrev pub Answers : {S : Type 0} → Result Unit ParseError → ℕ → Option Fault → S → S → Type 0
 Answers result column fault new next = MatchResult result (λ _. (fault ≡ None) × (new ≡ next)) (λ error. IsAt error column fault)

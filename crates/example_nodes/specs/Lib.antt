@@ -2,7 +2,10 @@ pub mod Words
 pub mod Tree
 pub mod Same
 pub mod Nodes
+pub mod Machine
 pub mod Outcome
+pub mod Squares
 pub mod Faults
 pub mod Parsers
+pub mod Parts
 pub mod Answer

@@ -1,13 +1,10 @@
--- What a line says: its words, or where it is wrong, and how. One pass over the bytes tells it.
-use Rattle.std.specs.Prelude.{ℕ, suc, ◌+◌, ◌-◌, ◌*◌, ◌^◌, ◌==◌, nat_lt, List, [], ◌∷◌, ◌++◌, Bool, if◌then◌else◌, Option, None, Some, unwrap_or}
+-- A line of nodes: what it says.
+use Rattle.std.specs.Prelude.{ℕ, ◌+◌, ◌-◌, ◌*◌, ◌^◌, ◌==◌, nat_lt, List, [], ◌∷◌, ◌++◌, if◌then◌else◌, Option, None, Some, unwrap_or}
 use Rattle.std.specs.Char.{is_ascii_digit}
 use Rattle.example_nodes.specs.Words.{Word, opening, closing, number}
+use Rattle.example_nodes.specs.Machine.{Machine, Outcome, demanded, outcome_on}
 use Rattle.example_nodes.specs.declared.parse_error.Fault.{Fault}
 use Rattle.example_nodes.specs.declared.parse_error.Fault.TheVariants.{NotOpen, NotClosed, TooDeep, Byte, Number}
-
-pub data Outcome : Type 0 where
-  right : List Word → Outcome
-  wrong : ℕ → Fault → Outcome
 
 -- what was read: the words that ended, how many brackets are open, and a number that may go on
 pub record State : Type 0 where
@@ -45,10 +42,6 @@ sign s byte = if byte == 40 then opened s else (if byte == 41 then closed s else
 abbrev pub next : State → ℕ → State
 next s byte = if is_ascii_digit byte then digit s byte else sign (ended s) byte
 
--- a fault, unless something holds
-abbrev pub demanded : Bool → Fault → Option Fault
-demanded holds f = if holds then None else Some f
-
 -- a number fits 64 bits
 abbrev pub digit_fault : State → ℕ → Option Fault
 digit_fault s byte = demanded (nat_lt (with_digit s.last byte) (2 ^ 64)) Number
@@ -72,14 +65,8 @@ fault s byte = if is_ascii_digit byte then digit_fault s byte else sign_fault (e
 abbrev pub end_fault : State → Option Fault
 end_fault s = demanded (s.depth == 0) NotClosed
 
-abbrev pub unless : ℕ → Option Fault → Outcome → Outcome
-unless column (Some f) rest = wrong column f
-unless column None rest = rest
+abbrev pub nodes_line : Machine State (List Word)
+nodes_line = record { next = next; fault = fault; end_fault = end_fault; says = λ s. (ended s).words }
 
--- what the rest of a line says, from a column on
-abbrev pub outcome_on : State → ℕ → List ℕ → Outcome
-outcome_on s column [] = unless column (end_fault s) (right (ended s).words)
-outcome_on s column (byte ∷ bytes) = unless column (fault s byte) (outcome_on (next s byte) (suc column) bytes)
-
-abbrev pub outcome : List ℕ → Outcome
-outcome line = outcome_on start 1 line
+abbrev pub outcome : List ℕ → Outcome (List Word)
+outcome line = outcome_on nodes_line start 1 line

@@ -1,5 +1,5 @@
-//! Reads numbers and lists of numbers and lists, a line each, and prints them anew with the number of nodes, or says what is
-//! wrong, and where.
+//! Reads numbers and lists of numbers and lists, or squares, a line each, and prints them anew with the number of nodes or
+//! squares, or says what is wrong, and where.
 #![tactic(auto)]
 
 mod answer;
@@ -8,6 +8,7 @@ mod node;
 mod parse;
 mod parse_error;
 mod print;
+mod squares;
 
 use answer::Reader;
 use example_lines::{Failure, answer_lines};

@@ -1,6 +1,6 @@
 //! What is wrong with a line, and where.
 ghost use Rattle.std.specs.Prelude.{◌≡◌, OnOk, IfErr};
-ghost use Rattle.example_nodes.specs.Outcome.{demanded};
+ghost use Rattle.example_nodes.specs.Machine.{demanded};
 ghost use Rattle.example_nodes.specs.Faults.{IsAt};
 ghost use Rattle.example_nodes.specs.declared.parse_error.ParseError.TheVariants.{Syntax, Memory};
 
@@ -19,6 +19,8 @@ pub enum Fault {
     Byte,
     /// With this digit the number does not fit 64 bits.
     Number,
+    /// Here ends a fifth part.
+    Full,
 }
 
 impl Fault {
@@ -34,6 +36,7 @@ impl Fault {
             Fault::TooDeep => "too many lists are open",
             Fault::Byte => "this byte has no meaning",
             Fault::Number => "the number is too large",
+            Fault::Full => "a fifth part ends here",
         }
     }
 }

@@ -1,14 +1,14 @@
 -- Lemmas on what refused calls leave.
 use Rattle.std.proofs.Common.{◌≡◌, ℕ, ◌+◌, ◌-◌, ◌≤◌, List, [], ◌++◌, take, drop, slice_range, refl, sym, ap, subst, ◌∙◌, le_refl, arith, append-nil, length, length-take, length-take-le, length-drop}
 use Rattle.std.proofs.lemmas.List.{get_or-take, get_or-drop}
-use Rattle.std.specs.Prelude.{IsTrue}
+use Rattle.std.specs.Prelude.{Bool, IsTrue, Ok}
 use Rattle.std.proofs.lemmas.List.Elements.{All-nil}
 use Rattle.tinyvec_slots.specs.Slots.{AreDefaults}
 use Rattle.std.specs.List.{AllZip}
 use Rattle.tinyvec_slots.specs.Clones.{RefusedAt, ClonesOver, ClonesInPart}
 use Rattle.std.proofs.lemmas.Slice.{between_is}
-use Rattle.tinyvec.specs.View.{TinyView, view_len, view_inline, ViewInline, view_capacity, PlaceRule, TinySlotRule, SameFrame}
-use Rattle.tinyvec.specs.Room.{GrowsFor}
+use Rattle.tinyvec.specs.View.{TinyView, view_len, view_inline, ViewInline, view_capacity, TinySlotRule, SameFrame}
+use Rattle.tinyvec.specs.Room.{MakesRoom}
 use Rattle.tinyvec.specs.Refused.{RoomGranted}
 pub use Rattle.tinyvec.specs.FrameLaws.{place_kept}
 
@@ -103,16 +103,13 @@ pub spare_kept : {T : Type 0} (old mid new : TinyView T) → (ViewInline mid →
     → ViewInline new → mid.spare ≡ old.spare
 spare_kept old mid new stays place i = ap (λ v. v.spare) (stays (subst IsTrue place i))
 
-module _ {T : Type 0} (slots need : ℕ) where
-  -- a list that stayed where its room was granted
-  pub place_then : (old mid new : TinyView T) (n : ℕ) → n ≡ need → view_inline new ≡ view_inline mid → PlaceRule slots n old mid → PlaceRule slots need old new
-  place_then old mid new n same stays place = rw (← same, stays) place
-
-  -- and kept that room
-  pub granted_then : (old mid new : TinyView T) (n : ℕ) → n ≡ need → view_inline new ≡ view_inline mid → view_capacity slots new ≡ view_capacity slots mid
-      → PlaceRule slots n old mid → GrowsFor slots n old mid → RoomGranted slots need old new
-  granted_then old mid new n is stays same place grown = (place_then old mid new n is stays place, rw (← is, same) grown)
+module _ {T : Type 0} (exact : Bool) (slots need : ℕ) (old new : TinyView T) where
+  -- a list that stayed where its room was granted, and kept that room
+  pub granted_then : {X E : Type 0} (mid : TinyView T) (x : X) → view_inline new ≡ view_inline mid → view_capacity slots new ≡ view_capacity slots mid
+      → MakesRoom {E = E} exact slots need old mid (Ok x) → RoomGranted exact slots need old new
+  granted_then mid x stays same made =
+      ((λ i. made.place.0 (sym stays ∙ i), λ both. stays ∙ made.place.1 both), λ room. same ∙ made.same_room room, λ less. same ∙ made.grown less)
 
   -- there was room before
-  pub granted_before : (old new : TinyView T) → view_inline new ≡ view_inline old → need ≤ view_capacity slots old → RoomGranted slots need old new
-  granted_before old new same le = (place_kept slots need old new same le, λ less. absurd (omega (arith, le, less)))
+  pub granted_before : view_inline new ≡ view_inline old → view_capacity slots new ≡ view_capacity slots old → need ≤ view_capacity slots old → RoomGranted exact slots need old new
+  granted_before stays same le = (place_kept slots need old new stays le, λ _. same, λ less. absurd (omega (arith, le, less)))

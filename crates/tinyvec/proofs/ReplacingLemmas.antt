@@ -1,11 +1,12 @@
 -- Lemmas on a range that was replaced: where there is room, and of a list that was granted room for n more items first.
 use Rattle.std.proofs.Common.{◌≡◌, ◌∙◌, ℕ, ◌+◌, ◌-◌, ◌<◌, ◌≤◌, List, ◌++◌, take, drop, length, length-drop, length-take-le, Result, Ok, inl, inr, sym, subst, arith}
+use Rattle.std.specs.Prelude.{Bool}
 use Rattle.std.proofs.lemmas.Bool.{cases_lt}
 use Rattle.tinyvec_slots.specs.Replacing.{PutsBetween}
-use Rattle.tinyvec.specs.View.{TinyView, view_len, view_inline, ViewInline, view_capacity, PlaceRule, TinySlotRule, Becomes}
-use Rattle.tinyvec.specs.Room.{GrowsFor, RoomGrows, MakesRoom}
-use Rattle.tinyvec.proofs.TinyLemmas.{capacity_inline}
-use Rattle.tinyvec.proofs.FrameLemmas.{on_ok}
+use Rattle.tinyvec.specs.View.{TinyView, view_len, view_inline, ViewInline, view_capacity, PlaceRule, Becomes}
+use Rattle.tinyvec.specs.Room.{GrowsTo, MakesRoom}
+use Rattle.tinyvec.proofs.TinyLemmas.{capacity_inline, taken, slots_after_room}
+use Rattle.tinyvec.proofs.FrameLemmas.{room_granted}
 
 -- a list with a range of it replaced, put where there is room for it
 pub replaced : {T X E : Type 0} (room start end : ℕ) (put old new : List T) (result : Result X E) → start ≤ end → end ≤ length old
@@ -31,14 +32,12 @@ module _ {T : Type 0} (slots n : ℕ) (old mid new : TinyView T) (fits : view_le
     λ h. same ∙ first.1 (h.0, as_many slots (omega (arith, fits, capacity_inline slots old h.0)) h.1),
   )
 
-  pub replaced_room : {X E Y F : Type 0} {xs : List T} (D : T → Type 0) (r : Result X E) (y : Y)
-      → (ViewInline mid → mid ≡ old) → MakesRoom {E = F} GrowsFor D slots (view_len old + n) old mid (Ok y) → Becomes D slots mid new xs
-      → RoomGrows GrowsFor D slots (view_len new) old new r
-  replaced_room D r y kept made stays = record {
-    place = on_ok r (replaced_place made.place stays.place);
-    slot_rule = on_ok r (λ i j. subst (λ v. TinySlotRule D v new) (kept (sym stays.place ∙ j)) stays.slot_rule i j);
-    capacity = omega (arith, made.capacity, stays.capacity);
-    same_room = λ le. stays.capacity ∙ made.same_room (as_many (view_capacity slots old) fits le);
-    grown = on_ok r (λ less. stays.capacity ∙ subst (λ k. GrowsFor slots k old mid) (sym (exact (omega (arith, less, long, fits)))) made.grown less);
-    fits = stays.fits;
-  }
+  pub replaced_room : {X E Y F : Type 0} {xs : List T} (exactly : Bool) (D : T → Type 0) (x : X) (y : Y)
+      → (ViewInline mid → mid ≡ old) → MakesRoom {E = F} exactly slots (view_len old + n) old mid (Ok y) → Becomes D slots mid new xs
+      → MakesRoom {E = E} exactly slots (view_len new) old new (Ok x)
+  replaced_room exactly D x y kept made stays =
+      room_granted exactly slots (view_len new) old new (Ok x) (
+        replaced_place made.place stays.place,
+        λ le. stays.capacity ∙ made.same_room (as_many (view_capacity slots old) fits le),
+        λ less. stays.capacity ∙ subst (λ k. GrowsTo exactly slots k old mid) (sym (exact (omega (arith, less, long, fits)))) made.grown less,
+      ) stays.fits (λ i j le. taken D old new le (slots_after_room D old mid new kept stays.place stays.slot_rule) i j)

@@ -1,13 +1,13 @@
 -- A `TinyVec`'s splice along a word of ends.
 use Rattle.std.proofs.Common.{List, Option, refl, ◌∙◌}
 use Rattle.std.specs.declared.iter.Fuse.{Fuse}
-use Rattle.tinyvec_slots.specs.Ends.{End, TakesFromEnds, RunsWord}
+use Rattle.tinyvec_slots.specs.Ends.{End, RunsWord}
 use Rattle.tinyvec_slots.specs.Fused.{HasTwoEnds}
 use Rattle.tinyvec_slots.specs.SplicedByWord.{SplicedByWord}
 use Rattle.tinyvec_slots.proofs.AnySpliceLemmas as all
 use Rattle.tinyvec_array.specs.declared.storage.Slots as Storage
 use Rattle.tinyvec.specs.TinyVec.{tiny_view_of}
-use Rattle.tinyvec.specs.TinyVecSplice.{splice_view, splice_left, splice_vec, SpliceKeeps, SpliceSteps, SpliceStepsBack}
+use Rattle.tinyvec.specs.TinyVecSplice.{splice_view, splice_vec, SpliceKeeps, SpliceSteps, SpliceStepsBack}
 use Rattle.tinyvec.proofs.TinyLemmas.{SameFrame-refl, SameFrame-then}
 use Rattle.tinyvec.specs.declared.splice.TinyVecSplice.{TinyVecSplice}
 
@@ -27,9 +27,3 @@ module _ {A I T L : Type 0} (g : Storage.Ghosts A T L) where
       → (s : TinyVecSplice A (Fuse I) T L) (word : List End) (answers : List (Option T)) (t : TinyVecSplice A (Fuse I) T L)
       → RunsWord (SpliceSteps g gives) (SpliceStepsBack g gives_back) s word answers t → SplicedByWord (splice_view g) (SpliceKeeps g) rest s word t
   RunsWord-splices rest = all.RunsWord-splices (splice_view g) (SpliceKeeps g) rest keeps_same keeps_then
-
-  -- and the removed items that they gave
-  pub RunsWord-takes_removed : (gives gives_back : Fuse I → Option T → Fuse I → Type 0)
-      → (s : TinyVecSplice A (Fuse I) T L) (word : List End) (answers : List (Option T)) (t : TinyVecSplice A (Fuse I) T L)
-      → RunsWord (SpliceSteps g gives) (SpliceStepsBack g gives_back) s word answers t → TakesFromEnds (splice_left g s) word answers (splice_left g t)
-  RunsWord-takes_removed = all.RunsWord-takes_removed (splice_view g) (SpliceKeeps g)

@@ -70,6 +70,14 @@ module _ {T : Type 0} (D : T → Type 0) (old new : Slots T) where
   pub slots_removed : (i : ℕ) → i < items_len old → items new ≡ remove (items old) i → Vacates D 1 old new → SlotRule D old new
   slots_removed i in_list is = slots_freed D old new 1 (sym (ap (λ l. length l + 1) is ∙ length-remove (items old) i in_list))
 
+-- what `MakesRoom` says of spare slots
+abbrev pub UsesSpare : {T : Type 0} → TinyView T → TinyView T → Type 0
+UsesSpare old new = ViewInline old → ViewInline new → view_len old ≤ view_len new → new.spare ≡ drop (view_len new - view_len old) old.spare
+
+-- those that a list used up that got longer by k
+pub used_up : {T : Type 0} (old new : TinyView T) (k : ℕ) → view_len new ≡ view_len old + k → (ViewInline new → new.spare ≡ drop k old.spare) → UsesSpare old new
+used_up old new k len spare i j le = spare j ∙ ap (λ n. drop n old.spare) (omega (arith, len))
+
 module _ {T : Type 0} (D : T → Type 0) where
   -- a list that used up k spare slots
   pub slots_taken : (old new : TinyView T) (k : ℕ) → view_len new ≡ view_len old + k → new.spare ≡ drop k old.spare → TinySlotRule D old new
@@ -85,6 +93,10 @@ module _ {T : Type 0} (D : T → Type 0) where
       let h = rule i j in
       h.2 ∙ ap (λ ds. ds ++ drop (view_len new - view_len old) old.spare) (nil_from_length h.0 (omega (arith, h.1.0, le)))
 
+  -- the slot rule of a list that got no shorter, and used up as many spare slots
+  pub used_rule : (old new : TinyView T) → view_len old ≤ view_len new → UsesSpare old new → TinySlotRule D old new
+  used_rule old new le spare i j = slots_taken old new (view_len new - view_len old) (omega (arith, le)) (spare i j le) i j
+
   -- an empty inline list among defaults was made longer: what is left of them
   pub defaults_left : (slots : ℕ) (old new : TinyView T) → old.items ≡ [] → ViewInline old → AreDefaults D slots old.spare
       → TinySlotRule D old new → ViewInline new → AreDefaults D (slots - view_len new) new.spare
@@ -94,11 +106,10 @@ module _ {T : Type 0} (D : T → Type 0) where
       let is = taken old new (omega (arith, zero)) rule inline still in
       (ap length is ∙ length-drop n old.spare ∙ omega (arith, made.0, zero), subst (All D) (sym is) (All-drop D n old.spare made.1))
 
-  -- the slot rule of a call that first made room, and then made the list longer by k
-  pub tiny_slots_grown : (old mid new : TinyView T) (k : ℕ) → (ViewInline mid → mid ≡ old) → view_inline new ≡ view_inline mid
-      → view_len new ≡ view_len mid + k → new.spare ≡ drop k mid.spare → TinySlotRule D old new
-  tiny_slots_grown old mid new k stays place len behind i j =
-      subst (λ v. TinySlotRule D v new) (stays (sym place ∙ j)) (slots_taken mid new k len behind) i j
+  -- the slot rule of a call that first made room
+  pub slots_after_room : (old mid new : TinyView T) → (ViewInline mid → mid ≡ old) → view_inline new ≡ view_inline mid
+      → TinySlotRule D mid new → TinySlotRule D old new
+  slots_after_room old mid new stays place rule i j = subst (λ v. TinySlotRule D v new) (stays (sym place ∙ j)) rule i j
 
   -- the slot rule over two calls, one after the other, that make the list longer
   pub tiny_slots_then : (a b c : TinyView T) → (ViewInline c → ViewInline b) → view_len a ≤ view_len b → view_len b ≤ view_len c
@@ -117,6 +128,11 @@ module _ {T : Type 0} (D : T → Type 0) where
     tiny_slots_only old new i j rule =
         let h = rule i j in
         h.2 ∙ ap (λ ds. ds ++ drop (view_len new - view_len old) old.spare) (defaults_are D c only (view_len old - view_len new) h.0 h.1)
+
+-- what holds if the call succeeded, if it did
+pub on_ok_once : {T E : Type 0} (P : Type 0) (r : Result T E) → OnOk r (OnOk r P) → OnOk r P
+on_ok_once P (Ok x) p = p
+on_ok_once P (Err e) p = tt
 
 -- two facts of a call that succeeded
 pub on_ok_two : {T E P Q R : Type 0} (r : Result T E) → OnOk r P → OnOk r Q → (P → Q → R) → OnOk r R

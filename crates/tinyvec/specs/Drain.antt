@@ -1,6 +1,7 @@
 -- What a contract sees of a `TinyVecDrain`.
-use Rattle.std.specs.Prelude.{◌≡◌, ℕ, ◌+◌, ◌-◌, ◌≤◌, List, slice_range, Option}
-use Rattle.std.specs.Borrow.{GName}
+use Rattle.std.specs.Prelude.{◌≡◌, ℕ, ◌+◌, ◌-◌, ◌≤◌, List, length, slice_range, Option}
+use Rattle.std.specs.Borrow.{GName, MutBor}
+use Rattle.std.specs.Iterator.Runs.{YieldsInOrder, YieldsInReverse}
 use Rattle.std.specs.List.{remove_range}
 use Rattle.tinyvec_slots.specs.AnyDrain.{Steps, StepsBack, TakesAnyWord}
 use Rattle.tinyvec_array.specs.declared.storage.Slots as Storage
@@ -57,3 +58,15 @@ module _ {A T L : Type 0} (g : Storage.Ghosts A T L) where
   -- any calls of `next` and `next_back` take from the two ends of the remaining items
   abbrev pub DrainsFromEnds : TinyVecDrain A T L → Type 0
   DrainsFromEnds = TakesAnyWord drain_items DrainKeeps
+
+  -- d yields xs, items of v, in order. Once it is dropped, the list is `others`, in its place.
+  pub record DrainBegins (v : MutBor (TinyVec A T L)) (xs others : List T) (d : TinyVecDrain A T L) : Type 0 where
+    pub rest : drain_items d ≡ xs
+    pub len : drain_len d ≡ length (drain_items d)
+    pub ready : DrainCanStep d
+    pub runs : YieldsInOrder DrainSteps drain_items
+    pub runs_back : YieldsInReverse DrainStepsBack drain_items
+    pub both_ends : DrainsFromEnds d
+    pub same_reference : drain_lender d ≡ v.ghost_name
+    pub kept : drain_kept d ≡ others
+    pub frame : SameFrame (tiny_view_of g v.now) (tiny_view_of g (drain_vec d))

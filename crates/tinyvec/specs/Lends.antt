@@ -1,14 +1,13 @@
 -- What a `TinyVec` is after a borrow of its items.
-use Rattle.std.specs.Prelude.{◌≡◌, ℕ, List, ◌+◌, slice_set, Result}
+use Rattle.std.specs.Prelude.{◌≡◌, ℕ, List, ◌+◌, slice_set, false, Result}
 use Rattle.std.specs.Borrow.{Lends, LendsSoOk, Fml, RattleType, MutBor, Array}
-use Rattle.std.specs.declared.default.Default as Default
 use Rattle.std.specs.Vec as vec
 use Rattle.tinyvec_array.specs.ArrayVec.{slots_of}
 use Rattle.tinyvec_array.specs.Lends.{at_slots, with_items_of}
 use Rattle.tinyvec_array.specs.declared.storage.Slots as Storage
 use Rattle.tinyvec.specs.View.{Unchanged}
 use Rattle.tinyvec.specs.TinyVec.{tiny_view_of, tiny_items_of, tiny_len_of}
-use Rattle.tinyvec.specs.Room.{Doubles, RoomGrows}
+use Rattle.tinyvec.specs.Room.{MakesRoom}
 use Rattle.tinyvec.specs.declared.tiny_vec.TinyVec.{TinyVec}
 use Rattle.tinyvec.specs.declared.tiny_vec.TinyVec.TheVariants.{Inline, Heap}
 use Rattle.tinyvec.specs.contracts.tiny_vec.TinyVec.{the_row}
@@ -33,8 +32,8 @@ module _ (A L I : RattleType) (g : Storage.Ghosts A.Denot I.Denot L.Denot) (v : 
   lends_item i r = Lends (the_row A I L) I v r (tiny_with_item g v.now i)
 
   -- r is a new item: once its borrow ends, the list is `with` of what r shows last, and room was made as by `push`. At `Err` nothing
-  -- changes. `slots` is the number of slots of an array, and d the `Default` of an item.
-  abbrev pub lends_added : Default.Ghosts I.Denot → ℕ → {E : Type 0} → (I.Denot → List I.Denot) → Result (MutBor I.Denot) E → Fml
-  lends_added d slots with r = LendsSoOk (the_row A I L) I v r
-      (λ n x. (tiny_items_of g n ≡ with x) × RoomGrows Doubles d.is_default slots (tiny_len_of g v.now + 1) (tiny_view_of g v.now) (tiny_view_of g n) r)
+  -- changes. `slots` is the number of slots of an array.
+  abbrev pub lends_added : ℕ → {E : Type 0} → (I.Denot → List I.Denot) → Result (MutBor I.Denot) E → Fml
+  lends_added slots with r = LendsSoOk (the_row A I L) I v r
+      (λ n x. (tiny_items_of g n ≡ with x) × MakesRoom false slots (tiny_len_of g v.now + 1) (tiny_view_of g v.now) (tiny_view_of g n) r)
       (λ n. Unchanged (tiny_view_of g v.now) (tiny_view_of g n))

@@ -1,20 +1,20 @@
 -- What a failed call leaves. C is the `is_clone` of an item's `Clone`.
-use Rattle.std.specs.Prelude.{◌≡◌, ℕ, ◌+◌, ◌<◌, ◌≤◌, ◌⊎◌, List, length, take, drop, All, Result, IsOk, OnOk, OnErr}
+use Rattle.std.specs.Prelude.{◌≡◌, ℕ, ◌+◌, ◌<◌, ◌≤◌, ◌⊎◌, List, length, Bool, take, drop, All, Result, IsOk, OnOk, OnErr}
 use Rattle.std.specs.List.{AppendsClones}
 use Rattle.std.specs.declared.clone.Clone as Clone
 use Rattle.tinyvec_slots.specs.Clones.{RefusedAt, ClonesOver}
 use Rattle.tinyvec.specs.View.{TinyView, view_len, view_inline, view_capacity, ViewInline, PlaceRule, Unchanged}
-use Rattle.tinyvec.specs.Room.{GrowsFor}
+use Rattle.tinyvec.specs.Room.{KeepsRoom, GrowsTo}
 
--- a call that needs room for `need` items had it, or allocated it
-abbrev pub RoomGranted : {T : Type 0} → ℕ → ℕ → TinyView T → TinyView T → Type 0
-RoomGranted slots need old new = PlaceRule slots need old new × GrowsFor slots need old new
+-- A call that needs room for `need` items had it, or allocated it. `exact` says how it grew.
+abbrev pub RoomGranted : {T : Type 0} → (exact : Bool) → ℕ → ℕ → TinyView T → TinyView T → Type 0
+RoomGranted exact slots need old new = PlaceRule slots need old new × KeepsRoom slots need old new × GrowsTo exact slots need old new
 
 -- A call that needs room for `need` items failed. Either there was no such room, the allocator refused it, and nothing
 -- changed. Or the room was granted, as when the call succeeds, and P says which clone failed then.
 abbrev pub RefusedFor : {T : Type 0} → ℕ → ℕ → Type 0 → TinyView T → TinyView T → Type 0
 RefusedFor slots need P old new =
-    ((view_capacity slots old < need) × Unchanged old new) ⊎ (RoomGranted slots need old new × P)
+    ((view_capacity slots old < need) × Unchanged old new) ⊎ (RoomGranted (view_inline old) slots need old new × P)
 
 -- if the list is inline, its first n spare slots hold clones of xs
 abbrev pub ClonesBehind : {T : Type 0} → (T → T → Type 0) → List T → ℕ → TinyView T → TinyView T → Type 0

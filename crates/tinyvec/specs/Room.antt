@@ -1,5 +1,5 @@
 -- Growth, reserving room, and moves to the heap. A call and its `try_` form have one word.
-use Rattle.std.specs.Prelude.{◌≡◌, ℕ, ◌+◌, ◌-◌, ◌*◌, ◌^◌, ◌<◌, ◌≤◌, ◌↔◌, max, List, length, false, if◌then◌else◌, Result, IsOk, OnOk, OnErr}
+use Rattle.std.specs.Prelude.{◌≡◌, ℕ, ◌+◌, ◌-◌, ◌*◌, ◌^◌, ◌<◌, ◌≤◌, ◌↔◌, max, List, length, drop, Bool, false, if◌then◌else◌, Result, IsOk, OnOk, OnErr}
 use Rattle.tinyvec_slots.specs.Slots.{AreDefaults}
 use Rattle.tinyvec.specs.View.{TinyView, view_len, view_inline, ViewInline, view_capacity, PlaceRule, TinySlotRule, Unchanged}
 
@@ -8,24 +8,10 @@ module _ {T : Type 0} where
   abbrev pub KeepsRoom : ℕ → ℕ → TinyView T → TinyView T → Type 0
   KeepsRoom slots need old new = need ≤ view_capacity slots old → view_capacity slots new ≡ view_capacity slots old
 
-  -- if there was less room than `need`, the capacity doubled, or became `need` if that is more
-  abbrev pub Doubles : ℕ → ℕ → TinyView T → TinyView T → Type 0
-  Doubles slots need old new = view_capacity slots old < need
-      → view_capacity slots new ≡ max (2 * view_capacity slots old) need
-
-  -- if there was less room than `need`, a list that moves got a capacity of `need`, and one on the heap of `room`
-  abbrev pub GrowsTo : ℕ → ℕ → ℕ → TinyView T → TinyView T → Type 0
-  GrowsTo slots need room old new = view_capacity slots old < need
-      → view_capacity slots new ≡ (if view_inline old then need else room)
-
-  -- if there was less room than `need`, a list that moves got a capacity of `need`, and one on the heap doubled its
-  -- capacity, or got `need` if that is more
-  abbrev pub GrowsFor : ℕ → ℕ → TinyView T → TinyView T → Type 0
-  GrowsFor slots need old new = GrowsTo slots need (max (2 * view_capacity slots old) need) old new
-
-  -- if there was less room than `need`, the capacity became `need`
-  abbrev pub GrowsExactly : ℕ → ℕ → TinyView T → TinyView T → Type 0
-  GrowsExactly slots need = GrowsTo slots need need
+  -- if there was less room than `need`, the capacity became `need` if `exact` holds; else it doubled, or became `need` if that is more
+  abbrev pub GrowsTo : (exact : Bool) → ℕ → ℕ → TinyView T → TinyView T → Type 0
+  GrowsTo exact slots need old new = view_capacity slots old < need
+      → view_capacity slots new ≡ (if exact then need else max (2 * view_capacity slots old) need)
 
   -- a capacity that grew item by item is less than twice the length
   abbrev pub GrowsInSteps : ℕ → TinyView T → TinyView T → Type 0
@@ -65,56 +51,30 @@ module _ {T : Type 0} where
     pub fits : length xs ≤ view_capacity slots v
 
 module _ {T X E : Type 0} where
-  module _ (G : ℕ → ℕ → TinyView T → TinyView T → Type 0) (D : T → Type 0) (slots need : ℕ) (old new : TinyView T) (result : Result X E) where
-    -- A call that needs room for `need` items took `old` to `new`, with this result. The list is inline exactly if it was and the
-    -- need is within the slots. If there was that room, the capacity is unchanged, else it grew by the rule `G`: `Doubles` or
-    -- `GrowsFor`.
-    pub record RoomGrows : Type 0 where
-      pub place : OnOk result (PlaceRule slots need old new)
-      pub slot_rule : OnOk result (TinySlotRule D old new)
-      pub capacity : view_capacity slots old ≤ view_capacity slots new
-      pub same_room : KeepsRoom slots need old new
-      pub grown : OnOk result (G slots need old new)
-      pub fits : view_len new ≤ view_capacity slots new
-
-    -- the same of a call that clones nothing
-    pub record MakesRoom : Type 0 where
-      pub place : OnOk result (PlaceRule slots need old new)
-      pub slot_rule : TinySlotRule D old new
-      pub capacity : view_capacity slots old ≤ view_capacity slots new
-      pub same_room : KeepsRoom slots need old new
-      pub grown : OnOk result (G slots need old new)
-      pub fits : view_len new ≤ view_capacity slots new
-      -- if there is room it allocates nothing, and a failure changes nothing
-      pub succeeds : need ≤ view_capacity slots old → IsOk result
-      pub full : OnErr result (view_capacity slots old < need)
-      pub refused : OnErr result (Unchanged old new)
-
-  -- A move to the heap took `old` to `new`, with this result. One on the heap stays as it is.
-  pub record MovesToHeap (slots : ℕ) (old new : TinyView T) (result : Result X E) : Type 0 where
-    pub items : new.items ≡ old.items
-    pub place : OnOk result (view_inline new ≡ false)
-    pub succeeds : view_inline old ≡ false → IsOk result
-    -- an empty list allocates nothing
-    pub succeeds_empty : view_len old ≡ 0 → IsOk result
-    -- one that moves gets a capacity of its length
-    pub moved : ViewInline old → OnOk result (view_capacity slots new ≡ view_len old)
+  -- A call that needs room for `need` items took `old` to `new`, with this result. The list is inline exactly if it was and the need is
+  -- within the slots. If there was that room, the capacity is unchanged, else it grew, as `exact` says.
+  pub record MakesRoom (exact : Bool) (slots need : ℕ) (old new : TinyView T) (result : Result X E) : Type 0 where
+    pub place : OnOk result (PlaceRule slots need old new)
+    -- an inline list that got no shorter used up as many spare slots
+    pub spare : ViewInline old → ViewInline new → view_len old ≤ view_len new → new.spare ≡ drop (view_len new - view_len old) old.spare
+    pub capacity : view_capacity slots old ≤ view_capacity slots new
+    pub same_room : KeepsRoom slots need old new
+    pub grown : OnOk result (GrowsTo exact slots need old new)
     pub fits : view_len new ≤ view_capacity slots new
-    -- a failure changes nothing
+    -- if there is room it allocates nothing, and a failure changes nothing
+    pub succeeds : need ≤ view_capacity slots old → IsOk result
+    pub full : OnErr result (view_capacity slots old < need)
     pub refused : OnErr result (Unchanged old new)
 
-  -- the same with room for n more items there
-  pub record MovesToHeapWithRoom (slots n : ℕ) (old new : TinyView T) (result : Result X E) : Type 0 where
+  -- A move to the heap took `old` to `new`, with this result, and made room there for n more items. A list that moves has room for no
+  -- further ones. One on the heap grows as by `reserve`.
+  pub record MovesToHeap (slots n : ℕ) (old new : TinyView T) (result : Result X E) : Type 0 where
     pub items : new.items ≡ old.items
     pub place : OnOk result (view_inline new ≡ false)
     pub enough : OnOk result (view_len old + n ≤ view_capacity slots new)
-    pub fits : view_len new ≤ view_capacity slots new
-    -- A list that moves has room for no further items. One on the heap grows as by `reserve`; if it has room, it allocates
-    -- nothing, and nothing changes. Nor does it on failure.
     pub moved : ViewInline old → OnOk result (view_capacity slots new ≡ view_len old + n)
-    pub keeps_room : view_inline old ≡ false → view_capacity slots old ≤ view_capacity slots new
-    pub grown : view_inline old ≡ false → OnOk result (GrowsFor slots (view_len old + n) old new)
-    pub succeeds : view_inline old ≡ false → view_len old + n ≤ view_capacity slots old → IsOk result
+    pub room : view_inline old ≡ false → MakesRoom (view_inline old) slots (view_len old + n) old new result
+    pub fits : view_len new ≤ view_capacity slots new
+    -- an empty list allocates nothing, and a failure changes nothing
     pub succeeds_empty : view_len old + n ≡ 0 → IsOk result
-    pub full : view_inline old ≡ false → OnErr result (view_capacity slots old < view_len old + n)
     pub refused : OnErr result (Unchanged old new)

@@ -63,14 +63,6 @@ module _ {A T L : Type 0} (g : Storage.Ghosts A T L) where
   abbrev pub SpliceCanNext : {I : Type 0} → (I → Type 0) → TinyVecSplice A (Fuse I) T L → Type 0
   SpliceCanNext can s = SpliceCanStep s × FusedCan can s.replacement
 
-  -- s has placed no item yet: these items precede, are left in, and follow the range
-  pub record SpliceBegins {I : Type 0} (ahead inside behind : List T) (s : TinyVecSplice A I T L) : Type 0 where
-    pub front : splice_front s ≡ ahead
-    pub left : splice_left s ≡ inside
-    pub len : splice_len s ≡ length (splice_left s)
-    pub back : splice_back s ≡ behind
-    pub touches : splice_touches s ≡ 0
-
   -- old and new borrow the same vector, and leave its length, spare slots, place and capacity
   pub record SpliceKeeps {I : Type 0} (old new : TinyVecSplice A (Fuse I) T L) : Type 0 where
     pub same_reference : splice_lender new ≡ splice_lender old

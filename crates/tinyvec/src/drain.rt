@@ -3,10 +3,9 @@ ghost use Rattle.std.specs.Prelude.{◌≡◌, ◌++◌, length, codes, Some, If
 ghost use Rattle.std.specs.Fmt.{debug_list, debug_variant};
 ghost use Rattle.std.specs.Iterator.{at_most, UpTo};
 ghost use Rattle.std.specs.Iterator.SizeHint.{IsWithinCount};
-ghost use Rattle.std.specs.Iterator.Runs.{YieldsInOrder, YieldsInReverse};
 ghost use Rattle.tinyvec_slots.specs.Ranges.{IsRangeOf, before, removed, after};
 ghost use Rattle.tinyvec.specs.TinyVec.{tiny_items_of, tiny_view_of};
-ghost use Rattle.tinyvec.specs.View.{SameFrame, Becomes};
+ghost use Rattle.tinyvec.specs.View.{Becomes};
 
 use crate::TinyVec;
 use std::fmt;
@@ -26,7 +25,7 @@ pub struct TinyVecDrain<'a, A: Array> {
 }
 
 impl<A: Array> TinyVec<A> {
-    ghost use Rattle.tinyvec.specs.Drain.{drain_items, drain_len, drain_lender, drain_kept, drain_vec, DrainCanStep, DrainSteps, DrainStepsBack, DrainsFromEnds};
+    ghost use Rattle.tinyvec.specs.Drain.{DrainBegins};
 
     /// Removes the range, and yields its items from both ends. The items after the range move down when the drain is
     /// dropped.
@@ -37,22 +36,11 @@ impl<A: Array> TinyVec<A> {
     pub fn drain<R: RangeBounds<usize>>(&mut self, range: R) -> TinyVecDrain<'_, A>
         requires not_exhausted { R.has_bounds range }
         requires in_list { IsRangeOf (tiny_items_of A.Slots self.old) (R.start_bound range) (R.end_bound range) }
-
-        // It yields the items of the range.
-        ensures rest { drain_items A.Slots result ≡ removed (tiny_items_of A.Slots self.old) (R.start_bound range)
-            (R.end_bound range) }
-        ensures len { drain_len result ≡ length (drain_items A.Slots result) }
-        ensures ready { DrainCanStep A.Slots result }
-        ensures runs { YieldsInOrder (DrainSteps A.Slots) (drain_items A.Slots) }
-        ensures runs_back { YieldsInReverse (DrainStepsBack A.Slots) (drain_items A.Slots) }
-        ensures both_ends { DrainsFromEnds A.Slots result }
-
-        // Once it is dropped, the list is what preceded the range and what followed it, in its place.
-        ensures same_reference { drain_lender result ≡ self.entry.ghost_name }
-        ensures kept { drain_kept A.Slots result
-            ≡ before (tiny_items_of A.Slots self.old) (R.start_bound range) ++ after
-            (tiny_items_of A.Slots self.old) (R.end_bound range) }
-        ensures frame { SameFrame (tiny_view_of A.Slots self.old) (tiny_view_of A.Slots (drain_vec result)) }
+        ensures { DrainBegins A.Slots self.entry
+            (removed (tiny_items_of A.Slots self.old) (R.start_bound range) (R.end_bound range))
+            (before (tiny_items_of A.Slots self.old) (R.start_bound range)
+            ++ after (tiny_items_of A.Slots self.old) (R.end_bound range))
+            result }
     {
         let part = resolve_range(range, self.len());
         TinyVecDrain {

@@ -7,11 +7,11 @@ ghost use Rattle.std.specs.Iterator.SizeHint.{IsWithinCount};
 ghost use Rattle.tinyvec_slots.specs.Fused.{FusedFinite, FusedCan, fused_rest};
 ghost use Rattle.tinyvec_slots.specs.Ranges.{IsRangeOf, before, removed, after};
 ghost use Rattle.tinyvec.specs.TinyVec.{tiny_items_of, tiny_len_of, is_inline, tiny_capacity, tiny_view_of};
-ghost use Rattle.tinyvec.specs.View.{StaysInPlace, Becomes, Unchanged};
+ghost use Rattle.tinyvec.specs.View.{TinySlotRule, StaysInPlace, Becomes, Unchanged};
 ghost use Rattle.tinyvec_slots.specs.Filling.{IntoIterYields, ShowsItems};
 ghost use Rattle.tinyvec_slots.specs.Replacing.{PutsBetween};
-ghost use Rattle.tinyvec_slots.specs.AnySplice.{FinishTouches};
-ghost use Rattle.tinyvec.specs.Room.{Grows, GrowsFor, RoomGrows};
+ghost use Rattle.tinyvec_slots.specs.AnySplice.{SpliceBegins, FinishTouches};
+ghost use Rattle.tinyvec.specs.Room.{Grows, MakesRoom};
 ghost use Rattle.tinyvec.specs.TinyVecSplice.{items_moved};
 
 use crate::TinyVec;
@@ -49,7 +49,7 @@ impl<'a, A: Array, I: Drop> Drop for TinyVecSplice<'a, A, I> {
 }
 
 impl<A: Array> TinyVec<A> {
-    ghost use Rattle.tinyvec.specs.TinyVecSplice.{splice_replacement, splice_vec, splice_lender, SpliceBegins, SpliceCanStep};
+    ghost use Rattle.tinyvec.specs.TinyVecSplice.{splice_view, splice_len, splice_replacement, splice_vec, splice_lender, SpliceCanStep};
 
     /// Removes the range, yields its items from both ends, and puts those of `replacement` in their place.
     ///
@@ -61,9 +61,9 @@ impl<A: Array> TinyVec<A> {
     ) -> TinyVecSplice<'_, A, Fuse<I::IntoIter>>
         requires not_exhausted { R.has_bounds range }
         requires in_list { IsRangeOf (tiny_items_of A.Slots self.old) (R.start_bound range) (R.end_bound range) }
-        ensures begins { SpliceBegins A.Slots (before (tiny_items_of A.Slots self.old) (R.start_bound range))
+        ensures begins { SpliceBegins (before (tiny_items_of A.Slots self.old) (R.start_bound range))
             (removed (tiny_items_of A.Slots self.old) (R.start_bound range) (R.end_bound range))
-            (after (tiny_items_of A.Slots self.old) (R.end_bound range)) result }
+            (after (tiny_items_of A.Slots self.old) (R.end_bound range)) (splice_view A.Slots result) (splice_len result) }
         ensures replacement { I.into_iter_gives replacement (fuse_source (splice_replacement result)) }
         ensures unasked { fuse_done (splice_replacement result) ≡ false }
         ensures vec { splice_vec result ≡ self.old }
@@ -147,8 +147,11 @@ impl<A: Array> TinyVec<A> {
         ensures items { OnOk result (tiny_items_of A.Slots self.new
             ≡ before (tiny_items_of A.Slots self.old) (R.start_bound range) ++ replacement.now
             ++ after (tiny_items_of A.Slots self.old) (R.end_bound range)) }
-        ensures room { RoomGrows GrowsFor A.Item.is_default A.CAPACITY (tiny_len_of A.Slots self.new)
-            (tiny_view_of A.Slots self.old) (tiny_view_of A.Slots self.new) result }
+        ensures room { OnOk result (MakesRoom (is_inline self.old) A.CAPACITY (tiny_len_of A.Slots self.new)
+            (tiny_view_of A.Slots self.old) (tiny_view_of A.Slots self.new) result) }
+        ensures slot_rule { OnOk result (TinySlotRule A.Item.is_default (tiny_view_of A.Slots self.old)
+            (tiny_view_of A.Slots self.new)) }
+        ensures fits { tiny_len_of A.Slots self.new ≤ tiny_capacity A.CAPACITY self.new }
 
         // If there is room it allocates nothing.
         ensures succeeds { length (before (tiny_items_of A.Slots self.old) (R.start_bound range)) + length replacement.now

@@ -129,7 +129,10 @@ impl<A: Array> TinyVec<A> {
     {
         match self {
             // Equal to the length. The minimum shows LLVM an upper bound, which keeps the two variants apart.
-            TinyVec::Inline(v, _) => v.len().min(slot_count(v)),
+            TinyVec::Inline(v, _) => {
+                knows_slots(v);
+                v.len().min(A::CAPACITY)
+            }
             TinyVec::Heap(v) => v.len(),
         }
     }
@@ -140,9 +143,22 @@ impl<A: Array> TinyVec<A> {
         ensures fits { tiny_len_of A.Slots self.now ≤ result }
     {
         match self {
-            TinyVec::Inline(v, _) => slot_count(v),
+            TinyVec::Inline(v, _) => {
+                knows_slots(v);
+                A::CAPACITY
+            }
             TinyVec::Heap(v) => v.capacity(),
         }
+    }
+
+    // Tells a proof that the list fits, and that an inline one has the array's slots.
+    #[inline(always)]
+    pub(crate) fn knows_room(&self)
+        ensures fits { tiny_len_of A.Slots self.now ≤ tiny_capacity A.CAPACITY self.now }
+        ensures slot_count { IsInline self.now → tiny_len_of A.Slots self.now + length
+            (tiny_spare_of A.Slots self.now) ≡ A.CAPACITY }
+    {
+        let _len = self.len();
     }
 
     /// How many more items fit.
@@ -285,12 +301,11 @@ fn push_defaults<T: Default>(heap: &mut Vec<T>, n: usize)
     }
 }
 
-// The number of slots, which is the array's.
+// Tells a proof that there are as many slots as the array has.
 #[inline(always)]
-pub(crate) fn slot_count<A: Array>(vec: &ArrayVec<A>) -> usize
-    ensures value { result ≡ A.CAPACITY }
+pub(crate) fn knows_slots<A: Array>(vec: &ArrayVec<A>)
     ensures slots { length (slots_of A.Slots vec.now) ≡ A.CAPACITY }
     ensures parts { len_of A.Slots vec.now + length (spare_of A.Slots vec.now) ≡ A.CAPACITY }
 {
-    vec.capacity()
+    let _slots = vec.capacity();
 }

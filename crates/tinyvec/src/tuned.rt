@@ -1,4 +1,4 @@
-//! What is tuned for LLVM: clones and copies appended to a `Vec` that has room for them.
+//! Clones and copies appended to a `Vec` that has room for them, tuned as `tuned.rt` of `tinyvec_slots` says.
 //!
 //! Each loop works on a local variable, whose length and pointer LLVM keeps in registers. Through a reference it cannot,
 //! since the items might overlap the vector.
@@ -121,8 +121,6 @@ fn clone_block<T: Clone + Default + Drop, const N: usize>(from: &[T]) -> Result<
     ensures len { IfOk result (λ block. length block ≡ N) }
     ensures refused { OnErr result ((j : ℕ) × RefusedAt T.is_infallible from.now j) }
 {
-    // Tells the proof that the items fit in memory.
-    let _bytes = from.len() * mem::size_of::<T>();
     let mut block: [T; N] = Default::default();
     clone_each(&mut block, &from[..N])?;
     Ok(block)
@@ -238,8 +236,6 @@ fn push_block<T: Copy, const N: usize>(vec: &mut Vec<T>, from: &[T])
     requires room { vec_len vec.old + N ≤ vec_capacity vec.old }
     ensures { HeapBecomes vec.old vec.new (vec.old.items ++ take N from.now) }
 {
-    // Tells the proof that the items fit in memory.
-    let _bytes = from.len() * mem::size_of::<T>();
     let Some(first) = from.first_chunk::<N>() else {
         unreachable!();
     };

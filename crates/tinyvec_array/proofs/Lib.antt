@@ -7,3 +7,5 @@ pub mod Named
 pub mod SpliceLemmas
 pub mod IntoIterLemmas
 mod ResizingLemmas
+mod Walks
+mod PartWalks

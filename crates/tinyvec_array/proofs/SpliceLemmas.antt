@@ -3,13 +3,13 @@ use Rattle.std.proofs.Common.{◌≡◌, ℕ, ◌+◌, ◌≤◌, ◌↔◌, Lis
 use Rattle.std.proofs.lemmas.Result.{IfErr-weaker}
 use Rattle.std.specs.declared.iter.Fuse.{Fuse}
 use Rattle.std.specs.Iterator.Adapters.{fuse_done, fuse_source}
-use Rattle.tinyvec_slots.specs.Ends.{End, TakesFromEnds, RunsWord}
+use Rattle.tinyvec_slots.specs.Ends.{End, RunsWord}
 use Rattle.tinyvec_slots.specs.AnySplice.{SpliceView, FinishesWith}
 use Rattle.tinyvec_slots.specs.Fused.{HasTwoEnds, fused_rest}
 use Rattle.tinyvec_slots.specs.SplicedByWord.{SplicedByWord}
 use Rattle.tinyvec_slots.specs.declared.no_room.SpliceRest.{SpliceRest}
 use Rattle.tinyvec_slots.proofs.AnySpliceLemmas as all
-use Rattle.tinyvec_array.specs.Splice.{splice_view, splice_left, SpliceKeeps, SpliceSteps, SpliceStepsBack}
+use Rattle.tinyvec_array.specs.Splice.{splice_view, SpliceKeeps, SpliceSteps, SpliceStepsBack}
 use Rattle.tinyvec_array.specs.declared.storage.Slots as Storage
 use Rattle.tinyvec_array.specs.declared.splice.ArrayVecSplice.{ArrayVecSplice}
 
@@ -31,12 +31,6 @@ module _ {S I T L : Type 0} (g : Storage.Ghosts S T L) where
       → (s : ArrayVecSplice S (Fuse I) T L) (word : List End) (answers : List (Option T)) (t : ArrayVecSplice S (Fuse I) T L)
       → RunsWord (SpliceSteps g gives) (SpliceStepsBack g gives_back) s word answers t → SplicedByWord (splice_view g) (SpliceKeeps g) rest s word t
   RunsWord-splices rest = all.RunsWord-splices (splice_view g) (SpliceKeeps g) rest keeps_same keeps_then
-
-  -- and the removed items that they gave
-  pub RunsWord-takes_removed : (gives gives_back : Fuse I → Option T → Fuse I → Type 0)
-      → (s : ArrayVecSplice S (Fuse I) T L) (word : List End) (answers : List (Option T)) (t : ArrayVecSplice S (Fuse I) T L)
-      → RunsWord (SpliceSteps g gives) (SpliceStepsBack g gives_back) s word answers t → TakesFromEnds (splice_left g s) word answers (splice_left g t)
-  RunsWord-takes_removed = all.RunsWord-takes_removed (splice_view g) (SpliceKeeps g)
 
 -- what `finish` puts between these two, if its replacement has not ended and `rest` shows what its source still yields
 module _ {I T : Type 0} (rest : I → List T) (room : ℕ) (s : SpliceView (Fuse I) T) (before after : List T) (result : Result Unit (SpliceRest T (Fuse I))) (list : List T) where

@@ -1,10 +1,11 @@
 -- What a contract sees of the drain of a vector over slots.
-use Rattle.std.specs.Prelude.{◌≡◌, ℕ, ◌-◌, ◌≤◌, List, ◌++◌, length, drop, slice_range, Option}
+use Rattle.std.specs.Prelude.{◌≡◌, ℕ, ◌-◌, ◌≤◌, List, [], ◌++◌, length, drop, slice_range, Option, Result, IsOk, IfOk, OnOk, OnErr, Vec, vec_items, vec_capacity}
+use Rattle.std.specs.Global.{Global}
 use Rattle.std.specs.Borrow.{GName, MutBor}
 use Rattle.std.specs.Iterator.Runs.{YieldsInOrder, YieldsInReverse}
 use Rattle.tinyvec_slots.specs.Slots.{AreDefaults}
 use Rattle.tinyvec_slots.specs.AnyDrain.{Steps, StepsBack, TakesAnyWord}
-use Rattle.tinyvec_array.specs.ArrayVec.{items_of, spare_of, name_of}
+use Rattle.tinyvec_array.specs.ArrayVec.{items_of, spare_of, len_of, name_of, Loses}
 use Rattle.tinyvec_array.specs.declared.storage.Slots as Storage
 use Rattle.tinyvec_array.specs.declared.array_vec.ArrayVec.{ArrayVec}
 use Rattle.tinyvec_array.specs.declared.drain.ArrayVecDrain.{ArrayVecDrain}
@@ -83,3 +84,11 @@ module _ {S T L : Type 0} (g : Storage.Ghosts S T L) where
     pub kept : drain_kept d ≡ others
     pub count : drain_count d ≡ length (drain_items d)
     pub spare : drain_spare d ≡ spare_of g v.now
+
+  -- the list of old went into a `Vec` that has room for n items, and for no more, or else nothing changed
+  pub record DrainsToVec {E : Type 0} (D : T → Type 0) (n : ℕ) (old new : ArrayVec S L) (result : Result (Vec T Global) E) : Type 0 where
+    pub moved : IfOk result (λ v. vec_items v ≡ items_of g old)
+    pub exact : IfOk result (λ v. vec_capacity v ≡ n)
+    pub emptied : OnOk result (Loses g D (len_of g old) old new [])
+    pub refused : OnErr result (new ≡ old)
+    pub succeeds_empty : n ≡ 0 → IsOk result

@@ -12,6 +12,7 @@ pub use Rattle.tinyvec_slots.specs.AnySplice
 pub use Rattle.tinyvec_slots.specs.SplicedByWord
 pub use Rattle.tinyvec_slots.specs.Replacing
 pub mod SliceParts
+pub mod LentParts
 pub mod ArrayVec
 pub mod SliceVec
 pub mod By

@@ -61,14 +61,6 @@ module _ {S T L : Type 0} (g : Storage.Ghosts S T L) where
   abbrev pub SpliceCanNext : {I : Type 0} → (I → Type 0) → ArrayVecSplice S (Fuse I) T L → Type 0
   SpliceCanNext can s = SpliceCanStep s × FusedCan can s.replacement
 
-  -- s has placed no item yet: these items precede, are left in, and follow the range
-  pub record SpliceBegins {I : Type 0} (ahead inside behind : List T) (s : ArrayVecSplice S I T L) : Type 0 where
-    pub front : splice_front s ≡ ahead
-    pub left : splice_left s ≡ inside
-    pub len : splice_len s ≡ length (splice_left s)
-    pub back : splice_back s ≡ behind
-    pub touches : splice_touches s ≡ 0
-
   -- `finish` of s returned the result, and left v. The last two are of a replacement that shows its items, and of one whose items
   -- are known, as those of a `Vec`, a range or a slice.
   pub record SpliceEnds {I : Type 0} (D : T → Type 0) (iter : Iterator.Ghosts I T) (s : ArrayVecSplice S (Fuse I) T L) (result : Result Unit (SpliceRest T (Fuse I))) (v : ArrayVec S L) : Type 0 where

@@ -12,16 +12,16 @@ mod array;
 mod edits;
 mod extending;
 mod filters;
-mod in_slots;
 mod lent;
 mod traits;
 
 use crate::Slots;
+use crate::parts::part_of;
 use crate::places::bounded_index;
 use std::alloc::AllocError;
 use std::convert::AsSlice;
 use std::{mem, slice};
-use tinyvec_slots::{fill_default, move_to_end_below, part_of};
+use tinyvec_slots::{fill_default, move_to_end_below};
 
 /// A list in slots: in an array, or in a slice that is lent for writing. The slots after the list are its spare slots: they
 /// hold values too, and vacated ones hold defaults. When a vector in a lent slice is dropped, the owner of the slots sees
@@ -143,7 +143,7 @@ impl<S: Slots> ArrayVec<S> {
         ensures value { result.now ≡ items_of S.Slots self.old }
     {
         let len = self.len();
-        part_of(self, 0, len)
+        part_of(&mut self.slots, 0, len)
     }
 
     /// The spare slots, for writing.
@@ -153,7 +153,7 @@ impl<S: Slots> ArrayVec<S> {
     {
         let len = self.len();
         let all = self.capacity();
-        part_of(self, len, all)
+        part_of(&mut self.slots, len, all)
     }
 
     /// The slots, spare slots too, for writing.

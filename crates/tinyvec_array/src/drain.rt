@@ -1,5 +1,5 @@
 //! What moves a range of items out of a vector.
-ghost use Rattle.std.specs.Prelude.{◌≡◌, ◌++◌, length, Some, IfSome, ◌≤◌, ◌+◌, ◌^◌, [], IsOk, IsErr, IfOk, OnOk, OnErr, vec_len, vec_items, vec_capacity};
+ghost use Rattle.std.specs.Prelude.{◌≡◌, ◌++◌, length, Some, IfSome, ◌≤◌, ◌+◌, ◌^◌, IsErr, vec_len, vec_capacity};
 ghost use Rattle.std.specs.Fmt.{debug_list, debug_variant};
 ghost use Rattle.std.specs.Iterator.{at_most, UpTo};
 ghost use Rattle.std.specs.Iterator.SizeHint.{IsWithinCount};
@@ -169,6 +169,8 @@ impl<S: Slots> ArrayVec<S>
 where
     S::Item: Default,
 {
+    ghost use Rattle.tinyvec_array.specs.Drain.{DrainsToVec};
+
     /// Removes the range, and calls `f` with each of its items, in order. A caller that names `SliceVec` knows what is
     /// left.
     ///
@@ -217,22 +219,14 @@ where
 
     /// Moves the list into a `Vec` that has room for it, and for no more.
     pub fn drain_to_vec(&mut self, alloc: Global) -> Result<Vec<S::Item>, AllocError>
-        ensures moved { IfOk result (λ v. vec_items v ≡ items_of S.Slots self.old) }
-        ensures exact { IfOk result (λ v. vec_capacity v ≡ len_of S.Slots self.old) }
-        ensures emptied { OnOk result (Loses S.Slots S.Item.is_default (len_of S.Slots self.old) self.old self.new []) }
-        ensures refused { OnErr result (self.new ≡ self.old) }
-        ensures succeeds_empty { len_of S.Slots self.old ≡ 0 → IsOk result }
+        ensures { DrainsToVec S.Slots S.Item.is_default (len_of S.Slots self.old) self.old self.new result }
     {
         self.drain_to_vec_and_reserve(alloc, 0)
     }
 
     /// The same as `drain_to_vec`.
     pub fn try_drain_to_vec(&mut self, alloc: Global) -> Result<Vec<S::Item>, AllocError>
-        ensures moved { IfOk result (λ v. vec_items v ≡ items_of S.Slots self.old) }
-        ensures exact { IfOk result (λ v. vec_capacity v ≡ len_of S.Slots self.old) }
-        ensures emptied { OnOk result (Loses S.Slots S.Item.is_default (len_of S.Slots self.old) self.old self.new []) }
-        ensures refused { OnErr result (self.new ≡ self.old) }
-        ensures succeeds_empty { len_of S.Slots self.old ≡ 0 → IsOk result }
+        ensures { DrainsToVec S.Slots S.Item.is_default (len_of S.Slots self.old) self.old self.new result }
     {
         self.drain_to_vec(alloc)
     }
@@ -245,12 +239,9 @@ where
         alloc: Global,
         additional: usize,
     ) -> Result<Vec<S::Item>, AllocError>
-        ensures moved { IfOk result (λ v. vec_items v ≡ items_of S.Slots self.old) }
-        ensures exact { IfOk result (λ v. vec_capacity v ≡ len_of S.Slots self.old + additional) }
-        ensures emptied { OnOk result (Loses S.Slots S.Item.is_default (len_of S.Slots self.old) self.old self.new []) }
-        ensures refused { OnErr result (self.new ≡ self.old) }
+        ensures drained { DrainsToVec S.Slots S.Item.is_default (len_of S.Slots self.old + additional)
+            self.old self.new result }
         ensures too_long { 2 ^ 64 ≤ len_of S.Slots self.old + additional → IsErr result }
-        ensures succeeds_empty { len_of S.Slots self.old + additional ≡ 0 → IsOk result }
     {
         let len = self.len();
         if additional > usize::MAX - len {
@@ -268,12 +259,9 @@ where
         alloc: Global,
         additional: usize,
     ) -> Result<Vec<S::Item>, AllocError>
-        ensures moved { IfOk result (λ v. vec_items v ≡ items_of S.Slots self.old) }
-        ensures exact { IfOk result (λ v. vec_capacity v ≡ len_of S.Slots self.old + additional) }
-        ensures emptied { OnOk result (Loses S.Slots S.Item.is_default (len_of S.Slots self.old) self.old self.new []) }
-        ensures refused { OnErr result (self.new ≡ self.old) }
+        ensures drained { DrainsToVec S.Slots S.Item.is_default (len_of S.Slots self.old + additional)
+            self.old self.new result }
         ensures too_long { 2 ^ 64 ≤ len_of S.Slots self.old + additional → IsErr result }
-        ensures succeeds_empty { len_of S.Slots self.old + additional ≡ 0 → IsOk result }
     {
         self.drain_to_vec_and_reserve(alloc, additional)
     }

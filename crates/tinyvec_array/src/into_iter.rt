@@ -1,11 +1,11 @@
 //! The iterator that owns its items.
 ghost use Rattle.std.specs.Prelude.{codes, All};
 
-use crate::places::bounded_index;
+use crate::places::{bounded_index, knows_slots};
 use crate::{Array, ArrayVec};
 use std::alloc::AllocError;
 use std::mem;
-use tinyvec_slots::{InSlots, OwnedItems, OwnsItems};
+use tinyvec_slots::{OwnedItems, OwnsItems};
 
 /// Yields the items of a vector from both ends.
 pub type ArrayVecIterator<A> = OwnedItems<ArrayVec<A>>;
@@ -26,7 +26,7 @@ impl<A: Array> OwnsItems for ArrayVec<A> {
 
     #[inline]
     fn take_at(&mut self, i: usize) -> A::Item {
-        let slots = self.slots_mut();
+        let slots = self.as_mut_slots();
         let at = bounded_index(i, slots.len());
         mem::take(&mut slots[at])
     }
@@ -35,8 +35,7 @@ impl<A: Array> OwnsItems for ArrayVec<A> {
     where
         A::Item: Clone,
     {
-        // Tells the proof that a part of the list fits an array.
-        let _len = self.len();
+        knows_slots(self.as_inner());
         let mut vec = ArrayVec::new();
         vec.extend_from_slice(part)?;
         Ok(vec)

@@ -9,6 +9,7 @@ mod can_splice;
 mod drain;
 mod into_iter;
 mod macros;
+mod parts;
 mod places;
 mod splice;
 mod storage;

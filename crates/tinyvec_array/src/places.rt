@@ -2,7 +2,7 @@
 ghost use Rattle.std.specs.Prelude.{◌≡◌, ◌≤◌, length};
 ghost use Rattle.tinyvec_slots.specs.Ranges.{Within};
 
-use crate::Slots;
+use crate::{Array, Slots};
 use tinyvec_slots::prefers_shifting;
 
 // Returns `i`. Going through `u32` shows LLVM that the address cannot wrap onto the length field, which precedes the slots.
@@ -26,4 +26,12 @@ pub(crate) fn prefers_shifting_in<S: Slots>(slots: &S, start: usize, end: usize)
     let all = slots.all();
     // For a lent slice, whose number of slots is not known, the range alone decides.
     slots.most() <= 128 && prefers_shifting(all) || prefers_shifting(&all[start..end])
+}
+
+// Tells a proof that an array has as many slots as its type says.
+#[inline(always)]
+pub(crate) fn knows_slots<A: Array>(array: &A)
+    ensures { length (A.Slots.slots array.now) ≡ A.CAPACITY }
+{
+    let _slots = array.all();
 }

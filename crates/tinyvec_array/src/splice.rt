@@ -9,7 +9,7 @@ ghost use Rattle.tinyvec_slots.specs.Ranges.{IsRangeOf, before, removed, after};
 ghost use Rattle.tinyvec_slots.specs.Filling.{IntoIterYields, ShowsItems};
 ghost use Rattle.tinyvec_slots.specs.Fused.{FusedCan, fused_rest};
 ghost use Rattle.tinyvec_slots.specs.Replacing.{PutsBetween};
-ghost use Rattle.tinyvec_slots.specs.AnySplice.{FinishTouches};
+ghost use Rattle.tinyvec_slots.specs.AnySplice.{SpliceBegins, FinishTouches};
 
 use crate::{ArrayVec, CapacityError, Slots};
 use std::fmt;
@@ -48,7 +48,7 @@ impl<S: Slots> ArrayVec<S>
 where
     S::Item: Default,
 {
-    ghost use Rattle.tinyvec_array.specs.Splice.{splice_replacement, splice_slots, splice_lender, SpliceBegins, SpliceCanStep};
+    ghost use Rattle.tinyvec_array.specs.Splice.{splice_view, splice_len, splice_replacement, splice_slots, splice_lender, SpliceCanStep};
 
     /// Removes the range, yields its items from both ends, and puts those of `replacement` in their place. On a `SliceVec`
     /// call it in a function that is generic over `Slots`: the borrow checker does not cover a call that names `SliceVec`,
@@ -62,9 +62,9 @@ where
     ) -> ArrayVecSplice<'_, S, Fuse<I::IntoIter>>
         requires not_exhausted { R.has_bounds range }
         requires in_list { IsRangeOf (items_of S.Slots self.old) (R.start_bound range) (R.end_bound range) }
-        ensures begins { SpliceBegins S.Slots (before (items_of S.Slots self.old) (R.start_bound range))
+        ensures begins { SpliceBegins (before (items_of S.Slots self.old) (R.start_bound range))
             (removed (items_of S.Slots self.old) (R.start_bound range) (R.end_bound range))
-            (after (items_of S.Slots self.old) (R.end_bound range)) result }
+            (after (items_of S.Slots self.old) (R.end_bound range)) (splice_view S.Slots result) (splice_len result) }
         ensures replacement { I.into_iter_gives replacement (fuse_source (splice_replacement result)) }
         ensures unasked { fuse_done (splice_replacement result) ≡ false }
         ensures slots { splice_slots result ≡ self.old }

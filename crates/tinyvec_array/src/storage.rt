@@ -188,8 +188,6 @@ impl<'s, T: Drop> Slots for &'s mut [T] {
 
     #[inline(always)]
     fn most(&self) -> usize {
-        // Tells the proof that the number of slots is a `usize`.
-        let _count = self.all().len();
         usize::MAX
     }
 

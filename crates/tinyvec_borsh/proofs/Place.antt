@@ -5,7 +5,7 @@ use Rattle.std.proofs.lemmas.List.Elements.{All-drop}
 use Rattle.tinyvec_slots.specs.Slots.{AreDefaults}
 use Rattle.std.proofs.lemmas.Bool.{both_ways, cases_lt}
 use Rattle.tinyvec.specs.View.{Place, in_array, on_heap, lies_inline, capacity_in, TinyView, view_len, view_inline, ViewInline, view_capacity, PlaceRule, TinySlotRule}
-use Rattle.tinyvec.specs.Room.{KeepsRoom, GrowsFor}
+use Rattle.tinyvec.specs.Room.{KeepsRoom, GrowsTo}
 
 either : (b : Bool) (x y most : ℕ) → x ≤ most → y ≤ most → (if b then x else y) ≤ most
 either true x y most p q = p
@@ -49,7 +49,7 @@ module _ {T : Type 0} where
       subst (AreDefaults D (slots - view_len new)) (sym is) (omega (arith, long, were.0, longer), All-drop D n old.spare were.1)
 
   -- a list that grows to n items, of which there will be at most `count`, has room for at most twice as many, if not for more before
-  pub room-grown : (slots n count : ℕ) (old new : TinyView T) → KeepsRoom slots n old new → GrowsFor slots n old new → n ≤ count
+  pub room-grown : (slots n count : ℕ) (old new : TinyView T) → KeepsRoom slots n old new → GrowsTo (view_inline old) slots n old new → n ≤ count
       → view_capacity slots new ≤ max (view_capacity slots old) (2 * count)
   room-grown slots n count old new kept grown few = elim (cases_lt (view_capacity slots old) n) [
     | inl less ↦ (let most = either (view_inline old) n (max (2 * view_capacity slots old) n) (2 * count) (omega arith) (omega arith) in omega (arith, grown less, most))

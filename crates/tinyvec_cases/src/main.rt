@@ -10,7 +10,7 @@ mod text_call;
 
 use std::io;
 use std::io::{BufRead, BufReader};
-use tinyvec_rows::{Said, Words};
+use tinyvec_rows::{Said, Words, Wrong};
 use tinyvec_vector_cases::starts;
 use tinyvec_vector_cases::vector::Calls;
 
@@ -32,12 +32,17 @@ fn answer(line: &str, out: &mut String) -> Said {
     let (start, text) = line.split_once('\t').unwrap_or((line, ""));
     let mut words = Words::new(*out.allocator(), start);
     let kind = words.word()?;
+    let (name, held) = kind.split_once('<').unwrap_or((kind, ""));
     let calls = &mut Calls { text, out };
-    match kind {
+    // An arm takes one line, so that scripts/rows.py can leave some out.
+    match name {
         "streams" => streams::answer(&mut words, calls),
         "script" => streams::answer_lines(&mut words, calls),
-        _ if kind.starts_with("InlineText<") => text::answer(kind, &mut words, calls),
-        _ if kind.starts_with("Run<") => runs::answer(kind, &mut words, calls),
-        _ => starts::answer(kind, &mut words, calls),
+        "InlineText" => text::answer(kind, &mut words, calls),
+        "Run" => runs::answer(kind, &mut words, calls),
+        "ArrayVec" => starts::answer_array(held, &mut words, calls),
+        "TinyVec" => starts::answer_tiny(held, &mut words, calls),
+        "SliceVec" => starts::answer_slice(held, &mut words, calls),
+        _ => Err(Wrong::Vector),
     }
 }

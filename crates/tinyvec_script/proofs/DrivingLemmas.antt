@@ -8,12 +8,12 @@ use Rattle.std.specs.declared.vec.IntoIter.{IntoIter}
 use Rattle.std.specs.declared.ops.Bound.TheVariants.{Included, Excluded}
 use Rattle.tinyvec_slots.specs.Slots.{Slots, spare, items_len, SlotRule}
 use Rattle.tinyvec_slots.specs.Ranges.{before, removed, after}
-use Rattle.tinyvec_slots.specs.Ends.{RunsWord, GivenByWord, TakesFromEnds, given_items}
+use Rattle.tinyvec_slots.specs.Ends.{front, back, RunsWord, TakesFromEnds, given_items, taken}
 use Rattle.tinyvec_slots.specs.Fused.{HasTwoEnds}
 use Rattle.tinyvec_slots.specs.AnySplice.{SpliceView, FinishesWith}
 use Rattle.tinyvec_slots.specs.SplicedByWord.{IsSpliceRefused, SplicedByWord}
 use Rattle.tinyvec_slots.specs.declared.no_room.SpliceRest.{SpliceRest}
-use Rattle.tinyvec_slots.proofs.EndsLemmas.{RunsWord-front, RunsWord-back, items_given, given_is_taken}
+use Rattle.tinyvec_slots.proofs.EndsLemmas.{RunsWord-then, taken_within}
 use Rattle.tinyvec_slots.proofs.Lists.{length-slice_range}
 use Rattle.tinyvec_slots.proofs.AnySpliceLemmas.{spliced_len, spliced_all, spliced_refused}
 use Rattle.tinyvec.specs.View.{TinyView, SameFrame}
@@ -30,8 +30,10 @@ module _ {S T : Type 0} (gives gives_back : S → Option T → S → Type 0) whe
   pub RunsWord-letter : (e : End) (s : S) (word : _) (answers : List (Option T)) (mid : S) (r : Option T) (to : S)
       → RunsWord gives gives_back s word answers mid → TakesAt gives gives_back e mid r to
       → RunsWord gives gives_back s (word ++ letter e ∷ []) (answers ++ r ∷ []) to
-  RunsWord-letter Front = RunsWord-front gives gives_back
-  RunsWord-letter Back = RunsWord-back gives gives_back
+  RunsWord-letter Front s word answers mid r to asked step =
+      RunsWord-then gives gives_back s word answers mid (front ∷ []) (r ∷ []) to asked (to, step, refl)
+  RunsWord-letter Back s word answers mid r to asked step =
+      RunsWord-then gives gives_back s word answers mid (back ∷ []) (r ∷ []) to asked (to, step, refl)
 
 -- the word with one letter more
 pub word_of-more : (word : List End) (i : ℕ) (d : End) → i < length word → word_of (take (i + 1) word) ≡ word_of (take i word) ++ letter (get_or word i d) ∷ []
@@ -56,7 +58,7 @@ module _ {X Z : Type 0} where
 -- a word is given no more items than there are
 pub given_within : {T : Type 0} (xs : List T) (word : _) (answers : List (Option T)) (left : List T) → TakesFromEnds xs word answers left
     → length (given_items answers) ≤ length xs
-given_within xs word answers left takes = let count = (items_given xs word answers left takes).count in omega (arith, count)
+given_within xs word answers left takes = rw takes.answered (taken_within word xs)
 
 -- the slot rule reads no more of the old vector than its spare slots and how many items it held
 pub slots_framed : {T : Type 0} (D : T → Type 0) (old mid new : Slots T) → items_len mid ≡ items_len old → spare mid ≡ spare old
@@ -81,9 +83,8 @@ module _ {S I T : Type 0} (view : S → SpliceView I T) (keeps : S → S → Typ
     (capacity : ℕ) (old new : List T) (start end : ℕ) (replacement : List T) (in_order : start ≤ end) (in_list : end ≤ length old)
     (ahead : (view s).front ≡ before old (Included start)) (left : (view s).left ≡ removed old (Included start) (Excluded end))
     (behind : (view s).back ≡ after old (Excluded end)) (whole : rest (view s).replacement ≡ replacement) where
-  yields_are : GivenByWord (removed old (Included start) (Excluded end)) (word_of word) (given_items answers)
-  yields_are =
-      subst (λ xs. GivenByWord xs (word_of word) (given_items answers)) left (items_given (view s).left (word_of word) answers (view t).left takes)
+  yields_are : given_items answers ≡ taken (word_of word) (removed old (Included start) (Excluded end))
+  yields_are = ap given_items takes.answered ∙ ap (taken (word_of word)) left
 
   sum : length (view t).front + length (rest (view t).replacement) + length (view t).back ≡ start + length replacement + (length old - end)
   sum =
@@ -101,28 +102,28 @@ module _ {S I T : Type 0} (view : S → SpliceView I T) (keeps : S → S → Typ
         placed = λ h. (refl, is);
         refused = λ more. absurd (omega (arith, fits, sum, more));
       }
-  splices_finished (Err back) f =
+  splices_finished (Err unplaced) f =
       let no : (length (view t).front + length (rest (view t).replacement) + length (view t).back ≤ capacity) → ⊥ = λ le. let e : false ≡ true = f.succeeds.1 le in cc in
       let h = f.refused in
       let n = length-slice_range old start end in_order in_list in
-      let is = spliced_refused view keeps rest s t (word_of word) new _ _ _ replacement along ahead left behind whole h.0 back.item (rest back.rest) h.1 h.2 in record {
+      let is = spliced_refused view keeps rest s t (word_of word) new _ _ _ replacement along ahead left behind whole h.0 unplaced.item (rest unplaced.rest) h.1 h.2 in record {
         yields_are = yields_are;
         placed = λ le. absurd (no (omega (arith, le, sum)));
-        refused = λ over. (subst (λ k. IsSpliceRefused (word_of word) k (before old (Included start)) (after old (Excluded end)) replacement new (back.item ∷ rest back.rest)) n is, h.3);
+        refused = λ over. (subst (λ k. IsSpliceRefused (word_of word) k (before old (Included start)) (after old (Excluded end)) replacement new (unplaced.item ∷ rest unplaced.rest)) n is, h.3);
       }
 
   -- it was refused where the list does not fit
   pub refused_over : {P : Type 0} (result : Result Unit (SpliceRest T I)) → FinishesWith rest capacity (view t) result new → OnErr result P
       → capacity < start + length replacement + (length old - end) → P
   refused_over (Ok u) f p over = let fits = f.succeeds.0 refl in absurd (omega (arith, fits, sum, over))
-  refused_over (Err back) f p over = p
+  refused_over (Err unplaced) f p over = p
 
   -- what is handed back is no longer than the replacement
   pub rest_within : (result : Result Unit (SpliceRest T I)) → FinishesWith rest capacity (view t) result new → length (refused_items rest result) ≤ length replacement
   rest_within (Ok u) f = omega arith
-  rest_within (Err back) f =
+  rest_within (Err unplaced) f =
       let h = f.refused in
-      let split = ap length h.1 ∙ length-append h.0 (back.item ∷ rest back.rest) in
+      let split = ap length h.1 ∙ length-append h.0 (unplaced.item ∷ rest unplaced.rest) in
       let all = sym (ap length whole) ∙ ap length along.replacement ∙ length-append along.in_front (rest (view t).replacement ++ along.at_back) in
       let some = length-append (rest (view t).replacement) along.at_back in
       omega (arith, split, all, some)
@@ -162,14 +163,13 @@ module _ {T : Type 0} (capacity : ℕ) (old new : List T) (start end : ℕ) (wor
       let run = slice_range replacement at to in
       let cut = A ++ take at replacement ++ drop to replacement ++ E in
       let whole = A ++ replacement ++ E in
-      let given = given_is_taken (removed xs (Included start) (Excluded end)) (word_of word) yields h.yields_are in
       elim (cases_lt capacity sum) [
         | inl over ↦
             (let r = (h.refused over).0 in
             let is = cut_at r.at new (h.refused over).1 r.below r.list_is in
             let yes = sym (lt-ltb capacity sum over) in
             record {
-              yields_are = given;
+              yields_are = h.yields_are;
               rest_is = r.rest_is ∙ ap (λ n. slice_range replacement n to) is ∙ ap (λ b. if b then run else []) yes;
               list_is = r.list_is ∙ ap (λ n. A ++ take n replacement ++ drop to replacement ++ E) is ∙ ap (λ b. if b then cut else whole) yes;
             })
@@ -177,7 +177,7 @@ module _ {T : Type 0} (capacity : ℕ) (old new : List T) (start end : ℕ) (wor
             (let placed = h.placed fits in
             let no = sym (le-ltb capacity sum fits) in
             record {
-              yields_are = given;
+              yields_are = h.yields_are;
               rest_is = placed.0 ∙ ap (λ b. if b then run else []) no;
               list_is = placed.1 ∙ ap (λ b. if b then cut else whole) no;
             })

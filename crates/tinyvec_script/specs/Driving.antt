@@ -3,7 +3,7 @@ use Rattle.std.specs.Prelude.{◌≡◌, ℕ, ◌+◌, ◌-◌, ◌<◌, ◌≤�
 use Rattle.std.specs.declared.ops.Bound.TheVariants.{Included, Excluded}
 use Rattle.tinyvec_slots.specs.Slots.{Slots, items, SlotRule}
 use Rattle.tinyvec_slots.specs.Ranges.{IsRangeOf, before, removed, after}
-use Rattle.tinyvec_slots.specs.Ends.{front, back, RunsWord, GivenByWord, taken}
+use Rattle.tinyvec_slots.specs.Ends.{front, back, RunsWord, taken}
 use Rattle.tinyvec_slots.specs.Ends as ends
 use Rattle.tinyvec_slots.specs.SplicedByWord.{IsSpliceRefused, placed_back}
 use Rattle.tinyvec_slots.specs.declared.no_room.SpliceRest.{SpliceRest}
@@ -43,7 +43,7 @@ refused_items rest (Err refused) = refused.item ∷ rest refused.rest
 -- replacement fits, the list is full, and rest is the one run that was not placed.
 pub record ListSplices {T : Type 0} (capacity : ℕ) (old : List T) (start end : ℕ) (word : List End)
     (replacement yields rest new : List T) : Type 0 where
-  pub yields_are : GivenByWord (removed old (Included start) (Excluded end)) (word_of word) yields
+  pub yields_are : yields ≡ taken (word_of word) (removed old (Included start) (Excluded end))
   pub placed : start + length replacement + (length old - end) ≤ capacity
       → (rest ≡ []) × (new ≡ before old (Included start) ++ replacement ++ after old (Excluded end))
   pub refused : capacity < start + length replacement + (length old - end)

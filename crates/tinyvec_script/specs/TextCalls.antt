@@ -1,9 +1,9 @@
 -- The text of a script: how its calls are spelled, what they may be answered, and what they then leave.
-use Rattle.std.specs.Prelude.{◌≡◌, ℕ, ℤ, ◌+◌, ◌<◌, ◌≤◌, ◌^◌, List, ◌++◌, length, take, codes, chars, IsUtf8, Ok}
+use Rattle.std.specs.Prelude.{◌≡◌, ℕ, ℤ, ◌+◌, ◌<◌, ◌≤◌, ◌^◌, List, ◌++◌, length, take, codes, chars, IsUtf8}
 use Rattle.std.specs.Fmt.{decimal}
-use Rattle.std.specs.declared.alloc.AllocError.{AllocError}
 use Rattle.tinyvec.specs.View.{lies_inline, capacity_in}
-use Rattle.tinyvec_text.specs.InlineText.{Text, text_chars, text_len, TextMakesRoom, TextStaysInPlace, IsBoundary}
+use Rattle.tinyvec_text.specs.InlineText.{Text, text_chars, text_len, text_view, TextStaysInPlace, IsBoundary}
+use Rattle.tinyvec_script.specs.TinyCalls.{NeedsRoom}
 use Rattle.tinyvec_script.specs.declared.call.Answer.{Answer}
 use Rattle.tinyvec_script.specs.declared.call.Answer.TheVariants as answers
 use Rattle.tinyvec_script.specs.declared.text_command.TextCall.{TextCall as Said}
@@ -39,7 +39,7 @@ pub record IsTextCommand (line : List ℕ) (call : TextCall) : Type 0 where
 pub record Added (slots : ℕ) (old : Text) (text : List ℕ) (new : Text) : Type 0 where
   pub chars_are : text_chars new ≡ text_chars old ++ chars text
   pub bytes_are : new.bytes ≡ old.bytes ++ text
-  pub room : TextMakesRoom {X = Unit {0}} {E = AllocError} (lies_inline old.place) slots (text_len old + length text) old new (Ok tt)
+  pub room : NeedsRoom (lies_inline old.place) slots (text_len old + length text) (text_view old) (text_view new)
 
 -- the first characters were kept, whose bytes are `index`, in their place
 pub record CutAt (slots : ℕ) (old : Text) (index : ℕ) (new : Text) : Type 0 where

@@ -1,23 +1,21 @@
 -- What a call of a `TinyVec` may be answered, and what it then leaves.
-use Rattle.std.specs.Prelude.{◌≡◌, ℕ, ◌+◌, ◌-◌, ◌<◌, ◌≤◌, ◌↔◌, [], ◌∷◌, ◌++◌, take, insert, remove, slice_get, Some, false}
+use Rattle.std.specs.Prelude.{◌≡◌, ℕ, ◌+◌, ◌-◌, ◌<◌, ◌≤◌, ◌↔◌, [], ◌∷◌, ◌++◌, take, insert, remove, slice_get, Some, Bool, false, Ok}
 use Rattle.std.specs.List.{swap_remove}
 use Rattle.tinyvec_slots.specs.Slots.{AreDefaults}
-use Rattle.tinyvec.specs.View.{TinyView, lies_inline, view_len, view_capacity, ViewInline, PlaceRule, TinySlotRule, Becomes}
-use Rattle.tinyvec.specs.Room.{KeepsRoom, Doubles, GrowsFor}
+use Rattle.tinyvec.specs.View.{TinyView, lies_inline, view_len, view_inline, view_capacity, ViewInline, Becomes}
+use Rattle.tinyvec.specs.Room.{MakesRoom}
+use Rattle.std.specs.declared.alloc.AllocError.{AllocError}
 use Rattle.tinyvec_script.specs.Driving.{IsRange, ListDrains, TinySplices, SpliceAnswers}
 use Rattle.tinyvec_script.specs.declared.call.Call.{Call}
 use Rattle.tinyvec_script.specs.declared.call.Call.TheVariants.{Push, Pop, Insert, Remove, SwapRemove, Truncate, Drain, Splice, SetLen, Reserve, Heap, Shrink}
 use Rattle.tinyvec_script.specs.declared.call.Answer.{Answer}
 use Rattle.tinyvec_script.specs.declared.call.Answer.TheVariants as answers
 
-module _ {T : Type 0} (D : T → Type 0) (slots : ℕ) where
-  -- a call that needs room for `need` items, and grows by the rule `G` if there is less
-  pub record NeedsRoom (G : ℕ → ℕ → TinyView T → TinyView T → Type 0) (need : ℕ) (old new : TinyView T) : Type 0 where
-    pub place : PlaceRule slots need old new
-    pub slot_rule : TinySlotRule D old new
-    pub same_room : KeepsRoom slots need old new
-    pub grown : G slots need old new
+-- a call that needs room for `need` items had it, or made it
+abbrev pub NeedsRoom : {T : Type 0} → (exact : Bool) → (slots need : ℕ) → TinyView T → TinyView T → Type 0
+NeedsRoom exact slots need old new = MakesRoom {X = Unit {0}} {E = AllocError} exact slots need old new (Ok tt)
 
+module _ {T : Type 0} (D : T → Type 0) (slots : ℕ) where
   -- A move to the heap left the list there, with room for no more. A list on the heap stays as it is.
   pub record Moved (old new : TinyView T) : Type 0 where
     pub items_are : new.items ≡ old.items
@@ -37,12 +35,12 @@ module _ {T : Type 0} (D : T → Type 0) (slots : ℕ) where
   -- of its own: `Memory` only if there is no room for the items, for the move of an inline list of items to the heap, for those
   -- that a drain or a splice takes, or for those that a splice may return.
   abbrev pub TinyAnswers : TinyView T → Call T → Answer T → TinyView T → Type 0
-  TinyAnswers old (Push x) answers.Done new = (new.items ≡ old.items ++ x ∷ []) × NeedsRoom Doubles (view_len old + 1) old new
+  TinyAnswers old (Push x) answers.Done new = (new.items ≡ old.items ++ x ∷ []) × NeedsRoom false slots (view_len old + 1) old new
   TinyAnswers old (Push x) answers.Memory new = (view_len old ≡ view_capacity slots old) × (new ≡ old)
   TinyAnswers old Pop (answers.Some x) new = (old.items ≡ new.items ++ x ∷ []) × Becomes D slots old new (take (view_len old - 1) old.items)
   TinyAnswers old Pop answers.None new = (old.items ≡ []) × (new ≡ old)
   TinyAnswers old (Insert i x) answers.Done new = (i ≤ view_len old) × (new.items ≡ insert old.items i x)
-      × NeedsRoom Doubles (view_len old + 1) old new
+      × NeedsRoom false slots (view_len old + 1) old new
   TinyAnswers old (Insert i x) answers.Range new = (view_len old < i) × (new ≡ old)
   TinyAnswers old (Insert i x) answers.Memory new = (i ≤ view_len old) × (view_len old ≡ view_capacity slots old) × (new ≡ old)
   TinyAnswers old (Remove i) (answers.Some x) new = (slice_get old.items i ≡ Some x)
@@ -61,7 +59,7 @@ module _ {T : Type 0} (D : T → Type 0) (slots : ℕ) where
       × SpliceAnswers (view_capacity slots new) (view_len old) start end replacement.items (new ≡ old)
       (λ yields rest. TinySplices D slots old start end word.items replacement.items yields rest new) answer
   TinyAnswers old (Reserve n) answers.Done new = (new.items ≡ old.items) × (view_len old + n ≤ view_capacity slots new)
-      × NeedsRoom GrowsFor (view_len old + n) old new
+      × NeedsRoom (view_inline old) slots (view_len old + n) old new
   TinyAnswers old (Reserve n) answers.Memory new = (view_capacity slots old < view_len old + n) × (new ≡ old)
   TinyAnswers old Heap answers.Done new = Moved old new
   TinyAnswers old Heap answers.Memory new = ViewInline old × (0 < view_len old) × (new ≡ old)

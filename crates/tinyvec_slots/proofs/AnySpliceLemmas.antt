@@ -1,26 +1,23 @@
 -- A splice along a word of ends: what was placed, and what the list is once it is finished.
-use Rattle.std.proofs.Common.{◌≡◌, ℕ, suc, ◌+◌, ◌-◌, min, List, [], ◌∷◌, ◌++◌, length, take, drop, slice_range, Option, Some, None, refl, sym, ap, subst, ◌∙◌, append-nil, append_assoc, arith, length-append, take_at}
+use Rattle.std.proofs.Common.{◌≡◌, ℕ, suc, ◌+◌, ◌-◌, min, List, [], ◌∷◌, ◌++◌, length, take, drop, slice_range, Option, Some, None, refl, sym, ap, subst, ◌∙◌, append-nil, append_assoc, arith, rules, length-append, take_at}
 use Rattle.std.proofs.lemmas.List.{drop_at, length_push}
 use Rattle.std.specs.Option.{option_to_list}
 use Rattle.std.specs.Iterator.{YieldsFirst, YieldsLast}
-use Rattle.tinyvec_slots.specs.Ends.{End, front, back, fronts, backs, TakesFromEnds, RunsWord}
+use Rattle.tinyvec_slots.specs.Ends.{End, front, back, TakesFromEnds, RunsWord}
 use Rattle.tinyvec_slots.proofs.EndsLemmas.{RunsWord-takes}
 use Rattle.tinyvec_slots.specs.Fused.{HasTwoEnds}
 use Rattle.tinyvec_slots.specs.AnySplice.{SpliceView, Splices, SplicesBack}
-use Rattle.tinyvec_slots.specs.SplicedByWord.{placed_front, placed_back, IsSpliceRefused, SplicedByWord}
+use Rattle.tinyvec_slots.specs.SplicedByWord.{fronts, backs, placed_front, placed_back, IsSpliceRefused, SplicedByWord}
 
--- how many items a word places, with one letter more in front of it
-none_in_front : (word : List End) (n m : ℕ) → min n m ≡ 0 → placed_front word n m ≡ 0
-none_in_front word n m none = let count : min (length word) (min n m) ≡ 0 = omega arith in ap (λ k. fronts (take k word)) count
+-- the letters that place an item, where n are to be taken and m to be placed
+abbrev placing : List End → ℕ → ℕ → List End
+placing word n m = take (min n m) word
 
-none_at_back : (word : List End) (n m : ℕ) → min n m ≡ 0 → placed_back word n m ≡ 0
-none_at_back word n m none = let count : min (length word) (min n m) ≡ 0 = omega arith in ap (λ k. backs (take k word)) count
+placing-none : (word : List End) (n m : ℕ) → min n m ≡ 0 → placing word n m ≡ []
+placing-none word n m none = ap (λ k. take k word) none
 
-no_letters : (n : ℕ) → min (length {A = End} []) n ≡ 0
-no_letters n = omega arith
-
-one_more : (e : End) (word : List End) (n m : ℕ) → take (min (length (e ∷ word)) (min (suc n) (suc m))) (e ∷ word) ≡ e ∷ take (min (length word) (min n m)) word
-one_more e word n m = let count : min (length (e ∷ word)) (min (suc n) (suc m)) ≡ suc (min (length word) (min n m)) = omega arith in ap (λ k. take k (e ∷ word)) count
+placing-more : (e : End) (word : List End) (n m k l : ℕ) → n ≡ suc k → m ≡ suc l → placing (e ∷ word) n m ≡ e ∷ placing word k l
+placing-more e word n m k l one other = let count : min n m ≡ suc (min k l) = omega arith in ap (λ i. take i (e ∷ word)) count
 
 module _ {S I T : Type 0} (view : S → SpliceView I T) (keeps : S → S → Type 0) (rest : I → List T)
     (same : (s : S) → keeps s s) (then : (s t u : S) → keeps s t → keeps t u → keeps s u) where
@@ -32,32 +29,43 @@ module _ {S I T : Type 0} (view : S → SpliceView I T) (keeps : S → S → Typ
 
   -- no letter places nothing
   spliced_nil : (s : S) → SplicedByWord view keeps rest s [] s
-  spliced_nil s = record {
-    in_front = [];
-    at_back = [];
-    front = sym (append-nil (view s).front);
-    back = refl;
-    replacement = sym (append-nil (rest (view s).replacement));
-    front_count = sym (ap (λ k. fronts (take k [])) (no_letters (min (left_count s) (rest_count s))));
-    back_count = sym (ap (λ k. backs (take k [])) (no_letters (min (left_count s) (rest_count s))));
-    touches = omega arith;
-    kept = same s;
-  }
+  spliced_nil s =
+      let none : placing [] (left_count s) (rest_count s) ≡ [] = search rules in record {
+        in_front = [];
+        at_back = [];
+        front = sym (append-nil (view s).front);
+        back = refl;
+        replacement = sym (append-nil (rest (view s).replacement));
+        front_count = sym (ap fronts none);
+        back_count = sym (ap backs none);
+        touches = omega arith;
+        kept = same s;
+      }
 
-  -- nor does a letter where nothing is left
-  spliced_none : (e : End) (s : S) (word : List End) (t : S) → (view s).left ≡ [] → SplicedByWord view keeps rest s word t → SplicedByWord view keeps rest s (e ∷ word) t
-  spliced_none e s word t none h =
-      let gone : min (left_count s) (rest_count s) ≡ 0 = let zero = ap length none in omega arith in record {
+  -- nor does a letter after which the borders are where they were, as nothing is left to take or to place
+  spliced_same : (e : End) (s mid t : S) (word : List End) → min (left_count s) (rest_count s) ≡ 0 → min (left_count mid) (rest_count mid) ≡ 0
+      → (view mid).front ≡ (view s).front → (view mid).back ≡ (view s).back → rest (view s).replacement ≡ rest (view mid).replacement
+      → (view mid).touches + left_count mid ≡ (view s).touches + left_count s → keeps s mid
+      → SplicedByWord view keeps rest mid word t → SplicedByWord view keeps rest s (e ∷ word) t
+  spliced_same e s mid t word none none_mid ahead behind unplaced touches kept h =
+      let counts : placing word (left_count mid) (rest_count mid) ≡ placing (e ∷ word) (left_count s) (rest_count s) =
+      placing-none word _ _ none_mid ∙ sym (placing-none (e ∷ word) _ _ none) in record {
         in_front = h.in_front;
         at_back = h.at_back;
-        front = h.front;
-        back = h.back;
-        replacement = h.replacement;
-        front_count = h.front_count ∙ none_in_front word _ _ gone ∙ sym (none_in_front (e ∷ word) _ _ gone);
-        back_count = h.back_count ∙ none_at_back word _ _ gone ∙ sym (none_at_back (e ∷ word) _ _ gone);
-        touches = h.touches;
-        kept = h.kept;
+        front = h.front ∙ ap (λ l. l ++ h.in_front) ahead;
+        back = h.back ∙ ap (λ l. h.at_back ++ l) behind;
+        replacement = unplaced ∙ h.replacement;
+        front_count = h.front_count ∙ ap fronts counts;
+        back_count = h.back_count ∙ ap backs counts;
+        touches = h.touches ∙ ap (λ n. n + (length h.in_front + length h.at_back)) touches;
+        kept = then s mid t kept h.kept;
       }
+
+  -- a letter where nothing is left
+  spliced_none : (e : End) (s : S) (word : List End) (t : S) → (view s).left ≡ [] → SplicedByWord view keeps rest s word t → SplicedByWord view keeps rest s (e ∷ word) t
+  spliced_none e s word t none h =
+      let gone : min (left_count s) (rest_count s) ≡ 0 = let zero = ap length none in omega arith in
+      spliced_same e s s t word gone gone refl refl refl refl (same s) h
 
   -- the letter `front`, for which the replacement gave o
   spliced_front : (s mid t : S) (word : List End) (x : T) (o : Option T) → (view s).left ≡ x ∷ (view mid).left
@@ -67,33 +75,21 @@ module _ {S I T : Type 0} (view : S → SpliceView I T) (keeps : S → S → Typ
   spliced_front s mid t word x None left gave ahead behind touches kept h =
       let none : rest_count s ≡ 0 = ap length gave.0 in
       let none_mid : rest_count mid ≡ 0 = ap length gave.1 in
-      let gone : min (left_count s) (rest_count s) ≡ 0 = omega arith in
-      let gone_mid : min (left_count mid) (rest_count mid) ≡ 0 = omega arith in
-      let fewer = ap length left in record {
-        in_front = h.in_front;
-        at_back = h.at_back;
-        front = h.front ∙ ap (λ l. l ++ h.in_front) (ahead ∙ append-nil (view s).front);
-        back = h.back ∙ ap (λ l. h.at_back ++ l) behind;
-        replacement = gave.0 ∙ sym gave.1 ∙ h.replacement;
-        front_count = h.front_count ∙ none_in_front word _ _ gone_mid ∙ sym (none_in_front (front ∷ word) _ _ gone);
-        back_count = h.back_count ∙ none_at_back word _ _ gone_mid ∙ sym (none_at_back (front ∷ word) _ _ gone);
-        touches = omega (arith, h.touches, touches, fewer);
-        kept = then s mid t kept h.kept;
-      }
+      let fewer = ap length left in
+      spliced_same front s mid t word (omega arith) (omega arith) (ahead ∙ append-nil (view s).front) behind (gave.0 ∙ sym gave.1) (omega (arith, touches)) kept h
   spliced_front s mid t word x (Some y) left gave ahead behind touches kept h =
       let fewer = ap length left in
       let less = ap length gave in
-      let counts : take (min (length (front ∷ word)) (min (left_count s) (rest_count s))) (front ∷ word) ≡ front ∷ take (min (length word) (min (left_count mid) (rest_count mid))) word =
-      rw (fewer, less) (one_more front word (left_count mid) (rest_count mid)) in
+      let counts = placing-more front word (left_count s) (rest_count s) (left_count mid) (rest_count mid) fewer less in
       let more = ap fronts counts in
-      let same = ap backs counts in record {
+      let as_many = ap backs counts in record {
         in_front = y ∷ h.in_front;
         at_back = h.at_back;
         front = h.front ∙ ap (λ l. l ++ h.in_front) ahead ∙ append_assoc (view s).front (y ∷ []) h.in_front;
         back = h.back ∙ ap (λ l. h.at_back ++ l) behind;
         replacement = gave ∙ ap (λ l. y ∷ l) h.replacement;
         front_count = omega (arith, h.front_count, more);
-        back_count = h.back_count ∙ sym same;
+        back_count = h.back_count ∙ sym as_many;
         touches = omega (arith, h.touches, touches, fewer);
         kept = then s mid t kept h.kept;
       }
@@ -106,25 +102,13 @@ module _ {S I T : Type 0} (view : S → SpliceView I T) (keeps : S → S → Typ
   spliced_back s mid t word x None left gave ahead behind touches kept h =
       let none : rest_count s ≡ 0 = ap length gave.0 in
       let none_mid : rest_count mid ≡ 0 = ap length gave.1 in
-      let gone : min (left_count s) (rest_count s) ≡ 0 = omega arith in
-      let gone_mid : min (left_count mid) (rest_count mid) ≡ 0 = omega arith in
-      let fewer = ap length left ∙ length_push (view mid).left x in record {
-        in_front = h.in_front;
-        at_back = h.at_back;
-        front = h.front ∙ ap (λ l. l ++ h.in_front) ahead;
-        back = h.back ∙ ap (λ l. h.at_back ++ l) behind;
-        replacement = gave.0 ∙ sym gave.1 ∙ h.replacement;
-        front_count = h.front_count ∙ none_in_front word _ _ gone_mid ∙ sym (none_in_front (back ∷ word) _ _ gone);
-        back_count = h.back_count ∙ none_at_back word _ _ gone_mid ∙ sym (none_at_back (back ∷ word) _ _ gone);
-        touches = omega (arith, h.touches, touches, fewer);
-        kept = then s mid t kept h.kept;
-      }
+      let fewer = ap length left ∙ length_push (view mid).left x in
+      spliced_same back s mid t word (omega arith) (omega arith) ahead behind (gave.0 ∙ sym gave.1) (omega (arith, touches)) kept h
   spliced_back s mid t word x (Some y) left gave ahead behind touches kept h =
       let fewer : left_count s ≡ suc (left_count mid) = ap length left ∙ length_push (view mid).left x ∙ omega arith in
       let less : rest_count s ≡ suc (rest_count mid) = ap length gave ∙ length_push (rest (view mid).replacement) y ∙ omega arith in
-      let counts : take (min (length (back ∷ word)) (min (left_count s) (rest_count s))) (back ∷ word) ≡ back ∷ take (min (length word) (min (left_count mid) (rest_count mid))) word =
-      rw (fewer, less) (one_more back word (left_count mid) (rest_count mid)) in
-      let same = ap fronts counts in
+      let counts = placing-more back word (left_count s) (rest_count s) (left_count mid) (rest_count mid) fewer less in
+      let as_many = ap fronts counts in
       let more = ap backs counts in
       let long = length_push h.at_back y in record {
         in_front = h.in_front;
@@ -132,7 +116,7 @@ module _ {S I T : Type 0} (view : S → SpliceView I T) (keeps : S → S → Typ
         front = h.front ∙ ap (λ l. l ++ h.in_front) ahead;
         back = h.back ∙ ap (λ l. h.at_back ++ l) behind ∙ sym (append_assoc h.at_back (y ∷ []) (view s).back);
         replacement = gave ∙ rw h.replacement (simp append_assoc);
-        front_count = h.front_count ∙ sym same;
+        front_count = h.front_count ∙ sym as_many;
         back_count = long ∙ omega (arith, h.back_count, more);
         touches = omega (arith, h.touches, touches, fewer, long);
         kept = then s mid t kept h.kept;

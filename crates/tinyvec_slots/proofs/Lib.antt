@@ -11,8 +11,6 @@ pub mod ClonesOverLemmas
 pub mod CloneFromLemmas
 pub mod FillingLemmas
 pub mod ComparingLemmas
-mod Walks
-mod PartWalks
 pub mod Fused
 pub mod TurnLemmas
 pub mod FinishLemmas

@@ -17,6 +17,15 @@ pub record SpliceView (I T : Type 0) : Type 0 where
   -- the number of touches since `splice`
   pub touches : ℕ
 
+-- A splice that shows s, and whose `len()` is count, has placed no item yet: these items precede, are left in, and follow the
+-- range.
+pub record SpliceBegins {I T : Type 0} (ahead inside behind : List T) (s : SpliceView I T) (count : ℕ) : Type 0 where
+  pub front : s.front ≡ ahead
+  pub left : s.left ≡ inside
+  pub len : count ≡ length s.left
+  pub back : s.back ≡ behind
+  pub touches : s.touches ≡ 0
+
 module _ {I T : Type 0} (gives : I → Option T → I → Type 0) where
   -- x was yielded, the first removed item that was left. The item that the replacement yielded, if any, is placed at the front.
   pub record GivesFromFront (old : SpliceView I T) (x : T) (new : SpliceView I T) : Type 0 where

@@ -34,14 +34,6 @@ gap_view g replacement xs = record {
   touches = gap_touches g;
 }
 
--- all items of the range are left
-pub record GapOpens (start end : ℕ) (g : Gap) : Type 0 where
-  pub front_is_start : g.front ≡ start
-  pub next_is_start : g.next ≡ start
-  pub end_is_end : g.end ≡ end
-  pub back_is_end : g.back ≡ end
-  pub untouched : gap_touches g ≡ 0
-
 -- the gap is within this many slots, and its touches can be counted on
 abbrev pub GapLies : Gap → ℕ → Type 0
 GapLies g len = (g.front ≤ g.back) × (g.back ≤ len) × FitsBits 66 (gap_touches g)

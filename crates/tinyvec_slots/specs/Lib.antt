@@ -1,5 +1,4 @@
 pub mod Slots
-pub mod LentParts
 pub mod Ranges
 pub mod Ends
 pub mod AnyDrain

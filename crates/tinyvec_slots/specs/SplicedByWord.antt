@@ -1,15 +1,28 @@
 -- What a splice makes of a list, by the word of ends that items were taken from before `finish`.
-use Rattle.std.specs.Prelude.{◌≡◌, ℕ, ◌+◌, ◌-◌, ◌<◌, ◌≤◌, min, List, ◌++◌, length, take, drop, slice_range}
-use Rattle.tinyvec_slots.specs.Ends.{End, fronts, backs}
+use Rattle.std.specs.Prelude.{◌≡◌, ℕ, ◌+◌, ◌-◌, ◌<◌, ◌≤◌, min, List, [], ◌∷◌, ◌++◌, length, take, drop, slice_range}
+use Rattle.tinyvec_slots.specs.Ends.{End, front, back}
 use Rattle.tinyvec_slots.specs.AnySplice.{SpliceView}
 
--- if a range of n items is replaced by m items, how many of them a word places from the front
+-- how many letters of a word are `front`
+abbrev pub fronts : List End → ℕ
+fronts [] = 0
+fronts (front ∷ word) = fronts word + 1
+fronts (back ∷ word) = fronts word
+
+-- how many letters of a word are `back`
+abbrev pub backs : List End → ℕ
+backs [] = 0
+backs (front ∷ word) = backs word
+backs (back ∷ word) = backs word + 1
+
+-- If a range of n items is replaced by m items, how many of them a word places from the front: a letter places an item as
+-- long as there is one to take and one to place.
 abbrev pub placed_front : List End → ℕ → ℕ → ℕ
-placed_front word n m = fronts (take (min (length word) (min n m)) word)
+placed_front word n m = fronts (take (min n m) word)
 
 -- and from the back
 abbrev pub placed_back : List End → ℕ → ℕ → ℕ
-placed_back word n m = backs (take (min (length word) (min n m)) word)
+placed_back word n m = backs (take (min n m) word)
 
 -- A range that held n items was to be replaced, and the replacement did not go in between `before` and `after` whole: its
 -- first `at` items did, and those that a word placed from the back. `rest` is the run between them.

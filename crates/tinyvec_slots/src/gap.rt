@@ -2,7 +2,7 @@
 ghost use Rattle.std.specs.Prelude.{◌≡◌, ◌+◌, ◌<◌, ◌==◌, length};
 ghost use Rattle.std.specs.Iterator.Adapters.{fuse_done, fuse_steps};
 ghost use Rattle.tinyvec_slots.specs.Fused.{FusedCan, FusedFinite};
-ghost use Rattle.tinyvec_slots.specs.Gap.{gap_len, gap_left, gap_touches, gap_view, GapOpens, GapCanStep};
+ghost use Rattle.tinyvec_slots.specs.Gap.{gap_len, gap_left, gap_touches, gap_view, GapCanStep};
 ghost use Rattle.tinyvec_slots.specs.AnySplice.{GivesFromFront, GivesFromBack};
 
 mod closing;
@@ -27,7 +27,11 @@ pub struct Gap {
 impl Gap {
     /// All items from `start` up to `end` are left.
     pub fn new(start: usize, end: usize) -> Self
-        ensures { GapOpens start end result }
+        ensures front { result.front ≡ start }
+        ensures next { result.next ≡ start }
+        ensures end { result.end ≡ end }
+        ensures back { result.back ≡ end }
+        ensures touches { gap_touches result ≡ 0 }
     {
         Gap {
             front: start,

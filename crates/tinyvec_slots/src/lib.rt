@@ -7,11 +7,9 @@ mod capacity_error;
 mod extracting;
 mod filtering;
 mod gap;
-mod in_slots;
 mod no_memory;
 mod no_room;
 mod owned;
-mod parts;
 mod printing;
 mod range;
 mod splicing;
@@ -24,11 +22,9 @@ pub use capacity_error::CapacityError;
 pub use extracting::{ExtractIf, extract_if};
 pub use filtering::{dedup_by, dedup_by_key, pop_if, retain, retain_mut};
 pub use gap::Gap;
-pub use in_slots::InSlots;
 pub use no_memory::NoMemory;
 pub use no_room::{FromIterRest, NoRoom, SpliceRest};
 pub use owned::{OwnedItems, OwnsItems, into_items};
-pub use parts::{part_of, slot_of};
 pub use printing::{
     InBinary, InHex, InOctal, InUpperHex, ItemText, Plain, write_items, write_named,
 };

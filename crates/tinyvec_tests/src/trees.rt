@@ -3,7 +3,7 @@
 //! also where each request is refused, and what was built so far is dropped.
 ghost use Rattle.std.specs.Prelude.{◌≡◌};
 
-use crate::steps::all_steps;
+use crate::steps::{all_steps, is_debugged};
 use std::alloc::{AllocError, Global};
 use std::test::Fail;
 use tinyvec::{ArrayVec, TinyVec};
@@ -143,4 +143,70 @@ fn squares_that_are_cut(rt: HostRuntime) -> Result<(), Fail> {
         left.next().is_some(),
         matches!(square, Square::Parts(_)),
     ])
+}
+
+// A drain that loses what precedes its range or follows it, or drops twice what was taken, would pass the check.
+#[test]
+fn lists_that_lose_their_middle(rt: HostRuntime) -> Result<(), Fail> {
+    let alloc = rt.alloc();
+    let mut heap = three(alloc, 0)?;
+    heap.push(nested(alloc, 1, 1)?)?;
+    let mut is_taken = false;
+    if heap.len() == 4 {
+        is_taken = matches!(heap.drain(1..3).next(), Some(Node::List(_)));
+    }
+    let mut inline: TinyVec<[Node; 4]> = TinyVec::new(alloc);
+    inline.push(nested(alloc, 2, 0)?)?;
+    inline.push(nested(alloc, 1, 2)?)?;
+    inline.push(nested(alloc, 3, 1)?)?;
+    inline.push(Node::Number(5))?;
+    let mut is_taken_inline = false;
+    if inline.len() == 4 {
+        is_taken_inline = matches!(inline.drain(1..3).next_back(), Some(Node::List(_)));
+    }
+    all_steps(&[
+        is_taken,
+        !heap.is_inline(),
+        is_debugged(&heap, "[List([Number(7)]), List([Number(7), Number(0)])]"),
+        is_taken_inline,
+        inline.is_inline(),
+        is_debugged(&inline, "[List([List([Number(7)])]), Number(5)]"),
+    ])
+}
+
+// So would a drain that leaves an item in its range alive.
+#[test]
+fn lists_that_lose_their_first(rt: HostRuntime) -> Result<(), Fail> {
+    let alloc = rt.alloc();
+    let mut items: Nodes = TinyVec::new(alloc);
+    items.push(nested(alloc, 2, 1)?)?;
+    items.push(nested(alloc, 1, 0)?)?;
+    let mut is_counted = false;
+    if items.len() == 2 {
+        is_counted = items.drain(..1).len() == 1;
+    }
+    all_steps(&[
+        is_counted,
+        items.is_inline(),
+        is_debugged(&items, "[List([Number(7)])]"),
+    ])
+}
+
+// The same of squares, whose slots hold an option each: a slot that is left has to hold none.
+#[test]
+fn squares_that_lose_their_middle(rt: HostRuntime) -> Result<(), Fail> {
+    let alloc = rt.alloc();
+    let mut parts: Parts = ArrayVec::new();
+    parts.push(Some(Box::new(alloc, divided(alloc, 1)?)?));
+    parts.push(Some(Box::new(alloc, divided(alloc, 2)?)?));
+    parts.push(Some(Box::new(alloc, divided(alloc, 1)?)?));
+    parts.push(Some(Box::new(alloc, divided(alloc, 0)?)?));
+    let is_taken = matches!(parts.drain(1..3).next(), Some(Some(_)));
+    let kept = is_debugged(
+        &parts,
+        "[Some(Parts([Some(Plain(true)), None, Some(Plain(false))])), Some(Plain(true))]",
+    );
+    parts.push(None);
+    let is_none = matches!(parts.drain(1..).next_back(), Some(None));
+    all_steps(&[is_taken, kept, is_none, parts.len() == 1])
 }

@@ -1,6 +1,8 @@
 -- Lists of bytes as texts.
 use Rattle.std.proofs.Common.{◌≡◌, ℕ, ◌≤◌, List, All, IsUtf8, IsTrue, subst, sym, ◌∙◌, refl, arith, ap, length}
-use Rattle.std.specs.Prelude.{Bool, true, false, Ok}
+use Rattle.std.specs.Prelude.{Bool, true, false, Result, Ok}
+use Rattle.std.proofs.Math.Seq.{drop-nil}
+use Rattle.std.proofs.lemmas.Result.{on_err_weaker}
 use Rattle.std.proofs.lemmas.List.Elements.{All-append, All-drop}
 use Rattle.std.proofs.lemmas.Str.{IsUtf8-had}
 use Rattle.tinyvec_slots.specs.Slots.{AreDefaults}
@@ -8,12 +10,12 @@ use Rattle.tinyvec_array.proofs.Named.{array_slots}
 use Rattle.tinyvec.specs.SpliceLaws.{frame_becomes}
 use Rattle.tinyvec.specs.Lends.{tiny_with_items}
 use Rattle.tinyvec.specs.TinyVec.{tiny_items, tiny_len, tiny_spare, tiny_capacity, is_inline, IsInline, tiny_view}
-use Rattle.tinyvec.specs.View.{TinySlotRule, SameFrame, Becomes, Unchanged, TinyView, Place, in_array, on_heap, lies_inline, capacity_in, PlaceRule}
-use Rattle.tinyvec.specs.Room.{GrowsFor, RoomGrows, MakesRoom}
+use Rattle.tinyvec.specs.View.{TinySlotRule, SameFrame, Becomes, Unchanged, Place, in_array, on_heap, lies_inline, capacity_in, PlaceRule}
+use Rattle.tinyvec.specs.Room.{MakesRoom}
 use Rattle.tinyvec.specs.declared.tiny_vec.TinyVec.TheVariants.{Inline, Heap}
 use Rattle.std.specs.String.Boundary.{IsSplitPoint}
-use Rattle.tinyvec.proofs.TinyLemmas.{tiny_slots_then_framed, tiny_items-with, tiny_framed-with}
-use Rattle.tinyvec_text.specs.InlineText.{Text, Bytes, IsText, text_of, text_view, text_chars, text_len, TextMakesRoom, IsBoundary}
+use Rattle.tinyvec.proofs.TinyLemmas.{same_place, used_rule, tiny_slots_then_framed, tiny_items-with, tiny_framed-with}
+use Rattle.tinyvec_text.specs.InlineText.{Text, Bytes, IsText, text_of, text_view, text_chars, text_len, IsBoundary}
 use Rattle.tinyvec_text.proofs.Boundaries.{split_from_boundary}
 
 -- a and b are boundaries of the bytes, in this order
@@ -87,23 +89,24 @@ text_range v t same is a end order first last =
       last = split_from_boundary (tiny_items v) utf8 (end (tiny_len v)) (subst (λ (u : Text). IsBoundary (text_chars u) (end (text_len u))) (sym same) last);
     }
 
--- a call that made the room that it needs
-pub made_room : {k : ℕ} {X E : Type 0} (slots need : ℕ) (old new : Bytes k) (t : Text) (x : X) → text_of old ≡ t → tiny_len new ≡ need
-    → RoomGrows {X = X} {E = E} GrowsFor (λ b. b ≡ 0) slots (tiny_len new) (tiny_view old) (tiny_view new) (Ok x)
-    → TextMakesRoom {X = X} {E = E} (lies_inline t.place) slots need t (text_of new) (Ok x)
-made_room {X} {E} slots need old new t x same len room =
-    subst (λ (u : Text). TextMakesRoom {X = X} {E = E} (lies_inline u.place) slots need u (text_of new) (Ok x)) same
-    (subst (λ n. TextMakesRoom {X = X} {E = E} (is_inline old) slots n (text_of old) (text_of new) (Ok x)) len record {
-      place = room.place;
-      capacity = room.capacity;
-      same_room = room.same_room;
-      grown = room.grown;
-      fits = room.fits;
-      succeeds = λ _. refl;
-      inline_succeeds = λ _ _. refl;
-      full = tt;
-      refused = tt;
-    })
+-- a call that made room did so for the text
+pub text_room : {k : ℕ} {X E : Type 0} (exact : Bool) (slots need : ℕ) (old new : Bytes k) (r : Result X E) → MakesRoom exact slots need (tiny_view old) (tiny_view new) r
+    → MakesRoom exact slots need (text_view (text_of old)) (text_view (text_of new)) r
+text_room exact slots need old new r room = record {
+  place = room.place;
+  spare = λ _ _ _. sym (drop-nil _);
+  capacity = room.capacity;
+  same_room = room.same_room;
+  grown = room.grown;
+  fits = room.fits;
+  succeeds = room.succeeds;
+  full = room.full;
+  refused = on_err_weaker r (λ h. record { items = h.items; spare = refl; place = h.place; capacity = h.capacity }) room.refused;
+}
+
+-- a text that did not change
+pub text_unchanged : (old new : Text) → Unchanged (text_view old) (text_view new) → new ≡ old
+text_unchanged old new h i = record { bytes = h.items i; place = same_place 0 old.place new.place h.place (h.capacity 0) i }
 
 -- a write through the slice of the bytes leaves what the slice shows, and spare slots, place and room
 module _ (slots : ℕ) (old : Bytes slots) (ws : List ℕ) (long : length ws ≡ tiny_len old) where
@@ -130,13 +133,13 @@ place_stays slots need old new enough rule =
     same_truth (lies_inline new.place) (lies_inline old.place) (λ is. (rule.0 is).0) (λ is. rule.1 (is, omega (arith, enough, room_inline slots old.place is)))
 
 -- a call that had room, after which items were written
-pub room_rewritten : {k : ℕ} {X E : Type 0} {G : ℕ → ℕ → TinyView ℕ → TinyView ℕ → Type 0} (slots need : ℕ) (old mid new : Bytes k) (x : X) → need ≤ tiny_capacity slots old
-    → MakesRoom {X = X} {E = E} G (λ b. b ≡ 0) slots need (tiny_view old) (tiny_view mid) (Ok x) → SameFrame (tiny_view mid) (tiny_view new) → Becomes (λ b. b ≡ 0) slots (tiny_view old) (tiny_view new) (tiny_items new)
-room_rewritten slots need old mid new x enough made frame =
+pub room_rewritten : {k : ℕ} {X E : Type 0} {exact : Bool} (slots need : ℕ) (old mid new : Bytes k) (x : X) → need ≤ tiny_capacity slots old
+    → tiny_len old ≤ tiny_len mid → MakesRoom {X = X} {E = E} exact slots need (tiny_view old) (tiny_view mid) (Ok x) → SameFrame (tiny_view mid) (tiny_view new) → Becomes (λ b. b ≡ 0) slots (tiny_view old) (tiny_view new) (tiny_items new)
+room_rewritten slots need old mid new x enough longer made frame =
     let same = frame.capacity slots in record {
       items = refl;
       place = frame.place ∙ place_stays slots need (text_of old) (text_of mid) enough made.place;
-      slot_rule = tiny_slots_then_framed (λ b. b ≡ 0) (tiny_view old) (tiny_view mid) (tiny_view new) made.slot_rule frame;
+      slot_rule = tiny_slots_then_framed (λ b. b ≡ 0) (tiny_view old) (tiny_view mid) (tiny_view new) (used_rule (λ b. b ≡ 0) (tiny_view old) (tiny_view mid) longer made.spare) frame;
       capacity = same ∙ made.same_room enough;
       fits = let fits = made.fits in let len = frame.len in omega (arith, same, len, fits);
     }

@@ -1,9 +1,9 @@
 -- What a contract sees of an `InlineText`: its bytes, and where they are.
-use Rattle.std.specs.Prelude.{◌≡◌, ℕ, ◌+◌, ◌*◌, ◌<◌, ◌≤◌, ◌↔◌, ◌&&◌, nat_le, if◌then◌else◌, max, List, [], ◌∷◌, ◌++◌, length, take, drop, All, Bool, false, IsTrue, Result, IsOk, OnOk, OnErr, chars, encode_utf8, encode_utf8_all, IsUtf8}
+use Rattle.std.specs.Prelude.{◌≡◌, ℕ, ◌+◌, ◌*◌, ◌<◌, ◌≤◌, ◌↔◌, ◌&&◌, nat_le, if◌then◌else◌, max, List, [], ◌∷◌, ◌++◌, length, take, drop, All, Bool, false, IsTrue, Result, OnOk, chars, encode_utf8, encode_utf8_all, IsUtf8}
 use Rattle.std.specs.Char.{IsScalar}
 use Rattle.tinyvec_array.specs.declared.bound.UpTo.{UpTo}
 use Rattle.tinyvec.specs.View.{Place, in_array, on_heap, lies_inline, capacity_in, TinyView, PlaceRule}
-use Rattle.tinyvec.specs.Room.{KeepsRoom, GrowsInSteps}
+use Rattle.tinyvec.specs.Room.{KeepsRoom, GrowsInSteps, MakesRoom}
 use Rattle.tinyvec.specs.TinyVec.{tiny_items, tiny_spare, place_of}
 use Rattle.tinyvec.specs.declared.tiny_vec.TinyVec.{TinyVec}
 
@@ -35,21 +35,6 @@ text_chars t = chars t.bytes
 -- `t.len()`
 abbrev pub text_len : Text → ℕ
 text_len t = length t.bytes
-
--- A call that needs room for `need` bytes took `old` to `new`, with this result. If there was less, a text got just that room if
--- `moves` holds, else twice the old room, or `need` if that is more.
-pub record TextMakesRoom {X E : Type 0} (moves : Bool) (slots need : ℕ) (old new : Text) (result : Result X E) : Type 0 where
-  pub place : OnOk result (PlaceRule slots need (text_view old) (text_view new))
-  pub capacity : capacity_in slots old.place ≤ capacity_in slots new.place
-  pub same_room : KeepsRoom slots need (text_view old) (text_view new)
-  pub grown : OnOk result (capacity_in slots old.place < need
-      → capacity_in slots new.place ≡ (if moves then need else max (2 * capacity_in slots old.place) need))
-  pub fits : text_len new ≤ capacity_in slots new.place
-  -- if there is room it allocates nothing, and a failure changes nothing
-  pub succeeds : need ≤ capacity_in slots old.place → IsOk result
-  pub inline_succeeds : IsTrue (lies_inline old.place) → need ≤ slots → IsOk result
-  pub full : OnErr result (capacity_in slots old.place < need)
-  pub refused : OnErr result (new ≡ old)
 
 -- where a text is once there is room for `need` bytes: as it was if there is, else on the heap, with just that room if `moves` holds, else
 -- with twice the old room, or `need` if that is more
@@ -90,7 +75,7 @@ pub record TextExtends (slots : ℕ) (old new : Text) : Type 0 where
 -- a call that made room for n more bytes took `old` to `new`, with this result
 pub record TextReserves {X E : Type 0} (slots n : ℕ) (old new : Text) (result : Result X E) : Type 0 where
   pub bytes : new.bytes ≡ old.bytes
-  pub room : TextMakesRoom (lies_inline old.place) slots (text_len old + n) old new result
+  pub room : MakesRoom (lies_inline old.place) slots (text_len old + n) (text_view old) (text_view new) result
   pub enough : OnOk result (text_len old + n ≤ capacity_in slots new.place)
   pub kept : text_len old + n ≤ capacity_in slots old.place → new ≡ old
 

@@ -121,6 +121,14 @@ impl<const N: usize> InlineText<N> {
         self.list.capacity()
     }
 
+    // Tells a proof that the text fits.
+    #[inline(always)]
+    fn knows_room(&self)
+        ensures { text_len self.now ≤ capacity_in N self.now.place }
+    {
+        let _room = self.capacity();
+    }
+
     /// The text.
     // The bytes are checked at each call: no call of std takes bytes for text without a look at them and is safe.
     pub fn as_str(&self) -> &str

@@ -11,23 +11,6 @@ use tinyvec_rows::{Item, Read, Said, Wide, Words, Wrong, index_of, say_word};
 
 type Boxed = Option<Box<i32>>;
 
-/// Makes the vectors of a row, and answers its calls.
-pub fn answer(kind: &str, words: &mut Words<'_>, calls: &mut Calls<'_>) -> Said {
-    let (kind, held) = kind.split_once('<').ok_or(Wrong::Vector)?;
-    if kind == "SliceVec" {
-        return answer_slice(held, words, calls);
-    }
-    let (item, count) = held.split_once(';').ok_or(Wrong::Vector)?;
-    let Ok(count) = index_of(count.strip_suffix("]>").unwrap_or("")) else {
-        return Err(Wrong::Vector);
-    };
-    match kind {
-        "ArrayVec" => answer_array(item, count, words, calls),
-        "TinyVec" => answer_tiny(item, count, words, calls),
-        _ => Err(Wrong::Vector),
-    }
-}
-
 // Calls a function for vectors of an array of this many items, if it is one of the numbers.
 macro_rules! sized {
     ($answer:ident, $item:ty, $count:ident, $words:ident, $calls:ident, $($n:literal)*) => {
@@ -38,7 +21,9 @@ macro_rules! sized {
     };
 }
 
-fn answer_array(item: &str, count: usize, words: &mut Words<'_>, calls: &mut Calls<'_>) -> Said {
+/// Makes the `ArrayVec`s of a row, and answers its calls.
+pub fn answer_array(held: &str, words: &mut Words<'_>, calls: &mut Calls<'_>) -> Said {
+    let (item, count) = array_in(held)?;
     match item {
         "[i32" => sized!(of_array, i32, count, words, calls, 0 3 4 7 8 10 600),
         "[u8" => sized!(of_array, u8, count, words, calls, 10 600),
@@ -52,7 +37,9 @@ fn answer_array(item: &str, count: usize, words: &mut Words<'_>, calls: &mut Cal
     }
 }
 
-fn answer_tiny(item: &str, count: usize, words: &mut Words<'_>, calls: &mut Calls<'_>) -> Said {
+/// Makes the `TinyVec`s of a row, and answers its calls.
+pub fn answer_tiny(held: &str, words: &mut Words<'_>, calls: &mut Calls<'_>) -> Said {
+    let (item, count) = array_in(held)?;
     match item {
         "[i32" => sized!(of_tiny, i32, count, words, calls, 0 1 2 3 4 10 600),
         "[u8" => sized!(of_tiny, u8, count, words, calls, 4 600),
@@ -63,7 +50,8 @@ fn answer_tiny(item: &str, count: usize, words: &mut Words<'_>, calls: &mut Call
     }
 }
 
-fn answer_slice(item: &str, words: &mut Words<'_>, calls: &mut Calls<'_>) -> Said {
+/// Makes the `SliceVec`s of a row, and answers its calls.
+pub fn answer_slice(item: &str, words: &mut Words<'_>, calls: &mut Calls<'_>) -> Said {
     match item {
         "i32>" => lend::<i32>(words, calls),
         "u8>" => lend::<u8>(words, calls),
@@ -71,6 +59,15 @@ fn answer_slice(item: &str, words: &mut Words<'_>, calls: &mut Calls<'_>) -> Sai
         "Box>" => lend::<Boxed>(words, calls),
         "f64>" => show_slice(words, calls),
         _ => Err(Wrong::Vector),
+    }
+}
+
+// The item and the length of an array, as in `[i32;4]>`.
+fn array_in(held: &str) -> Result<(&str, usize), Wrong> {
+    let (item, count) = held.split_once(';').ok_or(Wrong::Vector)?;
+    match index_of(count.strip_suffix("]>").unwrap_or("")) {
+        Ok(count) => Ok((item, count)),
+        Err(_) => Err(Wrong::Vector),
     }
 }
 

@@ -1,7 +1,7 @@
 //! Room on the heap, and moves between the array and the heap.
-ghost use Rattle.std.specs.Prelude.{◌≡◌, ◌+◌, ◌*◌, ◌<◌, ◌≤◌, max, min, false, OnOk, OnErr, vec_len, vec_capacity, ◌-◌, ◌↔◌, IsOk, IfOk, IfErr};
+ghost use Rattle.std.specs.Prelude.{◌≡◌, ◌+◌, ◌*◌, ◌<◌, ◌≤◌, max, min, true, false, OnOk, OnErr, vec_len, vec_capacity, ◌-◌, ◌↔◌, IsOk, IfOk, IfErr};
 ghost use Rattle.tinyvec.specs.TinyVec.{tiny_items_of, tiny_len_of, is_inline, tiny_capacity, tiny_spare_of, IsInline, tiny_view_of};
-ghost use Rattle.tinyvec.specs.Room.{Doubles, GrowsFor, GrowsExactly, MakesRoom, MovesToHeap, MovesToHeapWithRoom};
+ghost use Rattle.tinyvec.specs.Room.{MakesRoom, MovesToHeap};
 ghost use Rattle.std.specs.Box.{boxed_slice_items};
 ghost use Rattle.tinyvec_slots.specs.Slots.{AreDefaults};
 ghost use Rattle.tinyvec_array.specs.ArrayVec.{items_of, spare_of};
@@ -19,7 +19,7 @@ impl<A: Array> TinyVec<A> {
         requires { tiny_capacity A.CAPACITY self.old ≤ tiny_len_of A.Slots self.old }
         ensures items { tiny_items_of A.Slots self.new ≡ tiny_items_of A.Slots self.old }
         ensures place { OnOk result (is_inline self.new ≡ false) }
-        ensures room { MakesRoom Doubles A.Item.is_default A.CAPACITY (tiny_len_of A.Slots self.old + 1)
+        ensures room { MakesRoom false A.CAPACITY (tiny_len_of A.Slots self.old + 1)
             (tiny_view_of A.Slots self.old) (tiny_view_of A.Slots self.new) result }
     {
         let len = self.len();
@@ -31,7 +31,7 @@ impl<A: Array> TinyVec<A> {
     #[inline(always)]
     pub fn reserve(&mut self, additional: usize) -> Result<(), AllocError>
         ensures items { tiny_items_of A.Slots self.new ≡ tiny_items_of A.Slots self.old }
-        ensures room { MakesRoom GrowsFor A.Item.is_default A.CAPACITY (tiny_len_of A.Slots self.old + additional)
+        ensures room { MakesRoom (is_inline self.old) A.CAPACITY (tiny_len_of A.Slots self.old + additional)
             (tiny_view_of A.Slots self.old) (tiny_view_of A.Slots self.new) result }
         ensures enough { OnOk result (tiny_len_of A.Slots self.old + additional ≤ tiny_capacity A.CAPACITY self.new) }
 
@@ -52,7 +52,7 @@ impl<A: Array> TinyVec<A> {
     pub(crate) fn grow(&mut self, n: usize) -> Result<(), AllocError>
         requires { tiny_capacity A.CAPACITY self.old < tiny_len_of A.Slots self.old + n }
         ensures items { tiny_items_of A.Slots self.new ≡ tiny_items_of A.Slots self.old }
-        ensures room { MakesRoom GrowsFor A.Item.is_default A.CAPACITY (tiny_len_of A.Slots self.old + n)
+        ensures room { MakesRoom (is_inline self.old) A.CAPACITY (tiny_len_of A.Slots self.old + n)
             (tiny_view_of A.Slots self.old) (tiny_view_of A.Slots self.new) result }
         ensures enough { OnOk result (tiny_len_of A.Slots self.old + n ≤ tiny_capacity A.CAPACITY self.new) }
 
@@ -60,8 +60,7 @@ impl<A: Array> TinyVec<A> {
         ensures kept { tiny_len_of A.Slots self.old + n ≤ tiny_capacity A.CAPACITY self.old → self.new ≡ self.old }
         ensures stays { IsInline self.new → self.new ≡ self.old }
     {
-        // Shows the proof that the list fits.
-        let _len = self.len();
+        self.knows_room();
         match self {
             TinyVec::Inline(_, _) => self.leave_array(n),
             TinyVec::Heap(v) => grow_heap(v, n),
@@ -71,12 +70,11 @@ impl<A: Array> TinyVec<A> {
     // Moves an inline list to the heap, with room for `n` items more.
     fn leave_array(&mut self, n: usize) -> Result<(), AllocError>
         requires { IsInline self.old }
-        ensures moves { MovesToHeapWithRoom A.CAPACITY n (tiny_view_of A.Slots self.old)
+        ensures moves { MovesToHeap A.CAPACITY n (tiny_view_of A.Slots self.old)
             (tiny_view_of A.Slots self.new) result }
         ensures kept { IsInline self.new → self.new ≡ self.old }
     {
-        // Tells the proof how many slots there are.
-        let _len = self.len();
+        self.knows_room();
         if let TinyVec::Inline(v, alloc) = self {
             let heap = v.drain_to_vec_and_reserve(*alloc, n)?;
             *self = TinyVec::Heap(heap);
@@ -87,7 +85,7 @@ impl<A: Array> TinyVec<A> {
     /// The same as `reserve`.
     pub fn try_reserve(&mut self, additional: usize) -> Result<(), AllocError>
         ensures items { tiny_items_of A.Slots self.new ≡ tiny_items_of A.Slots self.old }
-        ensures room { MakesRoom GrowsFor A.Item.is_default A.CAPACITY (tiny_len_of A.Slots self.old + additional)
+        ensures room { MakesRoom (is_inline self.old) A.CAPACITY (tiny_len_of A.Slots self.old + additional)
             (tiny_view_of A.Slots self.old) (tiny_view_of A.Slots self.new) result }
         ensures enough { OnOk result (tiny_len_of A.Slots self.old + additional ≤ tiny_capacity A.CAPACITY self.new) }
 
@@ -102,7 +100,7 @@ impl<A: Array> TinyVec<A> {
     /// Reserves room for `additional` items more, and on the heap for no further ones.
     pub fn reserve_exact(&mut self, additional: usize) -> Result<(), AllocError>
         ensures items { tiny_items_of A.Slots self.new ≡ tiny_items_of A.Slots self.old }
-        ensures room { MakesRoom GrowsExactly A.Item.is_default A.CAPACITY (tiny_len_of A.Slots self.old + additional)
+        ensures room { MakesRoom true A.CAPACITY (tiny_len_of A.Slots self.old + additional)
             (tiny_view_of A.Slots self.old) (tiny_view_of A.Slots self.new) result }
         ensures enough { OnOk result (tiny_len_of A.Slots self.old + additional ≤ tiny_capacity A.CAPACITY self.new) }
 
@@ -127,7 +125,7 @@ impl<A: Array> TinyVec<A> {
     /// The same as `reserve_exact`.
     pub fn try_reserve_exact(&mut self, additional: usize) -> Result<(), AllocError>
         ensures items { tiny_items_of A.Slots self.new ≡ tiny_items_of A.Slots self.old }
-        ensures room { MakesRoom GrowsExactly A.Item.is_default A.CAPACITY (tiny_len_of A.Slots self.old + additional)
+        ensures room { MakesRoom true A.CAPACITY (tiny_len_of A.Slots self.old + additional)
             (tiny_view_of A.Slots self.old) (tiny_view_of A.Slots self.new) result }
         ensures enough { OnOk result (tiny_len_of A.Slots self.old + additional ≤ tiny_capacity A.CAPACITY self.new) }
 
@@ -156,7 +154,8 @@ impl<A: Array> TinyVec<A> {
 
     /// Moves an inline list to the heap, with a capacity of its length. A list on the heap stays as it is.
     pub fn move_to_the_heap(&mut self) -> Result<(), AllocError>
-        ensures moves { MovesToHeap A.CAPACITY (tiny_view_of A.Slots self.old) (tiny_view_of A.Slots self.new) result }
+        ensures moves { MovesToHeap A.CAPACITY 0 (tiny_view_of A.Slots self.old) (tiny_view_of A.Slots self.new) result }
+        ensures succeeds { is_inline self.old ≡ false → IsOk result }
         ensures kept { is_inline self.old ≡ false → self.new ≡ self.old }
     {
         if self.is_inline() {
@@ -167,7 +166,8 @@ impl<A: Array> TinyVec<A> {
 
     /// The same as `move_to_the_heap`.
     pub fn try_move_to_the_heap(&mut self) -> Result<(), AllocError>
-        ensures moves { MovesToHeap A.CAPACITY (tiny_view_of A.Slots self.old) (tiny_view_of A.Slots self.new) result }
+        ensures moves { MovesToHeap A.CAPACITY 0 (tiny_view_of A.Slots self.old) (tiny_view_of A.Slots self.new) result }
+        ensures succeeds { is_inline self.old ≡ false → IsOk result }
         ensures kept { is_inline self.old ≡ false → self.new ≡ self.old }
     {
         self.move_to_the_heap()
@@ -175,7 +175,7 @@ impl<A: Array> TinyVec<A> {
 
     /// Moves an inline list to the heap, and reserves room there for `additional` items more.
     pub fn move_to_the_heap_and_reserve(&mut self, additional: usize) -> Result<(), AllocError>
-        ensures moves { MovesToHeapWithRoom A.CAPACITY additional (tiny_view_of A.Slots self.old)
+        ensures moves { MovesToHeap A.CAPACITY additional (tiny_view_of A.Slots self.old)
             (tiny_view_of A.Slots self.new) result }
         ensures kept { is_inline self.old ≡ false
             → tiny_len_of A.Slots self.old + additional ≤ tiny_capacity A.CAPACITY self.old → self.new ≡ self.old }
@@ -188,7 +188,7 @@ impl<A: Array> TinyVec<A> {
 
     /// The same as `move_to_the_heap_and_reserve`.
     pub fn try_move_to_the_heap_and_reserve(&mut self, additional: usize) -> Result<(), AllocError>
-        ensures moves { MovesToHeapWithRoom A.CAPACITY additional (tiny_view_of A.Slots self.old)
+        ensures moves { MovesToHeap A.CAPACITY additional (tiny_view_of A.Slots self.old)
             (tiny_view_of A.Slots self.new) result }
         ensures kept { is_inline self.old ≡ false
             → tiny_len_of A.Slots self.old + additional ≤ tiny_capacity A.CAPACITY self.old → self.new ≡ self.old }

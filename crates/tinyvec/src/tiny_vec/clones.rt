@@ -3,9 +3,9 @@ ghost use Rattle.std.specs.Prelude.{◌≡◌, ◌≤◌, ◌++◌, ℕ, All, mi
 ghost use Rattle.std.specs.List.{AllZip};
 ghost use Rattle.tinyvec_slots.specs.Clones.{RefusedAt, AreClones, ClonesOver, ClonesInPart};
 ghost use Rattle.tinyvec.specs.TinyVec.{tiny_items_of, tiny_len_of, tiny_spare_of, is_inline, tiny_capacity, IsInline, tiny_view_of};
-ghost use Rattle.tinyvec.specs.View.{SameFrame, IsTinyClone, IsTinyInfallible};
+ghost use Rattle.tinyvec.specs.View.{TinySlotRule, SameFrame, IsTinyClone, IsTinyInfallible};
 ghost use Rattle.tinyvec.specs.Refused.{RefusedFor};
-ghost use Rattle.tinyvec.specs.Room.{GrowsFor, RoomGrows};
+ghost use Rattle.tinyvec.specs.Room.{MakesRoom};
 
 use crate::TinyVec;
 use crate::tuned::push_clones;
@@ -63,8 +63,11 @@ impl<A: Array> TinyVec<A> {
         A::Item: Clone,
         ensures items { OnOk result (AreClones A.Item.is_clone (tiny_items_of A.Slots source.now)
             (tiny_items_of A.Slots self.new)) }
-        ensures room { RoomGrows GrowsFor A.Item.is_default A.CAPACITY (tiny_len_of A.Slots source.now)
-            (tiny_view_of A.Slots self.old) (tiny_view_of A.Slots self.new) result }
+        ensures room { OnOk result (MakesRoom (is_inline self.old) A.CAPACITY (tiny_len_of A.Slots source.now)
+            (tiny_view_of A.Slots self.old) (tiny_view_of A.Slots self.new) result) }
+        ensures slot_rule { OnOk result (TinySlotRule A.Item.is_default (tiny_view_of A.Slots self.old)
+            (tiny_view_of A.Slots self.new)) }
+        ensures fits { tiny_len_of A.Slots self.new ≤ tiny_capacity A.CAPACITY self.new }
 
         // If there is room only clones allocate.
         ensures succeeds { tiny_len_of A.Slots source.now ≤ tiny_capacity A.CAPACITY self.old

@@ -1,14 +1,14 @@
 //! Items that are pushed, popped, inserted, removed and cut off.
-ghost use Rattle.std.specs.Prelude.{◌≡◌, ◌+◌, ◌-◌, ◌<◌, ◌↔◌, [], ◌∷◌, ◌++◌, take, slice_get, IsSome, IfSome, IsOk, OnErr, IfErr, ◌≤◌, if◌then◌else◌, is_ok, insert, remove, slice_index_or, vec_len, IfOk, IfNone};
+ghost use Rattle.std.specs.Prelude.{◌≡◌, ◌+◌, ◌-◌, ◌<◌, ◌↔◌, [], ◌∷◌, ◌++◌, take, slice_get, IsSome, IfSome, IsOk, OnErr, IfErr, ◌≤◌, if◌then◌else◌, is_ok, insert, remove, slice_index_or, vec_len, IfOk, IfNone, false};
 ghost use Rattle.tinyvec.specs.TinyVec.{tiny_items_of, tiny_len_of, tiny_capacity, IsInline, tiny_view_of};
 ghost use Rattle.tinyvec.specs.View.{IsTail, Becomes, Unchanged};
-ghost use Rattle.tinyvec.specs.Room.{Doubles, MakesRoom};
+ghost use Rattle.tinyvec.specs.Room.{MakesRoom};
 ghost use Rattle.tinyvec.specs.OnHeap.{HeapBecomes};
 ghost use Rattle.std.specs.List.{swap_remove};
 ghost use Rattle.std.specs.Borrow.{sem};
 
 use crate::TinyVec;
-use crate::tiny_vec::slot_count;
+use crate::tiny_vec::knows_slots;
 use std::alloc::AllocError;
 use tinyvec_array::Array;
 use tinyvec_slots::{NoMemory, move_to_end, remove_shifting};
@@ -22,8 +22,7 @@ impl<A: Array> TinyVec<A> {
     {
         match self {
             TinyVec::Inline(v, _) => {
-                // Tells the proof how many slots there are.
-                let _slots = slot_count(v);
+                knows_slots(v);
                 v.push(value)
             }
             TinyVec::Heap(v) => v.push_reserved(value),
@@ -37,14 +36,13 @@ impl<A: Array> TinyVec<A> {
             ≡ (if is_ok result then tiny_items_of A.Slots self.old ++ value ∷ [] else tiny_items_of A.Slots self.old) }
         ensures len { tiny_len_of A.Slots self.new ≡
             (if is_ok result then tiny_len_of A.Slots self.old + 1 else tiny_len_of A.Slots self.old) }
-        ensures room { MakesRoom Doubles A.Item.is_default A.CAPACITY (tiny_len_of A.Slots self.old + 1)
+        ensures room { MakesRoom false A.CAPACITY (tiny_len_of A.Slots self.old + 1)
             (tiny_view_of A.Slots self.old) (tiny_view_of A.Slots self.new) result }
         ensures succeeds_inline { IsInline self.old → tiny_len_of A.Slots self.old < A.CAPACITY → IsOk result }
         ensures full { OnErr result (tiny_len_of A.Slots self.old ≡ tiny_capacity A.CAPACITY self.old) }
         ensures value_returned { IfErr result (λ refused. refused.0 ≡ value) }
     {
-        // Tells the proof how many slots there are.
-        let _len = self.len();
+        self.knows_room();
         // One test of the variant; growing is kept out of the usual path.
         match self {
             TinyVec::Inline(v, _) if !v.is_full() => v.push(value),
@@ -64,7 +62,7 @@ impl<A: Array> TinyVec<A> {
     /// Appends `value`, and returns it for writing. A full list grows as by `push`. If the allocator refuses, nothing changes and
     /// `value` is returned.
     pub fn push_mut(&mut self, value: A::Item) -> Result<&mut A::Item, NoMemory<A::Item>>
-        ensures* writes_back { sem 𝓛 (lends_added A.row A.Len.row A.Item.row A.Slots self.entry A.Item.Default A.CAPACITY
+        ensures* writes_back { sem 𝓛 (lends_added A.row A.Len.row A.Item.row A.Slots self.entry A.CAPACITY
             (λ x. tiny_items_of A.Slots self.old ++ x ∷ []) result) }
         ensures value { IfOk result (λ x. x.now ≡ value) }
         ensures succeeds { tiny_len_of A.Slots self.old < tiny_capacity A.CAPACITY self.old → IsOk result }
@@ -90,8 +88,7 @@ impl<A: Array> TinyVec<A> {
     {
         match self {
             TinyVec::Inline(v, _) => {
-                // Tells the proof how many slots there are.
-                let _slots = slot_count(v);
+                knows_slots(v);
                 v.pop()
             }
             TinyVec::Heap(v) => v.pop(),
@@ -107,8 +104,7 @@ impl<A: Array> TinyVec<A> {
     {
         match self {
             TinyVec::Inline(v, _) => {
-                // Tells the proof how many slots there are.
-                let _slots = slot_count(v);
+                knows_slots(v);
                 v.insert(index, element)
             }
             TinyVec::Heap(v) => {
@@ -128,14 +124,13 @@ impl<A: Array> TinyVec<A> {
             (tiny_items_of A.Slots self.old) index element else tiny_items_of A.Slots self.old) }
         ensures len { tiny_len_of A.Slots self.new ≡
             (if is_ok result then tiny_len_of A.Slots self.old + 1 else tiny_len_of A.Slots self.old) }
-        ensures room { MakesRoom Doubles A.Item.is_default A.CAPACITY (tiny_len_of A.Slots self.old + 1)
+        ensures room { MakesRoom false A.CAPACITY (tiny_len_of A.Slots self.old + 1)
             (tiny_view_of A.Slots self.old) (tiny_view_of A.Slots self.new) result }
         ensures succeeds_inline { IsInline self.old → tiny_len_of A.Slots self.old < A.CAPACITY → IsOk result }
         ensures full { OnErr result (tiny_len_of A.Slots self.old ≡ tiny_capacity A.CAPACITY self.old) }
         ensures value_returned { IfErr result (λ refused. refused.0 ≡ element) }
     {
-        // Tells the proof how many slots there are.
-        let _len = self.len();
+        self.knows_room();
         match self {
             TinyVec::Inline(v, _) if !v.is_full() => v.insert(index, element),
             TinyVec::Heap(v) if v.len() < v.capacity() => {
@@ -159,7 +154,7 @@ impl<A: Array> TinyVec<A> {
         element: A::Item,
     ) -> Result<&mut A::Item, NoMemory<A::Item>>
         requires { index ≤ tiny_len_of A.Slots self.old }
-        ensures* writes_back { sem 𝓛 (lends_added A.row A.Len.row A.Item.row A.Slots self.entry A.Item.Default A.CAPACITY
+        ensures* writes_back { sem 𝓛 (lends_added A.row A.Len.row A.Item.row A.Slots self.entry A.CAPACITY
             (insert (tiny_items_of A.Slots self.old) index) result) }
         ensures value { IfOk result (λ x. x.now ≡ element) }
         ensures succeeds { tiny_len_of A.Slots self.old < tiny_capacity A.CAPACITY self.old → IsOk result }
@@ -184,8 +179,7 @@ impl<A: Array> TinyVec<A> {
     {
         match self {
             TinyVec::Inline(v, _) => {
-                // Tells the proof how many slots there are.
-                let _slots = slot_count(v);
+                knows_slots(v);
                 v.remove(index)
             }
             TinyVec::Heap(v) => remove_on_heap(v, index),
@@ -201,8 +195,7 @@ impl<A: Array> TinyVec<A> {
     {
         match self {
             TinyVec::Inline(v, _) => {
-                // Tells the proof how many slots there are.
-                let _slots = slot_count(v);
+                knows_slots(v);
                 v.swap_remove(index)
             }
             TinyVec::Heap(v) => v.swap_remove(index),
@@ -218,8 +211,7 @@ impl<A: Array> TinyVec<A> {
     {
         match self {
             TinyVec::Inline(v, _) => {
-                // Tells the proof how many slots there are.
-                let _slots = slot_count(v);
+                knows_slots(v);
                 v.truncate(new_len)
             }
             TinyVec::Heap(v) => v.truncate(new_len),
@@ -233,8 +225,6 @@ impl<A: Array> TinyVec<A> {
     {
         match self {
             TinyVec::Inline(v, _) => {
-                // Tells the proof how many slots there are.
-                let _slots = slot_count(v);
                 v.clear();
                 // After these writes LLVM has lost variant and length; setting the length restores both.
                 match self {
@@ -261,8 +251,7 @@ impl<A: Array> TinyVec<A> {
     {
         match self {
             TinyVec::Inline(v, alloc) => {
-                // Tells the proof how many slots there are.
-                let _slots = slot_count(v);
+                knows_slots(v);
                 Ok(TinyVec::Inline(v.split_off(at), *alloc))
             }
             TinyVec::Heap(v) => {

@@ -2,10 +2,10 @@
 ghost use Rattle.std.specs.Prelude.{◌≡◌, ◌+◌, ◌≤◌, ◌++◌, ℕ, All, length, take, drop, slice_range, IsOk, OnOk, OnErr, if◌then◌else◌, is_ok, ◌<◌, [], ◌-◌, ◌*◌, ◌↔◌, ◌∷◌, List, Some, MatchResult, IfOk, IfErr, vec_capacity, max, replicate};
 ghost use Rattle.std.specs.List.{AppendsClones, AppendsResults};
 ghost use Rattle.tinyvec_slots.specs.Clones.{ClonesAreEqual, AppendsAllOrNone};
-ghost use Rattle.tinyvec.specs.TinyVec.{tiny_items_of, tiny_len_of, tiny_capacity, IsInline, tiny_view_of};
-ghost use Rattle.tinyvec.specs.View.{PlaceRule, StaysInPlace, Becomes};
+ghost use Rattle.tinyvec.specs.TinyVec.{tiny_items_of, tiny_len_of, tiny_capacity, is_inline, IsInline, tiny_view_of};
+ghost use Rattle.tinyvec.specs.View.{PlaceRule, TinySlotRule, StaysInPlace, Becomes};
 ghost use Rattle.tinyvec.specs.Refused.{RefusedFor, ClonesBehind, ClonesInRoom, ClonesRefused};
-ghost use Rattle.tinyvec.specs.Room.{GrowsFor, RoomGrows, MakesRoom, Grows, Collects};
+ghost use Rattle.tinyvec.specs.Room.{MakesRoom, Grows, Collects};
 ghost use Rattle.tinyvec_slots.specs.Slots.{AreDefaults};
 ghost use Rattle.tinyvec_array.specs.ArrayVec.{items_of, len_of, Grows as GrowsInSlots};
 ghost use Rattle.std.specs.Iterator.{IsFinite, Drains, YieldsThen, size};
@@ -14,7 +14,7 @@ ghost use Rattle.tinyvec_slots.specs.Filling.{ShowsItems, IntoIterYields, Append
 ghost use Rattle.tinyvec.specs.Following.{Follows, FillsRoom, PushesItems};
 
 use crate::TinyVec;
-use crate::tiny_vec::slot_count;
+use crate::tiny_vec::knows_slots;
 use crate::tuned::{push_clones_of, push_clones_within, push_copies, push_many_clones};
 use std::alloc::{AllocError, Global};
 use std::iter::ExactSizeIterator;
@@ -34,8 +34,7 @@ impl<A: Array> TinyVec<A> {
     {
         match self {
             TinyVec::Inline(v, _) => {
-                // Tells the proof how many slots there are.
-                let _slots = slot_count(v);
+                knows_slots(v);
                 v.extend_from_slice(other)
             }
             TinyVec::Heap(v) => push_many_clones(v, other),
@@ -50,8 +49,9 @@ impl<A: Array> TinyVec<A> {
         A::Item: Clone,
         ensures clones { AppendsAllOrNone A.Item.is_clone other.now
             result (tiny_items_of A.Slots self.old) (tiny_items_of A.Slots self.new) }
-        ensures room { RoomGrows GrowsFor A.Item.is_default A.CAPACITY (tiny_len_of A.Slots self.old + length other.now)
-            (tiny_view_of A.Slots self.old) (tiny_view_of A.Slots self.new) result }
+        ensures room { OnOk result (MakesRoom (is_inline self.old) A.CAPACITY (tiny_len_of A.Slots self.old
+            + length other.now) (tiny_view_of A.Slots self.old) (tiny_view_of A.Slots self.new) result) }
+        ensures fits { tiny_len_of A.Slots self.new ≤ tiny_capacity A.CAPACITY self.new }
 
         // If there is room only clones allocate.
         ensures succeeds { tiny_len_of A.Slots self.old + length other.now ≤ tiny_capacity A.CAPACITY self.old
@@ -59,8 +59,7 @@ impl<A: Array> TinyVec<A> {
         ensures refused { OnErr result (ClonesRefused A.Item.Clone A.CAPACITY other.now
             (tiny_view_of A.Slots self.old) (tiny_view_of A.Slots self.new)) }
     {
-        // Tells the proof how many slots there are.
-        let _len = self.len();
+        self.knows_room();
         match self {
             TinyVec::Inline(v, _) if other.len() <= v.capacity() - v.len() => v.extend_from_slice(
                 other,
@@ -84,10 +83,11 @@ impl<A: Array> TinyVec<A> {
         ensures clones { AppendsAllOrNone A.Item.is_clone
             (removed (tiny_items_of A.Slots self.old) (R.start_bound range) (R.end_bound range))
             result (tiny_items_of A.Slots self.old) (tiny_items_of A.Slots self.new) }
-        ensures room { RoomGrows GrowsFor A.Item.is_default A.CAPACITY
+        ensures room { OnOk result (MakesRoom (is_inline self.old) A.CAPACITY
             (tiny_len_of A.Slots self.old + length (removed (tiny_items_of A.Slots self.old) (R.start_bound range)
             (R.end_bound range)))
-            (tiny_view_of A.Slots self.old) (tiny_view_of A.Slots self.new) result }
+            (tiny_view_of A.Slots self.old) (tiny_view_of A.Slots self.new) result) }
+        ensures fits { tiny_len_of A.Slots self.new ≤ tiny_capacity A.CAPACITY self.new }
 
         // If there is room only clones allocate.
         ensures succeeds { tiny_len_of A.Slots self.old
@@ -118,8 +118,7 @@ impl<A: Array> TinyVec<A> {
     {
         match self {
             TinyVec::Inline(v, _) => {
-                // Tells the proof how many slots there are.
-                let _slots = slot_count(v);
+                knows_slots(v);
                 v.extend_from_within(start..end)
             }
             TinyVec::Heap(v) => push_clones_within(v, start, end),
@@ -137,8 +136,7 @@ impl<A: Array> TinyVec<A> {
     {
         match self {
             TinyVec::Inline(v, _) => {
-                // Tells the proof how many slots there are.
-                let _slots = slot_count(v);
+                knows_slots(v);
                 v.extend_from_slice_copy(other)
             }
             TinyVec::Heap(v) => push_copies(v, other),
@@ -153,7 +151,7 @@ impl<A: Array> TinyVec<A> {
         A::Item: Copy,
         ensures items { tiny_items_of A.Slots self.new
             ≡ (if is_ok result then tiny_items_of A.Slots self.old ++ other.now else tiny_items_of A.Slots self.old) }
-        ensures room { MakesRoom GrowsFor A.Item.is_default A.CAPACITY
+        ensures room { MakesRoom (is_inline self.old) A.CAPACITY
             (tiny_len_of A.Slots self.old + length other.now) (tiny_view_of A.Slots self.old)
             (tiny_view_of A.Slots self.new) result }
     {
@@ -191,7 +189,7 @@ impl<A: Array> TinyVec<A> {
     pub fn append(&mut self, other: &mut Self) -> Result<(), AllocError>
         ensures items { OnOk result (tiny_items_of A.Slots self.new ≡ tiny_items_of A.Slots self.old
             ++ tiny_items_of A.Slots other.old) }
-        ensures room { MakesRoom GrowsFor A.Item.is_default A.CAPACITY
+        ensures room { MakesRoom (is_inline self.old) A.CAPACITY
             (tiny_len_of A.Slots self.old + tiny_len_of A.Slots other.old)
             (tiny_view_of A.Slots self.old) (tiny_view_of A.Slots self.new) result }
         ensures other { Becomes A.Item.is_default A.CAPACITY (tiny_view_of A.Slots other.old)
@@ -245,7 +243,7 @@ impl<A: Array> TinyVec<A> {
             × (length xs ≤ size (I.IntoIter.remaining it)) × (tiny_items_of A.Slots self.new
             ≡ tiny_items_of A.Slots self.old ++ xs))
             (λ refused. refused.0 ≡ it)
-            × MakesRoom GrowsFor A.Item.is_default A.CAPACITY (tiny_len_of A.Slots self.old + size
+            × MakesRoom (is_inline self.old) A.CAPACITY (tiny_len_of A.Slots self.old + size
             (I.IntoIter.remaining it))
             (tiny_view_of A.Slots self.old) (tiny_view_of A.Slots self.new) result }
 
@@ -285,8 +283,7 @@ impl<A: Array> TinyVec<A> {
         ensures grows { Grows A.Item.is_default A.CAPACITY (tiny_view_of A.Slots self.old)
             (tiny_view_of A.Slots self.new) }
     {
-        // Shows the proof that an empty iterator leaves a list that fits.
-        let _len = self.len();
+        self.knows_room();
         let mut items = iter;
         loop {
             match self.fill_room(items) {
@@ -371,8 +368,11 @@ impl<A: Array> TinyVec<A> {
         ensures if_clones_equal { OnOk result (ClonesAreEqual A.Item.is_clone
             → tiny_items_of A.Slots self.new ≡ take new_len (tiny_items_of A.Slots self.old) ++ replicate
             (new_len - tiny_len_of A.Slots self.old) value) }
-        ensures room { RoomGrows GrowsFor A.Item.is_default A.CAPACITY new_len (tiny_view_of A.Slots self.old)
-            (tiny_view_of A.Slots self.new) result }
+        ensures room { OnOk result (MakesRoom (is_inline self.old) A.CAPACITY new_len (tiny_view_of A.Slots self.old)
+            (tiny_view_of A.Slots self.new) result) }
+        ensures slot_rule { OnOk result (TinySlotRule A.Item.is_default (tiny_view_of A.Slots self.old)
+            (tiny_view_of A.Slots self.new)) }
+        ensures fits { tiny_len_of A.Slots self.new ≤ tiny_capacity A.CAPACITY self.new }
         ensures place { OnOk result (PlaceRule A.CAPACITY (max new_len (tiny_len_of A.Slots self.old))
             (tiny_view_of A.Slots self.old) (tiny_view_of A.Slots self.new)) }
 
@@ -412,8 +412,7 @@ impl<A: Array> TinyVec<A> {
     {
         match self {
             TinyVec::Inline(v, _) => {
-                // Tells the proof how many slots there are.
-                let _slots = slot_count(v);
+                knows_slots(v);
                 let len = v.len() + n;
                 v.resize(len, x)
             }
@@ -435,8 +434,10 @@ impl<A: Array> TinyVec<A> {
         ensures items { OnOk result (AppendsResults F.step (take new_len (tiny_items_of A.Slots self.old))
             (tiny_items_of A.Slots self.new) f) }
         ensures len { OnOk result (tiny_len_of A.Slots self.new ≡ new_len) }
-        ensures room { MakesRoom GrowsFor A.Item.is_default A.CAPACITY new_len (tiny_view_of A.Slots self.old)
+        ensures room { MakesRoom (is_inline self.old) A.CAPACITY new_len (tiny_view_of A.Slots self.old)
             (tiny_view_of A.Slots self.new) result }
+        ensures slot_rule { TinySlotRule A.Item.is_default (tiny_view_of A.Slots self.old)
+            (tiny_view_of A.Slots self.new) }
         ensures place { OnOk result (PlaceRule A.CAPACITY (max new_len (tiny_len_of A.Slots self.old))
             (tiny_view_of A.Slots self.old) (tiny_view_of A.Slots self.new)) }
     {
@@ -454,8 +455,10 @@ impl<A: Array> TinyVec<A> {
             (take n (tiny_items_of A.Slots self.old)) (tiny_items_of A.Slots self.new) f.old f.new) }
         ensures unasked { OnErr result (f.new ≡ f.old) }
         ensures len { OnOk result (tiny_len_of A.Slots self.new ≡ n) }
-        ensures room { MakesRoom GrowsFor A.Item.is_default A.CAPACITY n (tiny_view_of A.Slots self.old)
+        ensures room { MakesRoom (is_inline self.old) A.CAPACITY n (tiny_view_of A.Slots self.old)
             (tiny_view_of A.Slots self.new) result }
+        ensures slot_rule { TinySlotRule A.Item.is_default (tiny_view_of A.Slots self.old)
+            (tiny_view_of A.Slots self.new) }
         ensures place { OnOk result (PlaceRule A.CAPACITY (max n (tiny_len_of A.Slots self.old))
             (tiny_view_of A.Slots self.old) (tiny_view_of A.Slots self.new)) }
     {
@@ -496,8 +499,7 @@ fn fill_array<A: Array, I: Iterator<Item = A::Item>>(
     ensures grows { GrowsInSlots A.Slots vec.old vec.new }
     ensures fits { len_of A.Slots vec.new ≤ A.CAPACITY }
 {
-    // Tells the proof how many slots there are.
-    let _slots = slot_count(vec);
+    knows_slots(vec);
     let len = vec.len();
     match fill_slots(vec.grab_spare_slice_mut(), iter) {
         Ok(count) => {

@@ -9,7 +9,7 @@ ghost use Rattle.tinyvec.specs.TinyVec.{tiny_items_of, tiny_len_of, tiny_view_of
 ghost use Rattle.tinyvec.specs.View.{StaysInPlace, ShortensInPlace, Becomes};
 
 use crate::TinyVec;
-use crate::tiny_vec::slot_count;
+use crate::tiny_vec::knows_slots;
 use std::ops::RangeBounds;
 use tinyvec_array::Array;
 use tinyvec_slots::{ExtractIf, resolve_range};
@@ -25,8 +25,7 @@ impl<A: Array> TinyVec<A> {
     {
         match self {
             TinyVec::Inline(v, _) => {
-                // Tells the proof how many slots there are.
-                let _slots = slot_count(v);
+                knows_slots(v);
                 tinyvec_slots::retain(v, &mut f)
             }
             TinyVec::Heap(v) => v.retain(f),
@@ -44,8 +43,7 @@ impl<A: Array> TinyVec<A> {
     {
         match self {
             TinyVec::Inline(v, _) => {
-                // Tells the proof how many slots there are.
-                let _slots = slot_count(v);
+                knows_slots(v);
                 tinyvec_slots::retain_mut(v, &mut f)
             }
             TinyVec::Heap(v) => v.retain_mut(f),
@@ -74,8 +72,7 @@ impl<A: Array> TinyVec<A> {
     {
         match self {
             TinyVec::Inline(v, _) => {
-                // Tells the proof how many slots there are.
-                let _slots = slot_count(v);
+                knows_slots(v);
                 tinyvec_slots::dedup_by(v, &mut same)
             }
             TinyVec::Heap(v) => v.dedup_by(same),
@@ -93,8 +90,7 @@ impl<A: Array> TinyVec<A> {
     {
         match self {
             TinyVec::Inline(v, _) => {
-                // Tells the proof how many slots there are.
-                let _slots = slot_count(v);
+                knows_slots(v);
                 tinyvec_slots::dedup_by_key(v, &mut key)
             }
             TinyVec::Heap(v) => v.dedup_by_key(key),

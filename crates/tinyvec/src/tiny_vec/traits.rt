@@ -1,7 +1,7 @@
 //! Comparisons, hashes, texts, writers, indexing and iteration.
 ghost use Rattle.std.specs.Prelude.{◌≡◌, ◌<◌, ◌≤◌, slice_index_or, List, length, true, false, ◌+◌, ◌++◌, Some, IfOk, IfErr, IsOk, OnErr, ⊤};
 ghost use Rattle.std.specs.Borrow.{sem};
-ghost use Rattle.tinyvec.specs.TinyVec.{tiny_items_of, tiny_len_of, tiny_capacity, tiny_view_of};
+ghost use Rattle.tinyvec.specs.TinyVec.{tiny_items_of, tiny_len_of, tiny_capacity, is_inline, tiny_view_of};
 ghost use Rattle.tinyvec.specs.View.{IsNew};
 ghost use Rattle.std.specs.Iterator.{IsFinite, HoldsAlong, DrainsIf, YieldsThen, ExtendsWithItems};
 ghost use Rattle.tinyvec_slots.specs.Filling.{Iterates, IteratesMut, IntoIterYields};
@@ -16,7 +16,7 @@ ghost use Rattle.std.specs.Io.{WritesAtMost};
 ghost use Rattle.std.specs.IoError.{error_kind};
 ghost use Rattle.std.specs.declared.io.ErrorKind.TheVariants.{OutOfMemory};
 ghost use Rattle.std.specs.Io.KnownBytes.{Keeps, WriteAppends};
-ghost use Rattle.tinyvec.specs.Room.{GrowsFor, MakesRoom, Grows, Collects};
+ghost use Rattle.tinyvec.specs.Room.{MakesRoom, Grows, Collects};
 ghost use Rattle.std.specs.Hash as fed;
 
 use crate::{TinyVec, TinyVecIterator};
@@ -347,7 +347,7 @@ impl<A: Array<Item = u8>> io::Write for TinyVec<A> {
         ensures bytes { WriteAppends (Some (tiny_items_of A.Slots self.old)) (Some
             (tiny_items_of A.Slots self.new)) result buf.now }
         ensures count { IfOk result (λ n. n ≡ length buf.now) }
-        ensures room { MakesRoom GrowsFor ⟦<u8 as Default>⟧.is_default A.CAPACITY
+        ensures room { MakesRoom (is_inline self.old) A.CAPACITY
             (tiny_len_of A.Slots self.old + length buf.now)
             (tiny_view_of A.Slots self.old) (tiny_view_of A.Slots self.new) result }
         ensures kind { IfErr result (λ e. error_kind e ≡ OutOfMemory) }

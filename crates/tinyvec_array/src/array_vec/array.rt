@@ -7,11 +7,13 @@ ghost use Rattle.tinyvec_slots.specs.Clones.{RefusedAt, ClonesAreEqual, AreClone
 ghost use Rattle.tinyvec_slots.specs.Filling.{Collects};
 ghost use Rattle.tinyvec_array.specs.ArrayVec.{view_of, items_of, spare_of, slots_of, len_of, SameLender, Loses};
 
+use crate::parts::part_of;
+use crate::places::knows_slots;
 use crate::{
     Array, ArrayVec, ArrayVecIterator, FromIterRest, NoMemory, NoRoom, Slots, TryFromSliceError,
 };
 use std::alloc::AllocError;
-use tinyvec_slots::{clone_each, clone_over_from, into_items, part_of};
+use tinyvec_slots::{clone_each, clone_over_from, into_items};
 
 impl<A: Array> ArrayVec<A> {
     ghost use Rattle.tinyvec_array.specs.Lends.{lends_array_of};
@@ -67,8 +69,7 @@ impl<A: Array> ArrayVec<A> {
         ensures value { view_of A.Slots result ≡ split_at len (A.Slots.slots array) }
         ensures slot_count { length (A.Slots.slots array) ≡ A.CAPACITY }
     {
-        // Tells the proof how many slots there are.
-        let _slots = array.all();
+        knows_slots(&array);
         ArrayVec {
             len: array.to_len(len),
             slots: array,
@@ -132,7 +133,7 @@ impl<A: Array> ArrayVec<A> {
     {
         let len = self.len();
         let mut back = ArrayVec::new();
-        back.append_slots(part_of(self, at, len));
+        back.append_slots(part_of(&mut self.slots, at, len));
         self.set_len(at);
         back
     }
@@ -233,8 +234,7 @@ impl<A: Array> ArrayVec<A> {
     {
         let len = source.len();
         self.truncate(len);
-        // Tells the proof how many slots there are.
-        let _len = self.len();
+        knows_slots(&self.slots);
         clone_over_from(self.slots.all_mut(), 0, source.as_slice())?;
         self.set_len(len);
         Ok(())
@@ -281,7 +281,6 @@ where
     ensures refused { OnErr result ((j : ℕ) × RefusedAt A.Item.is_infallible (A.Slots.slots from.now) j) }
     ensures succeeds { All A.Item.is_infallible (A.Slots.slots from.now) → IsOk result }
 {
-    // Tells the proof how many slots there are.
-    let _slots = to.all();
+    knows_slots(to);
     clone_each(to.all_mut(), from.all())
 }

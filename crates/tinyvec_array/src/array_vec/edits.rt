@@ -4,10 +4,11 @@ ghost use Rattle.tinyvec_array.specs.ArrayVec.{items_of, spare_of, slots_of, len
 ghost use Rattle.std.specs.Borrow.{sem};
 ghost use Rattle.std.specs.List.{swap_remove, SwappedAt};
 
+use crate::parts::slot_of;
 use crate::places::{bounded_index, prefers_shifting_in};
 use crate::{ArrayVec, Slots};
 use std::mem;
-use tinyvec_slots::{fill_default, insert_shifting, last_to, remove_shifting, slot_of};
+use tinyvec_slots::{fill_default, insert_shifting, last_to, remove_shifting};
 
 impl<S: Slots> ArrayVec<S> {
     /// Appends `value`.
@@ -44,7 +45,7 @@ impl<S: Slots> ArrayVec<S> {
     {
         let len = self.len();
         self.len = self.slots.to_len(len + 1);
-        let slot = slot_of(self, len);
+        let slot = slot_of(&mut self.slots, len);
         *slot = value;
         slot
     }
@@ -83,7 +84,7 @@ impl<S: Slots> ArrayVec<S> {
         ensures value { result.now ≡ element }
     {
         self.put_in(index, element);
-        slot_of(self, index)
+        slot_of(&mut self.slots, index)
     }
 
     // Inserts `element` at `index`, by one write of the slots.

@@ -11,6 +11,7 @@ ghost use Rattle.std.specs.Fmt.{DisplaysOnOk, debug_list};
 ghost use Rattle.tinyvec_slots.specs.Texts.{list_in_radix};
 ghost use Rattle.std.specs.Hash as fed;
 
+use crate::parts::slot_of;
 use crate::{ArrayVec, Slots, TakesClones};
 use std::cmp::Ordering;
 use std::fmt::HasDigits;
@@ -19,7 +20,7 @@ use std::ops::{DerefSlice, DerefSliceMut, Index, IndexMut};
 use std::{fmt, slice};
 use tinyvec_slots::{
     InBinary, InHex, InOctal, InUpperHex, Plain, cmp_slices, eq_slices, hash_items,
-    partial_cmp_slices, slot_of, write_items,
+    partial_cmp_slices, write_items,
 };
 
 impl<S: Slots> Index<usize> for ArrayVec<S> {
@@ -40,7 +41,7 @@ impl<S: Slots> IndexMut<usize> for ArrayVec<S> {
         ensures* writes_back { sem 𝓛 (lends_item S.row S.Len.row S.Item.row S.Slots self.entry index result) }
         ensures value { result.now ≡ slice_index_or (items_of S.Slots self.old) index result.now }
     {
-        slot_of(self, index)
+        slot_of(&mut self.slots, index)
     }
 }
 

@@ -1,5 +1,5 @@
 -- Examples of a drain of `[1, 2, 3, 4] [0]` over 1..3, from which nothing was taken.
-use Rattle.std.proofs.Common.{◌≡◌, ℕ, List, [], ◌∷◌, ◌++◌, Some, refl, rules}
+use Rattle.std.proofs.Common.{◌≡◌, ℕ, List, [], ◌∷◌, ◌++◌, Some, Ok, Vec, Global, vec_items, refl, rules}
 use Rattle.std.specs.Borrow.{MutBor}
 use Rattle.tinyvec_slots.specs.Ends.{RunsWord, TakesFromEnds, front, back}
 use Rattle.tinyvec_array.proofs.Named.{array_slots}
@@ -8,7 +8,7 @@ use Rattle.tinyvec_array.specs.declared.bound.UpTo.{UpTo}
 use Rattle.tinyvec_array.specs.declared.array_vec.ArrayVec.{ArrayVec}
 use Rattle.tinyvec_array.specs.declared.drain.ArrayVecDrain.{ArrayVecDrain}
 use Rattle.tinyvec_array.specs.ArrayVec.{name_of}
-use Rattle.tinyvec_array.specs.Drain.{drain_items, drain_left, drain_kept, drain_count, drain_spare, drain_lender, drain_name, DrainCanStep, DrainLeaves, DrainSteps, DrainStepsBack, DrainsFromEnds, DrainBegins}
+use Rattle.tinyvec_array.specs.Drain.{drain_items, drain_left, drain_kept, drain_count, drain_spare, drain_lender, drain_name, DrainCanStep, DrainLeaves, DrainSteps, DrainStepsBack, DrainsFromEnds, DrainBegins, DrainsToVec}
 use Rattle.tinyvec_examples.proofs.words.Shown.{D, array_over}
 
 -- an array of 5 slots
@@ -54,3 +54,6 @@ module _ (d e : ArrayVecDrain (List ℕ) ℕ (UpTo 5)) (vec : d.vec.now ≡ arra
 
   pub example-DrainBegins : (v : MutBor (ArrayVec (List ℕ) (UpTo 5))) → DrainBegins G v (2 ∷ 3 ∷ []) (1 ∷ 4 ∷ []) d → drain_items G d ≡ 2 ∷ 3 ∷ []
   example-DrainBegins v h = h.rest
+
+pub example-DrainsToVec : (v : Vec ℕ Global) (new : ArrayVec (List ℕ) (UpTo 5)) → DrainsToVec G {E = ℕ} D 2 (array_over (1 ∷ 2 ∷ []) (0 ∷ 0 ∷ 0 ∷ [])) new (Ok v) → vec_items v ≡ 1 ∷ 2 ∷ []
+example-DrainsToVec v new h = h.moved

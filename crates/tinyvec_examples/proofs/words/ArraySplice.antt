@@ -10,7 +10,7 @@ use Rattle.tinyvec_array.specs.ArrayVec.{view}
 use Rattle.tinyvec_array.specs.declared.storage.Slots as Storage
 use Rattle.tinyvec_array.specs.declared.bound.UpTo.{UpTo}
 use Rattle.tinyvec_array.specs.declared.splice.ArrayVecSplice.{ArrayVecSplice}
-use Rattle.tinyvec_array.specs.Splice.{splice_view, splice_front, splice_left, splice_len, splice_back, splice_replacement, splice_touches, splice_slots, splice_lender, SpliceCanStep, SpliceCanNext, SpliceSteps, SpliceStepsBack, SpliceBegins, SpliceEnds}
+use Rattle.tinyvec_array.specs.Splice.{splice_view, splice_front, splice_left, splice_len, splice_back, splice_replacement, splice_touches, splice_slots, splice_lender, SpliceCanStep, SpliceCanNext, SpliceSteps, SpliceStepsBack, SpliceEnds}
 use Rattle.tinyvec_examples.proofs.words.Shown.{D, array_over}
 
 -- an array of 5 slots
@@ -56,15 +56,6 @@ module _ (s t : ArrayVecSplice (List ℕ) (Fuse (List ℕ)) ℕ (UpTo 5)) (vec :
 
   pub example-SpliceStepsBack : (gives : Fuse (List ℕ) → Option ℕ → Fuse (List ℕ) → Type 0) → SpliceStepsBack G gives s (Some 3) t → splice_left G s ≡ splice_left G t ++ 3 ∷ []
   example-SpliceStepsBack gives h = h.0.left
-
-  pub example-SpliceBegins : SpliceBegins G (1 ∷ []) (2 ∷ 3 ∷ []) (4 ∷ []) s
-  example-SpliceBegins = record {
-    front = example-splice_front;
-    left = example-splice_left;
-    len = rw (next, end, vec) refl;
-    back = example-splice_back;
-    touches = touches;
-  }
 
   pub example-SpliceEnds : (iter : Iterator.Ghosts (List ℕ) ℕ) → SpliceEnds G D iter s (Ok tt) (array_over (1 ∷ 7 ∷ 4 ∷ []) (0 ∷ 0 ∷ [])) → SlotRule D (view (splice_slots s)) (view (array_over (1 ∷ 7 ∷ 4 ∷ []) (0 ∷ 0 ∷ [])))
   example-SpliceEnds iter h = h.changes.slot_rule

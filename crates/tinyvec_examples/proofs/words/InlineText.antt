@@ -1,10 +1,10 @@
 -- Examples of a text in the value, with room for four bytes, as `ab`.
-use Rattle.std.proofs.Common.{◌≡◌, ℕ, List, [], ◌∷◌, ◌++◌, Ok, Result, false, true, ap, sym, refl, rules}
+use Rattle.std.proofs.Common.{◌≡◌, ℕ, List, [], ◌∷◌, ◌++◌, Ok, Result, false, ap, sym, refl, rules}
 use Rattle.std.proofs.lemmas.Str.{chars-nil}
 use Rattle.std.specs.Prelude.{All, chars}
 use Rattle.tinyvec.specs.View.{in_array, on_heap, lies_inline, capacity_in}
 use Rattle.tinyvec.specs.TinyVec.{tiny_items, tiny_spare}
-use Rattle.tinyvec_text.specs.InlineText.{Text, Bytes, text_of, text_chars, text_len, IsText, TextStaysInPlace, TextBecomes, TextKeepsFront, TextMakesRoom, TextReserves, TextShrinks, TextExtends, TextMadeFor, TextCollects, IsTextTail, IsBoundary, empty_text, place_after, place_after_chars, place_after_texts}
+use Rattle.tinyvec_text.specs.InlineText.{Text, Bytes, text_of, text_view, text_chars, text_len, IsText, TextStaysInPlace, TextBecomes, TextKeepsFront, TextReserves, TextShrinks, TextExtends, TextMadeFor, TextCollects, IsTextTail, IsBoundary, empty_text, place_after, place_after_chars, place_after_texts}
 
 -- these bytes, in the value
 abbrev pub inline : List ℕ → Text
@@ -25,6 +25,9 @@ example-lies_inline = refl
 
 pub example-capacity_in : capacity_in 4 in_array ≡ 4
 example-capacity_in = refl
+
+pub example-text_view : (text_view (inline (97 ∷ 98 ∷ []))).items ≡ 97 ∷ 98 ∷ []
+example-text_view = refl
 
 pub example-text_len : text_len (inline (97 ∷ 98 ∷ [])) ≡ 2
 example-text_len = refl
@@ -61,9 +64,6 @@ example-TextCollects = search rules
 
 pub example-IsTextTail : IsTextTail 4 1 (inline (97 ∷ 98 ∷ [])) (inline (98 ∷ []))
 example-IsTextTail = search rules
-
-pub example-TextMakesRoom : TextMakesRoom true 4 4 (inline (97 ∷ 98 ∷ [])) (inline (97 ∷ 98 ∷ [])) done
-example-TextMakesRoom = search rules
 
 pub example-TextExtends : TextExtends 4 (inline (97 ∷ [])) (inline (97 ∷ 98 ∷ []))
 example-TextExtends = search rules

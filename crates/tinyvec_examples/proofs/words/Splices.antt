@@ -2,7 +2,7 @@
 use Rattle.std.proofs.Common.{◌≡◌, ℕ, List, [], ◌∷◌, ◌++◌, Some, Ok, Result, false, codes, refl, rules, arith}
 use Rattle.std.specs.Fmt.{radix_digits}
 use Rattle.tinyvec_slots.specs.declared.no_room.SpliceRest.{SpliceRest}
-use Rattle.tinyvec_slots.specs.AnySplice.{SpliceView, FinishTouches, Finishes, FinishesWith}
+use Rattle.tinyvec_slots.specs.AnySplice.{SpliceView, SpliceBegins, FinishTouches, Finishes, FinishesWith}
 use Rattle.tinyvec_slots.specs.Replacing.{PutsBetween}
 use Rattle.tinyvec_slots.specs.Texts.{list_in_radix}
 use Rattle.tinyvec_array.specs.IntoIter.{GivesFirst}
@@ -20,6 +20,9 @@ s replacement = record {
 
 abbrev pub done : Result Unit (SpliceRest ℕ (List ℕ))
 done = Ok _
+
+pub example-SpliceBegins : SpliceBegins (1 ∷ []) (2 ∷ 3 ∷ []) (4 ∷ []) (s (7 ∷ [])) 2
+example-SpliceBegins = search rules
 
 -- one item is placed and one slot closed, over which the last item moves
 pub example-FinishTouches : FinishTouches (s (7 ∷ [])) 4 0 (1 ∷ 7 ∷ 4 ∷ []) 4

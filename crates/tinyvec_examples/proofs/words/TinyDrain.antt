@@ -1,10 +1,11 @@
 -- Examples of a drain d of `[1, 2, 3, 4]` over 1..3, from which nothing was taken, and of one e that a call leaves.
 use Rattle.std.proofs.Common.{◌≡◌, ℕ, List, [], ◌∷◌, ◌++◌, Some, refl, ◌∙◌, rules}
+use Rattle.std.specs.Borrow.{MutBor}
 use Rattle.tinyvec_slots.specs.Ends.{RunsWord, TakesFromEnds, front, back}
 use Rattle.tinyvec.specs.declared.tiny_vec.TinyVec.{TinyVec}
 use Rattle.tinyvec.specs.declared.drain.TinyVecDrain.{TinyVecDrain}
 use Rattle.tinyvec.specs.TinyVec.{tiny_items}
-use Rattle.tinyvec.specs.Drain.{drain_items, drain_len, drain_kept, drain_vec, drain_lender, DrainCanStep, DrainLeaves, DrainSteps, DrainStepsBack, DrainsFromEnds}
+use Rattle.tinyvec.specs.Drain.{drain_items, drain_len, drain_kept, drain_vec, drain_lender, DrainCanStep, DrainLeaves, DrainSteps, DrainStepsBack, DrainsFromEnds, DrainBegins}
 use Rattle.tinyvec_array.proofs.Named.{array_slots}
 use Rattle.tinyvec_array.specs.declared.storage.Slots as Storage
 use Rattle.tinyvec_array.specs.declared.bound.UpTo.{UpTo}
@@ -44,3 +45,6 @@ module _ (d e : TinyVecDrain (List ℕ) ℕ (UpTo 4)) (vec : tiny_items d.vec.no
 
   pub example-DrainsFromEnds : DrainsFromEnds G d → RunsWord (DrainSteps G) (DrainStepsBack G) d (front ∷ back ∷ []) (Some 2 ∷ Some 3 ∷ []) e → TakesFromEnds (drain_items G d) (front ∷ back ∷ []) (Some 2 ∷ Some 3 ∷ []) (drain_items G e)
   example-DrainsFromEnds h asked = (h _ _ _ asked).0
+
+  pub example-DrainBegins : (v : MutBor (TinyVec (List ℕ) ℕ (UpTo 4))) → DrainBegins G v (2 ∷ 3 ∷ []) (1 ∷ 4 ∷ []) d → drain_kept G d ≡ 1 ∷ 4 ∷ []
+  example-DrainBegins v h = h.kept

@@ -7,7 +7,7 @@ use Rattle.tinyvec_array.proofs.Named.{array_slots}
 use Rattle.tinyvec_array.specs.declared.storage.Slots as Storage
 use Rattle.tinyvec_array.specs.declared.bound.UpTo.{UpTo}
 use Rattle.tinyvec.specs.declared.splice.TinyVecSplice.{TinyVecSplice}
-use Rattle.tinyvec.specs.TinyVecSplice.{splice_view, splice_front, splice_left, splice_len, splice_back, splice_replacement, splice_touches, splice_vec, splice_lender, SpliceBegins, SpliceCanStep, SpliceCanNext, SpliceSteps, SpliceStepsBack, SpliceEnds}
+use Rattle.tinyvec.specs.TinyVecSplice.{splice_view, splice_front, splice_left, splice_len, splice_back, splice_replacement, splice_touches, splice_vec, splice_lender, SpliceCanStep, SpliceCanNext, SpliceSteps, SpliceStepsBack, SpliceEnds}
 use Rattle.tinyvec.specs.TinyVec.{tiny_items, tiny_len, tiny_capacity}
 use Rattle.tinyvec_examples.proofs.words.Shown.{D}
 use Rattle.tinyvec.specs.declared.tiny_vec.TinyVec.{TinyVec}
@@ -44,15 +44,6 @@ module _ (s t : TinyVecSplice (List ℕ) (Fuse (List ℕ)) ℕ (UpTo 4)) (vec : 
 
   pub example-splice_lender : splice_lender s ≡ s.vec.ghost_name
   example-splice_lender = refl
-
-  pub example-SpliceBegins : SpliceBegins G (1 ∷ []) (2 ∷ 3 ∷ []) (4 ∷ []) s
-  example-SpliceBegins = record {
-    front = example-splice_front;
-    left = example-splice_left;
-    len = rw (vec, next, end) refl;
-    back = example-splice_back;
-    touches = example-splice_touches;
-  }
 
   pub example-SpliceCanStep : SpliceCanStep G s → splice_len s ≤ 4
   example-SpliceCanStep h = search rules

@@ -8,8 +8,8 @@ use Rattle.tinyvec_array.proofs.Named.{array_slots}
 use Rattle.tinyvec.specs.declared.tiny_vec.TinyVec.{TinyVec}
 use Rattle.tinyvec.specs.declared.tiny_vec.TinyVec.TheVariants.{Inline}
 use Rattle.tinyvec.specs.TinyVec.{tiny_items, tiny_items_of, tiny_len_of, tiny_spare, tiny_spare_of, is_inline, IsInline, tiny_capacity, tiny_allocator, tiny_view, tiny_view_of}
-use Rattle.tinyvec.specs.View.{HoldsInline, IsNew, SameFrame, Becomes, StaysInPlace, ShortensInPlace, IsTail, Unchanged, IsTinyClone, IsTinyInfallible, PlaceRule, in_array}
-use Rattle.tinyvec.specs.Room.{Collects, Doubles, GrowsFor, Grows, RoomGrows, MadeFor, GrowsExactly, MakesRoom, MovesToHeap, MovesToHeapWithRoom}
+use Rattle.tinyvec.specs.View.{HoldsInline, IsNew, SameFrame, Becomes, StaysInPlace, ShortensInPlace, IsTail, Unchanged, IsTinyClone, IsTinyInfallible, PlaceRule, TinySlotRule, in_array}
+use Rattle.tinyvec.specs.Room.{Collects, GrowsTo, Grows, MadeFor, MakesRoom, MovesToHeap}
 use Rattle.tinyvec.specs.Refused.{RefusedFor, ClonesBehind, ClonesRefused}
 use Rattle.tinyvec.specs.Following.{PushesItems}
 use Rattle.tinyvec_slots.specs.Filling.{IntoIterYields}
@@ -118,16 +118,13 @@ module _ (alloc : Global) where
 
   -- of tinyvec.specs.Lends: `inline [1] [7, 8, 0]` lent by `lends_added` at the end, by a reference that shows 5 last
   pub example-lends_added : (tiny_items (inline (1 ∷ 5 ∷ []) (8 ∷ 0 ∷ [])) ≡ (1 ∷ []) ++ 5 ∷ [])
-      × RoomGrows Doubles D 4 2 (tiny_view (inline (1 ∷ []) (7 ∷ 8 ∷ 0 ∷ []))) (tiny_view (inline (1 ∷ 5 ∷ []) (8 ∷ 0 ∷ []))) done
+      × MakesRoom false 4 2 (tiny_view (inline (1 ∷ []) (7 ∷ 8 ∷ 0 ∷ []))) (tiny_view (inline (1 ∷ 5 ∷ []) (8 ∷ 0 ∷ []))) done
   example-lends_added = (refl, search rules)
 
   pub example-Grows : Grows D 4 (tiny_view (inline (1 ∷ []) (7 ∷ 8 ∷ 0 ∷ []))) (tiny_view (inline (1 ∷ 5 ∷ []) (8 ∷ 0 ∷ [])))
   example-Grows = search rules
 
-  pub example-RoomGrows : RoomGrows GrowsFor D 4 2 (tiny_view (inline (1 ∷ []) (7 ∷ 8 ∷ 0 ∷ []))) (tiny_view (inline (1 ∷ 5 ∷ []) (8 ∷ 0 ∷ []))) done
-  example-RoomGrows = search rules
-
-  pub example-MakesRoom : MakesRoom Doubles D 4 2 (tiny_view (inline (1 ∷ []) (7 ∷ 8 ∷ 0 ∷ []))) (tiny_view (inline (1 ∷ 5 ∷ []) (8 ∷ 0 ∷ []))) done
+  pub example-MakesRoom : MakesRoom false 4 2 (tiny_view (inline (1 ∷ []) (7 ∷ 8 ∷ 0 ∷ []))) (tiny_view (inline (1 ∷ 5 ∷ []) (8 ∷ 0 ∷ []))) done
   example-MakesRoom = search rules
 
   pub example-MadeFor : MadeFor D 4 2 1 (tiny_view (inline (1 ∷ []) (0 ∷ 0 ∷ 0 ∷ [])))
@@ -136,14 +133,14 @@ module _ (alloc : Global) where
   pub example-PlaceRule : PlaceRule 4 2 (tiny_view (inline (1 ∷ []) (7 ∷ 8 ∷ 0 ∷ []))) (tiny_view (inline (1 ∷ 5 ∷ []) (8 ∷ 0 ∷ [])))
   example-PlaceRule = search rules
 
-  pub example-GrowsExactly : (v : TinyVec (List ℕ) ℕ (UpTo 4)) → GrowsExactly 4 9 (tiny_view (inline (1 ∷ []) (0 ∷ 0 ∷ 0 ∷ []))) (tiny_view v) → tiny_capacity 4 v ≡ 9
-  example-GrowsExactly v h = search rules
+  pub example-TinySlotRule : TinySlotRule D (tiny_view (inline (1 ∷ 2 ∷ []) (7 ∷ 8 ∷ []))) (tiny_view (inline (1 ∷ []) (0 ∷ 7 ∷ 8 ∷ [])))
+  example-TinySlotRule i j = (0 ∷ [], search rules, refl)
 
-  pub example-MovesToHeap : (v : TinyVec (List ℕ) ℕ (UpTo 4)) → MovesToHeap 4 (tiny_view (inline (1 ∷ []) (0 ∷ 0 ∷ 0 ∷ []))) (tiny_view v) done → tiny_capacity 4 v ≡ 1
+  pub example-GrowsTo : (v : TinyVec (List ℕ) ℕ (UpTo 4)) → GrowsTo true 4 9 (tiny_view (inline (1 ∷ []) (0 ∷ 0 ∷ 0 ∷ []))) (tiny_view v) → tiny_capacity 4 v ≡ 9
+  example-GrowsTo v h = search rules
+
+  pub example-MovesToHeap : (v : TinyVec (List ℕ) ℕ (UpTo 4)) → MovesToHeap 4 2 (tiny_view (inline (1 ∷ []) (0 ∷ 0 ∷ 0 ∷ []))) (tiny_view v) done → tiny_capacity 4 v ≡ 3
   example-MovesToHeap v h = search rules
-
-  pub example-MovesToHeapWithRoom : (v : TinyVec (List ℕ) ℕ (UpTo 4)) → MovesToHeapWithRoom 4 2 (tiny_view (inline (1 ∷ []) (0 ∷ 0 ∷ 0 ∷ []))) (tiny_view v) done → tiny_capacity 4 v ≡ 3
-  example-MovesToHeapWithRoom v h = search rules
 
   pub example-ClonesBehind : ClonesBehind C (7 ∷ []) 1 (tiny_view (inline (1 ∷ []) (0 ∷ 0 ∷ 0 ∷ []))) (tiny_view (inline (1 ∷ []) (7 ∷ 0 ∷ 0 ∷ [])))
   example-ClonesBehind = λ _. record {
@@ -174,14 +171,6 @@ module _ (alloc : Global) where
 
   pub example-Collects : Collects D 4 (1 ∷ []) (tiny_view (inline (1 ∷ []) (0 ∷ 0 ∷ 0 ∷ [])))
   example-Collects = search rules
-
--- two vectors that have room for four and for eight items
-module _ (v w : TinyVec (List ℕ) ℕ (UpTo 4)) (small : tiny_capacity 4 v ≡ 4) (large : tiny_capacity 4 w ≡ 8) where
-  pub example-Doubles : Doubles 4 5 (tiny_view v) (tiny_view w)
-  example-Doubles = search rules
-
-  pub example-GrowsFor : is_inline v ≡ false → GrowsFor 4 5 (tiny_view v) (tiny_view w)
-  example-GrowsFor outside = search rules
 
 pub example-items_moved : items_moved 4 true false ≡ 4
 example-items_moved = refl

@@ -3,9 +3,8 @@ ghost use Rattle.std.specs.Prelude.{◌+◌, ◌-◌, ◌<◌, ◌≤◌, ℕ, l
 ghost use Rattle.tinyvec_slots.specs.Ranges.{Within};
 ghost use Rattle.tinyvec_slots.specs.Clones.{RefusedAt, ClonesOver, ClonesOverFrom, WritesClones};
 
-use crate::tuned::sizes::are_large;
+use crate::tuned::sizes::{are_bytes, are_large};
 use std::alloc::AllocError;
-use std::mem;
 
 /// Writes clones of `from` over the slots from `start` on, by blocks.
 pub fn clone_over_from<T: Clone + Default>(
@@ -165,7 +164,8 @@ fn clone_blocks<T: Clone + Default, const N: usize>(
         × ClonesOver T.is_clone (take j from.now) j to.old to.new) }
 {
     let mut done = 0;
-    while N <= from.len() - done {
+    // Bytes gain nothing by longer blocks.
+    while N <= from.len() - done && (N <= 16 || !are_bytes(from)) {
         clone_block::<T, N>(&mut to[done..], &from[done..])?;
         done += N;
     }
@@ -184,8 +184,6 @@ fn clone_block<T: Clone + Default, const N: usize>(
     ensures refused { OnErr result ((j : ℕ) × RefusedAt T.is_infallible from.now j
         × ClonesOver T.is_clone (take j from.now) j to.old to.new) }
 {
-    // Tells the proof that the items fit in memory.
-    let _bytes = from.len() * mem::size_of::<T>();
     let mut block: [T; N] = Default::default();
     let made = clone_until_refused(&mut block, &from[..N]);
     if made < N {

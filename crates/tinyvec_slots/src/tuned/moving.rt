@@ -46,11 +46,12 @@ fn prefers_pieces<T>(items: &[T]) -> bool {
 fn first_to_end<T>(items: &mut [T])
     ensures { items.new ≡ drop 1 items.old ++ take 1 items.old }
 {
-    let piece = items.len().min(257);
-    first_of_piece_to_end(&mut items[..piece]);
-    if piece < items.len() {
-        first_to_end(&mut items[piece - 1..]);
+    let mut at = 0;
+    while 257 < items.len() - at {
+        first_of_piece_to_end(&mut items[at..at + 257]);
+        at += 256;
     }
+    first_of_piece_to_end(&mut items[at..]);
 }
 
 #[inline(never)]

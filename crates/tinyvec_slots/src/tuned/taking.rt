@@ -20,9 +20,8 @@ pub fn take_all<T: Default + Drop>(slots: &mut [T], vec: &mut Vec<T>)
     if !fit_registers(slots) {
         return take_each(slots, vec);
     }
-    let most = take_blocks::<T, 16>(slots, vec);
-    let more = most + take_blocks::<T, 4>(&mut slots[most..], vec);
-    take_each(&mut slots[more..], vec);
+    let done = take_blocks::<T, 16>(slots, vec);
+    take_each(&mut slots[done..], vec);
 }
 
 // Like `take_all`, item by item.
@@ -65,8 +64,6 @@ fn take_block<T: Default + Drop, const N: usize>(slots: &mut [T], vec: &mut Vec<
     ensures capacity { vec_capacity vec.new ≡ vec_capacity vec.old }
     ensures emptied { (ds : List T) × AreDefaults T.is_default N ds × (slots.new ≡ ds ++ drop N slots.old) }
 {
-    // Tells the proof that the items fit in memory.
-    let _bytes = slots.len() * mem::size_of::<T>();
     let Some(first) = slots.first_chunk_mut::<N>() else {
         unreachable!();
     };

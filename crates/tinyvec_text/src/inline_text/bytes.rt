@@ -1,10 +1,10 @@
 //! Bytes of a list that are copied to the heap, or replaced by others, by moves of memory.
 ghost use Rattle.std.specs.Prelude.{◌≡◌, ◌+◌, ◌-◌, ◌*◌, ◌≤◌, ◌++◌, ◌∷◌, [], length, take, drop, false, is_ok, if◌then◌else◌, IsOk, IfOk, OnErr, vec_len, vec_capacity};
 ghost use Rattle.tinyvec_slots.specs.Slots.{Gains};
-ghost use Rattle.tinyvec_array.specs.ArrayVec.{items, items_len, view};
+ghost use Rattle.tinyvec_array.specs.ArrayVec.{items, items_len, spare, view};
 ghost use Rattle.tinyvec.specs.TinyVec.{tiny_items, tiny_len, tiny_capacity, is_inline, IsInline, tiny_view};
 ghost use Rattle.tinyvec.specs.View.{IsTail, Becomes};
-ghost use Rattle.tinyvec.specs.Room.{GrowsFor, MakesRoom};
+ghost use Rattle.tinyvec.specs.Room.{MakesRoom};
 ghost use Rattle.tinyvec.specs.OnHeap.{HeapBecomes};
 
 use std::alloc::{AllocError, Global};
@@ -118,7 +118,7 @@ pub fn put_bytes<const N: usize>(
     requires { index ≤ tiny_len list.old }
     ensures items { tiny_items list.new ≡ (if is_ok result
         then take index (tiny_items list.old) ++ bytes.now ++ drop index (tiny_items list.old) else tiny_items list.old) }
-    ensures room { MakesRoom GrowsFor (λ b. b ≡ 0) N (tiny_len list.old + length bytes.now)
+    ensures room { MakesRoom (is_inline list.old) N (tiny_len list.old + length bytes.now)
         (tiny_view list.old) (tiny_view list.new) result }
 {
     match list {
@@ -146,7 +146,7 @@ pub fn put_byte<const N: usize>(
     requires { index ≤ tiny_len list.old }
     ensures items { tiny_items list.new ≡ (if is_ok result
         then take index (tiny_items list.old) ++ byte ∷ [] ++ drop index (tiny_items list.old) else tiny_items list.old) }
-    ensures room { MakesRoom GrowsFor (λ b. b ≡ 0) N (tiny_len list.old + 1)
+    ensures room { MakesRoom (is_inline list.old) N (tiny_len list.old + 1)
         (tiny_view list.old) (tiny_view list.new) result }
 {
     match list {
@@ -170,10 +170,18 @@ fn put_byte_slow<const N: usize>(
     requires { index ≤ tiny_len list.old }
     ensures items { tiny_items list.new ≡ (if is_ok result
         then take index (tiny_items list.old) ++ byte ∷ [] ++ drop index (tiny_items list.old) else tiny_items list.old) }
-    ensures room { MakesRoom GrowsFor (λ b. b ≡ 0) N (tiny_len list.old + 1)
+    ensures room { MakesRoom (is_inline list.old) N (tiny_len list.old + 1)
         (tiny_view list.old) (tiny_view list.new) result }
 {
     put_bytes(list, index, &[byte])
+}
+
+// Tells a proof that there are as many slots as the array has.
+#[inline(always)]
+fn knows_slots<const N: usize>(v: &ArrayVec<[u8; N]>)
+    ensures { items_len v.now + length (spare v.now) ≡ N }
+{
+    let _slots = v.capacity();
 }
 
 // Inserts `bytes` at `index` into a list in its array that has room.
@@ -184,8 +192,7 @@ fn insert_inline<const N: usize>(v: &mut ArrayVec<[u8; N]>, index: usize, bytes:
     ensures { Gains N (length bytes.now) (view v.old) (view v.new)
         (take index (items v.old) ++ bytes.now ++ drop index (items v.old)) }
 {
-    // Tells the proof how many slots there are.
-    let _slots = v.capacity();
+    knows_slots(v);
     let len = v.len();
     v.set_len(len + bytes.len());
     // The minimum is all that is behind, which LLVM does not know.
@@ -286,7 +293,7 @@ pub fn push_bytes<const N: usize>(
 ) -> Result<(), AllocError>
     ensures items { tiny_items list.new
         ≡ (if is_ok result then tiny_items list.old ++ bytes.now else tiny_items list.old) }
-    ensures room { MakesRoom GrowsFor (λ b. b ≡ 0) N (tiny_len list.old + length bytes.now)
+    ensures room { MakesRoom (is_inline list.old) N (tiny_len list.old + length bytes.now)
         (tiny_view list.old) (tiny_view list.new) result }
 {
     match list {
@@ -317,7 +324,7 @@ pub fn append_bytes<const N: usize>(list: &mut TinyVec<[u8; N]>, bytes: &[u8])
 pub fn push_few<const N: usize>(list: &mut TinyVec<[u8; N]>, bytes: &[u8]) -> Result<(), AllocError>
     ensures items { tiny_items list.new
         ≡ (if is_ok result then tiny_items list.old ++ bytes.now else tiny_items list.old) }
-    ensures room { MakesRoom GrowsFor (λ b. b ≡ 0) N (tiny_len list.old + length bytes.now)
+    ensures room { MakesRoom (is_inline list.old) N (tiny_len list.old + length bytes.now)
         (tiny_view list.old) (tiny_view list.new) result }
 {
     match list {
@@ -337,7 +344,7 @@ fn push_few_slow<const N: usize>(
 ) -> Result<(), AllocError>
     ensures items { tiny_items list.new
         ≡ (if is_ok result then tiny_items list.old ++ bytes.now else tiny_items list.old) }
-    ensures room { MakesRoom GrowsFor (λ b. b ≡ 0) N (tiny_len list.old + length bytes.now)
+    ensures room { MakesRoom (is_inline list.old) N (tiny_len list.old + length bytes.now)
         (tiny_view list.old) (tiny_view list.new) result }
 {
     push_bytes(list, bytes)
@@ -349,8 +356,7 @@ fn append_inline<const N: usize>(v: &mut ArrayVec<[u8; N]>, bytes: &[u8])
     requires { length bytes.now ≤ N - items_len v.old }
     ensures { Gains N (length bytes.now) (view v.old) (view v.new) (items v.old ++ bytes.now) }
 {
-    // Tells the proof how many slots there are.
-    let _slots = v.capacity();
+    knows_slots(v);
     let len = v.len();
     let end = bytes.len();
     write_over(&mut v.grab_spare_slice_mut()[0..end], bytes, N);

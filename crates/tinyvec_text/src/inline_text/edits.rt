@@ -2,8 +2,9 @@
 ghost use Rattle.std.specs.Prelude.{◌≡◌, ◌+◌, ◌-◌, ◌%◌, ◌<◌, ◌≤◌, ◌++◌, ◌∷◌, [], ◌↔◌, length, if◌then◌else◌, is_ok, min, max, false, IsTrue, IsOk, IfOk, OnOk, OnErr, chars, encode_utf8, ◌&&◌, nat_le, ℕ, List, take, drop, All, IsSome, IfSome, IfNone, IsUtf8, slice_index};
 ghost use Rattle.std.specs.Char.{IsScalar};
 ghost use Rattle.tinyvec.specs.View.{lies_inline, capacity_in};
+ghost use Rattle.tinyvec.specs.Room.{MakesRoom};
 ghost use Rattle.tinyvec.specs.TinyVec.{tiny_items, tiny_spare, tiny_capacity, is_inline};
-ghost use Rattle.tinyvec_text.specs.InlineText.{text_chars, text_len, TextMakesRoom, TextReserves, TextShrinks, TextStaysInPlace, TextBecomes, TextKeepsFront, TextMadeFor, IsTextTail, IsFirstChar, IsBoundary};
+ghost use Rattle.tinyvec_text.specs.InlineText.{text_chars, text_len, text_view, TextReserves, TextShrinks, TextStaysInPlace, TextBecomes, TextKeepsFront, TextMadeFor, IsTextTail, IsFirstChar, IsBoundary};
 ghost use Rattle.tinyvec_slots.specs.Ranges.{range_start, range_end, before, after};
 ghost use Rattle.std.specs.String.Boundary.{IsSplitPoint};
 
@@ -64,8 +65,8 @@ impl<const N: usize> InlineText<N> {
     pub fn push_str(&mut self, string: &str) -> Result<(), AllocError>
         ensures bytes { self.new.bytes ≡ (if is_ok result then self.old.bytes ++ string.now else self.old.bytes) }
         ensures text { OnOk result (text_chars self.new ≡ text_chars self.old ++ chars string.now) }
-        ensures room { TextMakesRoom (lies_inline self.old.place) N (text_len self.old + length string.now)
-            self.old self.new result }
+        ensures room { MakesRoom (lies_inline self.old.place) N (text_len self.old + length string.now)
+            (text_view self.old) (text_view self.new) result }
     {
         push_bytes(&mut self.list, string.as_bytes())?;
         Ok(())
@@ -78,8 +79,8 @@ impl<const N: usize> InlineText<N> {
             ≡ (if is_ok result then self.old.bytes ++ encode_utf8 ch else self.old.bytes) }
         ensures ascii { ch < 128 → OnOk result (self.new.bytes ≡ self.old.bytes ++ ch ∷ []) }
         ensures text { OnOk result (text_chars self.new ≡ text_chars self.old ++ ch ∷ []) }
-        ensures room { TextMakesRoom (lies_inline self.old.place && nat_le 128 ch) N
-            (text_len self.old + length (encode_utf8 ch)) self.old self.new result }
+        ensures room { MakesRoom (lies_inline self.old.place && nat_le 128 ch) N
+            (text_len self.old + length (encode_utf8 ch)) (text_view self.old) (text_view self.new) result }
     {
         // Most characters are ASCII, and have room.
         if ch.is_ascii() && self.len() < self.capacity() {
@@ -97,8 +98,8 @@ impl<const N: usize> InlineText<N> {
             ≡ (if is_ok result then self.old.bytes ++ encode_utf8 ch else self.old.bytes) }
         ensures ascii { ch < 128 → OnOk result (self.new.bytes ≡ self.old.bytes ++ ch ∷ []) }
         ensures text { OnOk result (text_chars self.new ≡ text_chars self.old ++ ch ∷ []) }
-        ensures room { TextMakesRoom (lies_inline self.old.place && nat_le 128 ch) N
-            (text_len self.old + length (encode_utf8 ch)) self.old self.new result }
+        ensures room { MakesRoom (lies_inline self.old.place && nat_le 128 ch) N
+            (text_len self.old + length (encode_utf8 ch)) (text_view self.old) (text_view self.new) result }
     {
         if ch.is_ascii() {
             self.list.push(ch as u8)?;
@@ -114,8 +115,8 @@ impl<const N: usize> InlineText<N> {
         ensures bytes { self.new.bytes
             ≡ (if is_ok result then self.old.bytes ++ encode_utf8 c else self.old.bytes) }
         ensures text { OnOk result (text_chars self.new ≡ text_chars self.old ++ c ∷ []) }
-        ensures room { TextMakesRoom (lies_inline self.old.place && nat_le 128 c) N
-            (text_len self.old + length (encode_utf8 c)) self.old self.new result }
+        ensures room { MakesRoom (lies_inline self.old.place && nat_le 128 c) N
+            (text_len self.old + length (encode_utf8 c)) (text_view self.old) (text_view self.new) result }
     {
         let code = c as u32;
         if code < 0x800 {
@@ -137,8 +138,8 @@ impl<const N: usize> InlineText<N> {
         ensures bytes { self.new.bytes
             ≡ (if is_ok result then self.old.bytes ++ encode_utf8 c else self.old.bytes) }
         ensures text { OnOk result (text_chars self.new ≡ text_chars self.old ++ c ∷ []) }
-        ensures room { TextMakesRoom (lies_inline self.old.place) N (text_len self.old + length (encode_utf8 c))
-            self.old self.new result }
+        ensures room { MakesRoom (lies_inline self.old.place) N (text_len self.old + length (encode_utf8 c))
+            (text_view self.old) (text_view self.new) result }
     {
         push_few(&mut self.list, bytes)?;
         Ok(())
@@ -203,8 +204,8 @@ impl<const N: usize> InlineText<N> {
             ≡ (if is_ok result then take index self.old.bytes ++ encode_utf8 ch ++ drop index self.old.bytes else self.old.bytes) }
         ensures text { OnOk result (text_chars self.new
             ≡ chars (take index self.old.bytes) ++ ch ∷ [] ++ chars (drop index self.old.bytes)) }
-        ensures room { TextMakesRoom (lies_inline self.old.place) N (text_len self.old + length (encode_utf8 ch))
-            self.old self.new result }
+        ensures room { MakesRoom (lies_inline self.old.place) N (text_len self.old + length (encode_utf8 ch))
+            (text_view self.old) (text_view self.new) result }
     {
         // Most characters are ASCII.
         if ch.is_ascii() {
@@ -221,8 +222,8 @@ impl<const N: usize> InlineText<N> {
             ≡ (if is_ok result then take index self.old.bytes ++ encode_utf8 ch ++ drop index self.old.bytes else self.old.bytes) }
         ensures text { OnOk result (text_chars self.new
             ≡ chars (take index self.old.bytes) ++ ch ∷ [] ++ chars (drop index self.old.bytes)) }
-        ensures room { TextMakesRoom (lies_inline self.old.place) N (text_len self.old + length (encode_utf8 ch))
-            self.old self.new result }
+        ensures room { MakesRoom (lies_inline self.old.place) N (text_len self.old + length (encode_utf8 ch))
+            (text_view self.old) (text_view self.new) result }
     {
         let mut buffer = [0; 4];
         self.insert_str(index, ch.encode_utf8(&mut buffer))
@@ -237,8 +238,8 @@ impl<const N: usize> InlineText<N> {
             ≡ (if is_ok result then take index self.old.bytes ++ encode_utf8 ch ++ drop index self.old.bytes else self.old.bytes) }
         ensures text { OnOk result (text_chars self.new
             ≡ chars (take index self.old.bytes) ++ ch ∷ [] ++ chars (drop index self.old.bytes)) }
-        ensures room { TextMakesRoom (lies_inline self.old.place) N (text_len self.old + length (encode_utf8 ch))
-            self.old self.new result }
+        ensures room { MakesRoom (lies_inline self.old.place) N (text_len self.old + length (encode_utf8 ch))
+            (text_view self.old) (text_view self.new) result }
     {
         put_byte(&mut self.list, index, ch as u8)?;
         Ok(())
@@ -253,8 +254,8 @@ impl<const N: usize> InlineText<N> {
             ≡ (if is_ok result then take index self.old.bytes ++ string.now ++ drop index self.old.bytes else self.old.bytes) }
         ensures text { OnOk result (text_chars self.new
             ≡ chars (take index self.old.bytes) ++ chars string.now ++ chars (drop index self.old.bytes)) }
-        ensures room { TextMakesRoom (lies_inline self.old.place) N (text_len self.old + length string.now)
-            self.old self.new result }
+        ensures room { MakesRoom (lies_inline self.old.place) N (text_len self.old + length string.now)
+            (text_view self.old) (text_view self.new) result }
     {
         put_bytes(&mut self.list, index, string.as_bytes())?;
         Ok(())
@@ -275,9 +276,9 @@ impl<const N: usize> InlineText<N> {
             else self.old.bytes) }
         ensures text { OnOk result (text_chars self.new ≡ chars (before self.old.bytes (R.start_bound range))
             ++ chars replace_with.now ++ chars (after self.old.bytes (R.end_bound range))) }
-        ensures room { TextMakesRoom (lies_inline self.old.place) N (text_len self.old
+        ensures room { MakesRoom (lies_inline self.old.place) N (text_len self.old
             - (range_end (R.end_bound range) (text_len self.old) - range_start (R.start_bound range)) + length replace_with.now)
-            self.old self.new result }
+            (text_view self.old) (text_view self.new) result }
     {
         let part = resolve_range(range, self.list.len());
         let bytes = replace_with.as_bytes();

@@ -33,8 +33,7 @@ impl<const N: usize> Extend<char> for InlineText<N> {
         ensures known { (cs : List ℕ) → IntoIterYields U.into_iter_gives U.IntoIter.next_gives iter cs
             → text_len self.old + length (encode_utf8_all cs) ≤ capacity_in N self.old.place → IsOk result }
     {
-        // Shows the proof that the text fits.
-        let _room = self.capacity();
+        self.knows_room();
         let mut rest = iter.into_iter();
         while let Some(c) = rest.next() {
             self.push(c)?;
@@ -67,8 +66,7 @@ impl<'a, const N: usize> Extend<&'a str> for InlineText<N> {
         ensures known { (xs : _) → IntoIterYields U.into_iter_gives U.IntoIter.next_gives iter xs
             → text_len self.old + length (flat_map (λ x. x.now) xs) ≤ capacity_in N self.old.place → IsOk result }
     {
-        // Shows the proof that the text fits.
-        let _room = self.capacity();
+        self.knows_room();
         let mut rest = iter.into_iter();
         while let Some(s) = rest.next() {
             self.push_str(s)?;

@@ -1,7 +1,8 @@
 //! Empty texts, clones, comparisons, hashes, printing and writing.
 ghost use Rattle.std.specs.Prelude.{◌≡◌, [], false, IsTrue, IsOk, IfOk, MatchResult, Some, nat_eq, refl, ◌+◌, ◌++◌, length, OnOk, chars};
 ghost use Rattle.tinyvec.specs.View.{lies_inline, capacity_in};
-ghost use Rattle.tinyvec_text.specs.InlineText.{text_chars, text_len, TextMakesRoom};
+ghost use Rattle.tinyvec.specs.Room.{MakesRoom};
+ghost use Rattle.tinyvec_text.specs.InlineText.{text_chars, text_len, text_view};
 ghost use Rattle.std.specs.Ordering.{nat_cmp};
 ghost use Rattle.std.specs.Cmp.{on_equiv, on_total, on_po, on_per, partial_equiv_from_equiv};
 ghost use Rattle.std.specs.Cmp.Lexicographic.{pointwise, slice_cmp, nat_list_eq_equiv, nat_list_cmp_total, texts_po, texts_ties};
@@ -142,8 +143,8 @@ impl<const N: usize> fmt::Write for InlineText<N> {
     fn write_str(&mut self, s: &str) -> fmt::Result
         ensures ok { IsOk result → self.new.bytes ≡ self.old.bytes ++ s.now }
         ensures text { OnOk result (text_chars self.new ≡ text_chars self.old ++ chars s.now) }
-        ensures room { TextMakesRoom (lies_inline self.old.place) N (text_len self.old + length s.now)
-            self.old self.new result }
+        ensures room { MakesRoom (lies_inline self.old.place) N (text_len self.old + length s.now)
+            (text_view self.old) (text_view self.new) result }
     {
         match self.push_str(s) {
             Ok(()) => Ok(()),

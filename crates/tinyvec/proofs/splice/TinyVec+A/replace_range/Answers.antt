@@ -3,6 +3,7 @@ use Rattle.tinyvec_slots.specs.Ranges.{range_end}
 use Rattle.tinyvec_slots.proofs.ReplacingLemmas.{placed_at}
 use Rattle.tinyvec_slots.proofs.Lists.{length-replaced}
 use Rattle.tinyvec.proofs.ReplacingLemmas.{replaced_room}
+use Rattle.tinyvec.proofs.TinyLemmas.{slots_after_room}
 use Rattle.tinyvec.specs.TinyVec.{tiny_items_of, tiny_view_of}
 use Rattle.tinyvec.proofs.splice.TinyVec+A.replace_range.Goals as goal
 
@@ -25,4 +26,8 @@ returns-clause-room g c =
     ∙ length-replaced _ _ c.args.replacement.now (tiny_items_of g.A.Slots c.reserve.new.self) order (omega (arith, end, inside, same)) in
     let more = c.saturating_sub-more.ensures in
     replaced_room _ _ _ _ _ (omega (arith, c.len.ensures.fits, c.len.ensures.value)) (omega (arith, long, same, more, end, inside)) (λ some. omega (arith, long, same, more, end, inside, some))
-    _ _ _ (λ i. ap (tiny_view_of g.A.Slots) (c.in_ok-reserve.ensures.stays i)) c.in_ok-reserve.ensures.room c.replace_reserved.ensures
+    _ g.A.Item.Default.is_default _ _ (λ i. ap (tiny_view_of g.A.Slots) (c.in_ok-reserve.ensures.stays i)) c.in_ok-reserve.ensures.room c.replace_reserved.ensures
+
+pub returns-clause-slot_rule : goal.returns-clause-slot_rule
+returns-clause-slot_rule g c =
+    slots_after_room g.A.Item.Default.is_default _ _ _ (λ i. ap (tiny_view_of g.A.Slots) (c.in_ok-reserve.ensures.stays i)) c.replace_reserved.ensures.place c.replace_reserved.ensures.slot_rule

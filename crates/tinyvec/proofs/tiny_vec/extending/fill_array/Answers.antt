@@ -10,33 +10,33 @@ use Rattle.tinyvec.proofs.tiny_vec.extending.fill_array.Goals as goal
 room : (g : _) (c : In-Ok g) → c.len-len.result + c.in-Ok.count ≤ g.A.Array.CAPACITY
 room g c =
     let made = c.in-Ok.ensures.ran in
-    omega (arith, made.1.1, made.2, ap length c.grab_spare_slice_mut.ensures.value, c.len-len.ensures.value, c.slot_count-slots.ensures.parts)
+    omega (arith, made.1.1, made.2, ap length c.grab_spare_slice_mut.ensures.value, c.len-len.ensures.value, c.knows_slots.ensures.parts)
 
 -- items stand in all the slots
 all_filled : (g : _) (c : After-set_len-in-Err g) → c.CAPACITY.result ≡ len_of g.A.Slots c.args.vec.now + length c.in-Err.ensures.ran.0
 all_filled g c =
     let made = c.in-Err.ensures.ran in
-    omega (arith, made.1.1, ap length c.grab_spare_slice_mut.ensures.value, c.len-len.ensures.value, c.slot_count-slots.ensures.parts, c.CAPACITY.ensures)
+    omega (arith, made.1.1, ap length c.grab_spare_slice_mut.ensures.value, c.len-len.ensures.value, c.knows_slots.ensures.parts, c.CAPACITY.ensures)
 
 pub fill_slots-requires : goal.fill_slots-requires
 fill_slots-requires g c = c.requires
 
 pub overflow_add-len : goal.overflow_add-len
-overflow_add-len g c = omega (arith, room g (goal.at.overflow_add-len g c).In-Ok, c.len-len.ensures.small, c.slot_count-slots.ensures.slots)
+overflow_add-len g c = omega (arith, room g (goal.at.overflow_add-len g c).In-Ok, c.len-len.ensures.small, c.knows_slots.ensures.slots)
 
 pub set_len-requires : goal.set_len-requires
 set_len-requires g c =
     let v = c.args.vec.now in
     let ws = c.fill_slots.new.slots in
     let long = c.fill_slots.auto.slots ∙ ap length c.grab_spare_slice_mut.ensures.value in
-    omega (arith, room g (goal.at.set_len-requires g c).In-Ok, ap length (slots_of-back g.A.Slots v ws long), length-append (items_of g.A.Slots v) ws, long, c.slot_count-slots.ensures.parts)
+    omega (arith, room g (goal.at.set_len-requires g c).In-Ok, ap length (slots_of-back g.A.Slots v ws long), length-append (items_of g.A.Slots v) ws, long, c.knows_slots.ensures.parts)
 
 pub set_len-requires-in-Err : goal.set_len-requires-in-Err
 set_len-requires-in-Err g c =
     let v = c.args.vec.now in
     let ws = c.fill_slots.new.slots in
     let long = c.fill_slots.auto.slots ∙ ap length c.grab_spare_slice_mut.ensures.value in
-    omega (arith, ap length (slots_of-back g.A.Slots v ws long), length-append (items_of g.A.Slots v) ws, long, c.slot_count-slots.ensures.parts, c.CAPACITY.ensures)
+    omega (arith, ap length (slots_of-back g.A.Slots v ws long), length-append (items_of g.A.Slots v) ws, long, c.knows_slots.ensures.parts, c.CAPACITY.ensures)
 
 pub returns-in-Ok-clause-fills : goal.returns-in-Ok-clause-fills
 returns-in-Ok-clause-fills g c =

@@ -7,7 +7,7 @@ pub clone_each-requires : goal.clone_each-requires
 clone_each-requires g c =
     let count = g.met.A.Array.counted in
     let from = ap length c.all.ensures.value ∙ count _ c.all.ensures.counts in
-    let to = ap length c.all_mut.ensures.value ∙ count _ c.all-slots.ensures.counts in
+    let to = ap length c.all_mut.ensures.value ∙ c.knows_slots.ensures in
     record { fits = rw (from, to) (le_refl _) }
 
 pub returns-clause-ok : goal.returns-clause-ok
@@ -16,7 +16,7 @@ returns-clause-ok g c =
     let xs = c.all.result.now in
     let old = c.all_mut.result.now in
     let from = ap length c.all.ensures.value ∙ count _ c.all.ensures.counts in
-    let to = ap length c.all_mut.ensures.value ∙ count _ c.all-slots.ensures.counts in
+    let to = ap length c.all_mut.ensures.value ∙ c.knows_slots.ensures in
     let long : length xs ≡ length old = from ∙ sym to in
     on_ok_weaker c.clone_each.result (λ h.
     rw (g.A.Slots.slots_written, ← c.all.ensures.value) (clones_whole_of g.A.Item.Clone.is_clone xs old c.clone_each.new.to long h))

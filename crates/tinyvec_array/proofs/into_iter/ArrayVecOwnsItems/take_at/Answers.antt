@@ -4,4 +4,4 @@ use Rattle.tinyvec_array.proofs.into_iter.ArrayVecOwnsItems.take_at.Goals as goa
 pub returns-clause-after : goal.returns-clause-after
 returns-clause-after g c =
     let d = c.take.new.dest in
-    (d, c.take.ensures.after, rw (c.slots_mut-slots.ensures.value, c.bounded_index-at.ensures) (items_of-set g.A.Slots c.args.self.now c.args.i d c.requires))
+    (d, c.take.ensures.after, rw (c.as_mut_slots-slots.ensures.value, c.bounded_index-at.ensures) (items_of-set g.A.Slots c.args.self.now c.args.i d c.requires))

@@ -40,7 +40,7 @@ pub returns-clause-slot_rule : goal.returns-clause-slot_rule
 returns-clause-slot_rule g c =
     let mid = c.resize_with.new.self in
     let same : length c.read_items.new.slots ≡ tiny_len_of g.A.Slots mid = search rules in
-    on-ok c.read_items.result (λ _. tiny_slots_then_framed g.A.Item.Default.is_default (tiny_view_of g.A.Slots c.args.v.now) (tiny_view_of g.A.Slots mid) (tiny_view_of g.A.Slots (tiny_with_items g.A.Slots mid c.read_items.new.slots)) c.resize_with.ensures.room.slot_rule (tiny_framed-with g.A.Slots mid c.read_items.new.slots same)) c.read_items.ensures.ok
+    on-ok c.read_items.result (λ _. tiny_slots_then_framed g.A.Item.Default.is_default (tiny_view_of g.A.Slots c.args.v.now) (tiny_view_of g.A.Slots mid) (tiny_view_of g.A.Slots (tiny_with_items g.A.Slots mid c.read_items.new.slots)) c.resize_with.ensures.slot_rule (tiny_framed-with g.A.Slots mid c.read_items.new.slots same)) c.read_items.ensures.ok
 
 pub returns-clause-capacity : goal.returns-clause-capacity
 returns-clause-capacity g c =

@@ -14,7 +14,8 @@ use Rattle.tinyvec_slots.proofs.Lists.{length-slice_range}
 use Rattle.tinyvec_array.specs.Splice.{splice_view, splice_left, splice_replacement, splice_slots, SpliceKeeps, SpliceSteps, SpliceStepsBack}
 use Rattle.tinyvec_array.specs.declared.storage.Slots as Storage
 use Rattle.tinyvec_array.specs.declared.splice.ArrayVecSplice.{ArrayVecSplice}
-use Rattle.tinyvec_array.proofs.SpliceLemmas.{RunsWord-splices, RunsWord-takes_removed}
+use Rattle.tinyvec_slots.proofs.AnySpliceLemmas.{RunsWord-takes_removed}
+use Rattle.tinyvec_array.proofs.SpliceLemmas.{RunsWord-splices}
 use Rattle.tinyvec_script.specs.Driving.{refused_items, ArraySplices}
 use Rattle.tinyvec_script.proofs.DrivingLemmas.{into_iter_ends, given_within, slots_framed, splices_finished, rest_within, splice_computes}
 use Rattle.tinyvec_script.proofs.driving.array.drive_array_splice.Goals.{After-finish}
@@ -27,7 +28,7 @@ module _ {S T L Z : Type 0} (g : Storage.Ghosts S T L) (s : ArrayVecSplice S (Fu
   along = RunsWord-splices g (fused_rest into_iter_items) _ _ (fused_ends _ _ _ into_iter_ends) s word answers t asks
 
   takes : TakesFromEnds (splice_left g s) word answers (splice_left g t)
-  takes = RunsWord-takes_removed g _ _ s word answers t asks
+  takes = RunsWord-takes_removed (splice_view g) (SpliceKeeps g) _ _ s word answers t asks
 
 pub take_word-requires-clause-can : goal.take_word-requires-clause-can
 take_word-requires-clause-can g c word answers t asks =

@@ -14,7 +14,8 @@ use Rattle.tinyvec.specs.View.{SameFrame}
 use Rattle.tinyvec.specs.TinyVecSplice.{splice_view, splice_left, splice_replacement, splice_vec, SpliceKeeps, SpliceSteps, SpliceStepsBack}
 use Rattle.tinyvec_array.specs.declared.storage.Slots as Storage
 use Rattle.tinyvec.specs.declared.splice.TinyVecSplice.{TinyVecSplice}
-use Rattle.tinyvec.proofs.SpliceLemmas.{RunsWord-splices, RunsWord-takes_removed}
+use Rattle.tinyvec_slots.proofs.AnySpliceLemmas.{RunsWord-takes_removed}
+use Rattle.tinyvec.proofs.SpliceLemmas.{RunsWord-splices}
 use Rattle.tinyvec_script.specs.Driving.{refused_items, TinySplices}
 use Rattle.tinyvec_script.proofs.DrivingLemmas.{into_iter_ends, given_within, grows_framed, splices_finished, refused_over, rest_within, splice_computes}
 use Rattle.tinyvec_script.proofs.driving.tiny.drive_tiny_splice.Goals.{After-finish}
@@ -27,7 +28,7 @@ module _ {A T L Z : Type 0} (g : Storage.Ghosts A T L) (s : TinyVecSplice A (Fus
   along = RunsWord-splices g (fused_rest into_iter_items) _ _ (fused_ends _ _ _ into_iter_ends) s word answers t asks
 
   takes : TakesFromEnds (splice_left g s) word answers (splice_left g t)
-  takes = RunsWord-takes_removed g _ _ s word answers t asks
+  takes = RunsWord-takes_removed (splice_view g) (SpliceKeeps g) _ _ s word answers t asks
 
 pub take_word-requires-clause-can : goal.take_word-requires-clause-can
 take_word-requires-clause-can g c word answers t asks =

@@ -1,4 +1,5 @@
-use Rattle.std.proofs.Common.{◌≡◌, ◌++◌, ◌∷◌, [], IsUtf8, ap, sym, subst, ◌∙◌, chars, rules}
+use Rattle.std.proofs.Common.{◌≡◌, ◌++◌, ◌∷◌, [], IsUtf8, ap, sym, subst, ◌∙◌, chars, length, length-append, arith, rules}
+use Rattle.tinyvec.proofs.TinyLemmas.{used_rule}
 use Rattle.std.specs.Char.{IsScalar}
 use Rattle.std.proofs.lemmas.Str.{IsUtf8-append, IsUtf8-encode, chars-append}
 use Rattle.tinyvec.specs.TinyVec.{tiny_items}
@@ -17,7 +18,7 @@ invariant_of-self-2 g c =
     let scalar : IsScalar c.args.c = search rules in
     let put = subst IsUtf8 c.requires (IsUtf8-encode c.args.c scalar) in
     let room = c.in_ok-push_few.ensures.room in
-    text_kept list c.push_few.new.list (λ i. (room.place.0 i).0) room.slot_rule c.self.invariant
+    text_kept list c.push_few.new.list (λ i. (room.place.0 i).0) (used_rule (λ b. b ≡ 0) _ _ (omega (arith, ap length joined, length-append (tiny_items list) c.args.bytes.now)) room.spare) c.self.invariant
     (subst IsUtf8 (sym joined) (IsUtf8-append _ _ (text_utf8 list c.self.invariant) put))
 
 pub returns-clause-text : goal.returns-clause-text

@@ -1,10 +1,11 @@
 use Rattle.std.proofs.Common.{◌≡◌, ◌-◌, ◌+◌, ◌++◌, IsUtf8, ap, sym, subst, ◌∙◌, chars, length, take, drop, arith, rules}
 use Rattle.tinyvec.specs.TinyVec.{tiny_items, tiny_view}
 use Rattle.tinyvec.proofs.ReplacingLemmas.{replaced_room}
+use Rattle.tinyvec.proofs.TinyLemmas.{used_rule}
 use Rattle.tinyvec_slots.specs.Ranges.{range_start, range_end, before, after}
 use Rattle.tinyvec_slots.proofs.Lists.{length-replaced}
 use Rattle.tinyvec_text.proofs.Boundaries.{utf8_put, chars_put}
-use Rattle.tinyvec_text.proofs.Lists.{text_utf8, text_range, text_kept, text_same, text_stays, made_room}
+use Rattle.tinyvec_text.proofs.Lists.{text_utf8, text_range, text_kept, text_same, text_stays, text_room}
 use Rattle.tinyvec_text.proofs.inline_text.InlineText.replace_range.Goals as goal
 
 pub invariant_of-self : goal.invariant_of-self
@@ -43,7 +44,7 @@ invariant_of-self-2 g c =
     let whole : take part.start (tiny_items mid) ++ put ++ drop part.end (tiny_items mid) ≡ take a bs ++ put ++ drop (range_end end (length bs)) bs =
     λ i. take (starts i) (same i) ++ put ++ drop (ends i) (same i) in
     let told = c.in_ok-reserve.ensures in
-    let kept = text_kept list mid (λ i. (told.room.place.0 i).0) told.room.slot_rule c.self.invariant (subst IsUtf8 (sym same) utf8) in
+    let kept = text_kept list mid (λ i. (told.room.place.0 i).0) (used_rule (λ b. b ≡ 0) _ _ (omega (arith, ap length same)) told.room.spare) c.self.invariant (subst IsUtf8 (sym same) utf8) in
     text_stays g.row.N mid c.replace_bytes.new.list _ c.replace_bytes.ensures kept
     (subst IsUtf8 (sym whole) (utf8_put bs utf8 _ _ cuts.first cuts.last put c.as_bytes-bytes.ensures.utf8))
 
@@ -87,8 +88,8 @@ returns-clause-room g c =
     let more = c.saturating_sub-more.ensures in
     let inside = cuts.last.0 in
     let order = cuts.order in
-    let long = size ∙ (λ i. length (c.self.view_is i).bytes - (range_end end (length (c.self.view_is i).bytes) - a) + length (c.as_bytes-bytes.ensures.value i)) in
-    made_room g.row.N _ list c.replace_bytes.new.list c.args.self.now _ c.self.view_is long
+    let long = size ∙ ap (λ l. length bs - (range_end end (length bs) - a) + length l) c.as_bytes-bytes.ensures.value in
+    rw (← c.self.view_is, ← long) (text_room _ g.row.N _ list c.replace_bytes.new.list _
     (replaced_room g.row.N c.saturating_sub-more.result (tiny_view list) (tiny_view mid) (tiny_view c.replace_bytes.new.list) (omega (arith, c.len.ensures.fits, c.len.ensures.value))
     (omega (arith, size, more, starts, ends, order, inside)) (λ some. omega (arith, size, more, starts, ends, order, inside, some))
-    (λ b. b ≡ 0) _ _ (λ i. ap tiny_view (c.in_ok-reserve.ensures.stays i)) c.in_ok-reserve.ensures.room c.replace_bytes.ensures)
+    _ (λ b. b ≡ 0) _ _ (λ i. ap tiny_view (c.in_ok-reserve.ensures.stays i)) c.in_ok-reserve.ensures.room c.replace_bytes.ensures))

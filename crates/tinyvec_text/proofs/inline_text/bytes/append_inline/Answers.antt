@@ -13,8 +13,7 @@ set_len-requires g c =
     let xs = c.args.bytes.now in
     let ws = put_mid 0 (length xs - 0) c.grab_spare_slice_mut.result.now c.write_over.new.to in
     let is : ws ≡ xs ++ drop (length xs) (spare v) = search (rules, c.write_over.ensures, c.grab_spare_slice_mut.ensures.value) in
-    let count : length v.slots ≡ g.row.N = c.capacity-slots.ensures.slot_count in
-    let few : length xs ≤ length (spare v) = omega (arith, c.requires, count, c.capacity-slots.ensures.value, c.capacity-slots.ensures.parts) in
+    let few : length xs ≤ length (spare v) = omega (arith, c.requires, c.knows_slots.ensures) in
     let long : length ws ≡ length (spare v) = ap length is ∙ length-append xs (drop (length xs) (spare v)) ∙ omega (arith, few, length-drop (length xs) (spare v)) in
     omega (arith, few, long, c.len-len.ensures.value, ap length (slots_of-back (array_slots g.row.N) v ws long), length-append (items v) ws)
 
@@ -24,13 +23,12 @@ returns g c =
     let xs = c.args.bytes.now in
     let ws = put_mid 0 (length xs - 0) c.grab_spare_slice_mut.result.now c.write_over.new.to in
     let is : ws ≡ xs ++ drop (length xs) (spare v) = search (rules, c.write_over.ensures, c.grab_spare_slice_mut.ensures.value) in
-    let count : length v.slots ≡ g.row.N = c.capacity-slots.ensures.slot_count in
-    let few : length xs ≤ length (spare v) = omega (arith, c.requires, count, c.capacity-slots.ensures.value, c.capacity-slots.ensures.parts) in
+    let few : length xs ≤ length (spare v) = omega (arith, c.requires, c.knows_slots.ensures) in
     let long : length ws ≡ length (spare v) = ap length is ∙ length-append xs (drop (length xs) (spare v)) ∙ omega (arith, few, length-drop (length xs) (spare v)) in
     let n = c.len-len.result + length xs in
     let more : n ≡ items_len v + length xs = omega (arith, c.len-len.ensures.value) in
     let slots = slots_of-back (array_slots g.row.N) v ws long in record {
       items = ap (λ w. listed w) c.set_len.ensures.value ∙ ap (take n) slots ∙ items_filled (items v) (spare v) xs ws n is more;
       spare = ap (λ w. left w) c.set_len.ensures.value ∙ ap (drop n) slots ∙ spare_filled (items v) (spare v) xs ws n is more;
-      fits = omega (arith, c.set_len.ensures.len, more, few, count, c.capacity-slots.ensures.value, c.capacity-slots.ensures.parts);
+      fits = omega (arith, c.set_len.ensures.len, more, few, c.knows_slots.ensures);
     }

@@ -1,4 +1,4 @@
-use Rattle.std.proofs.Common.{◌≡◌, ◌+◌, ◌-◌, length, sym, ap, subst, ◌∙◌}
+use Rattle.std.proofs.Common.{◌≡◌, ◌+◌, ◌-◌, length, length-append, arith, sym, ap, subst, ◌∙◌}
 use Rattle.tinyvec.specs.TinyVec.{tiny_items, tiny_len, tiny_view}
 use Rattle.tinyvec.specs.View.{Becomes}
 use Rattle.tinyvec_text.proofs.Lists.{bytes_written, frame_written, room_rewritten, written}
@@ -17,4 +17,4 @@ returns g c =
     let is = bytes_written g.row.N mid ws long ∙ c.put_before.ensures
     ∙ inserted (tiny_items old) bs bs seen c.args.index (c.len.result - c.args.index) c.requires.in_list (sym behind) (c.as_mut_slice.ensures.value ∙ c.in-Ok.ensures.items) in
     subst (Becomes (λ b. b ≡ 0) g.row.N (tiny_view old) (tiny_view (written g.row.N mid ws long))) is
-    (room_rewritten g.row.N (tiny_len old + length bs) old mid (written g.row.N mid ws long) _ c.requires.room c.in-Ok.ensures.room (frame_written g.row.N mid ws long))
+    (room_rewritten g.row.N (tiny_len old + length bs) old mid (written g.row.N mid ws long) _ c.requires.room (omega (arith, ap length c.in-Ok.ensures.items, length-append (tiny_items old) bs)) c.in-Ok.ensures.room (frame_written g.row.N mid ws long))

@@ -25,7 +25,6 @@ returns g c =
     ∙ (λ i. list_to v.len.len v.slots len at i ++ take n (spare_from v.len.len v.slots len at i)) in
     let behind : c.min.result ≡ items_len v - c.args.index = search rules in
     let written = written_of (array_slots g.row.N) mid ws long in
-    let count : length v.slots ≡ g.row.N = c.capacity-slots.ensures.slot_count in
     record {
       items = written.0 ∙ c.put_few_before.ensures ∙ inserted (items v) (take n (spare v)) xs seen c.args.index c.min.result c.requires.in_list behind grown;
       spare =
@@ -36,9 +35,7 @@ returns g c =
         long,
         c.set_len.ensures.len,
         at,
-        count,
-        c.capacity-slots.ensures.value,
-        c.capacity-slots.ensures.parts,
+        c.knows_slots.ensures,
         c.requires.room,
       );
     }

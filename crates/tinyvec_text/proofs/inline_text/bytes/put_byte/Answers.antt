@@ -1,8 +1,5 @@
-use Rattle.std.proofs.Common.{◌≡◌, ◌+◌, ◌-◌, ◌≤◌, ◌∷◌, [], length, drop, ap, subst, sym, ◌∙◌, arith, rules}
+use Rattle.std.proofs.Common.{◌≡◌, ◌+◌, ◌-◌, ◌≤◌, ◌∷◌, [], length, drop, ap, ◌∙◌, arith, rules}
 use Rattle.tinyvec_array.specs.ArrayVec.{items, items_len, spare}
-use Rattle.tinyvec.specs.View.{TinySlotRule}
-use Rattle.tinyvec.specs.TinyVec.{tiny_view}
-use Rattle.tinyvec.specs.declared.tiny_vec.TinyVec.TheVariants.{Inline}
 use Rattle.tinyvec_slots.proofs.Lists.{length-replaced}
 use Rattle.tinyvec_text.proofs.inline_text.bytes.put_byte.Goals as goal
 
@@ -15,12 +12,9 @@ returns-in-Inline-clause-room g c =
     let size : items_len new ≡ items_len v + 1 =
     ap length made.items ∙ length-replaced c.args.index c.args.index (c.args.byte ∷ []) (items v) (omega arith) inside ∙ omega (arith, inside) in
     let count : 1 ≡ items_len new - items_len v = omega (arith, size) in
-    let none : 0 ≡ items_len v - items_len new = omega (arith, size) in
-    let slots : TinySlotRule (λ b. b ≡ 0) (tiny_view (Inline v c.in-Inline.field-1)) (tiny_view (Inline new c.in-Inline.field-1)) =
-    λ _ _. ([], (none, λ k d few. absurd (omega (arith, few))), made.spare ∙ ap (λ k. drop k (spare v)) count) in
     record {
       place = search rules;
-      slot_rule = subst (λ l. TinySlotRule (λ b. b ≡ 0) (tiny_view l) (tiny_view (Inline new c.in-Inline.field-1))) (sym c.in-Inline.is) slots;
+      spare = rw c.in-Inline.is (λ _ _ _. made.spare ∙ ap (λ k. drop k (spare v)) count);
       capacity = search rules;
       same_room = search rules;
       grown = search rules;

@@ -25,7 +25,7 @@ returns-clause-room g c =
     let grown = c.grow.ensures.room in record {
       place = on_ok_weaker c.grow.result (λ out. (λ i. absurd (false≢true (sym out ∙ i)), λ h. absurd (omega (arith, full, h.1, capacity_inline slots (tiny_view_of g.A.Slots old) h.0))))
           (returns-clause-place g c);
-      slot_rule = grown.slot_rule;
+      spare = grown.spare;
       capacity = grown.capacity;
       same_room = λ room. absurd (omega (arith, full, room));
       grown = on_ok_weaker c.grow.result (λ more less. more (omega (arith, less, len.value))

@@ -18,7 +18,7 @@ inserted g c E =
     elim c.match-self.branch as (λ _. Took g.A.Slots g.A.Item.Default.is_default g.A.Array.CAPACITY (insert (tiny_items_of g.A.Slots c.args.self.now) c.args.index c.args.element) c.args.self.now c.match-self.self E) [
       | in-Inline w ↦
           took_inline G D slots (λ xs. insert xs i x) old _ w.in-Inline.v w.insert.new.self _ _ w.in-Inline.is w.self-is (length-insert (tiny_items_of G old) i x c.requires)
-          c.len-len.ensures.slot_count w.if-not-is_full.ensures.value w.insert.ensures
+          c.knows_room.ensures.slot_count w.if-not-is_full.ensures.value w.insert.ensures
       | in-Heap w ↦
           let v = w.in-Heap.v in
           let new = w.insert-room_was_there.new.self in

@@ -17,7 +17,7 @@ pushed g c E =
     elim c.match-self.branch as (λ _. Took g.A.Slots g.A.Item.Default.is_default g.A.Array.CAPACITY (tiny_items_of g.A.Slots c.args.self.now ++ c.args.value ∷ []) c.args.self.now c.match-self.self E) [
       | in-Inline w ↦
           took_inline G D slots (λ xs. xs ++ x ∷ []) old _ w.in-Inline.v w.push.new.self _ _ w.in-Inline.is w.self-is (length_push (tiny_items_of G old) x)
-          c.len-len.ensures.slot_count w.if-not-is_full.ensures.value w.push.ensures
+          c.knows_room.ensures.slot_count w.if-not-is_full.ensures.value w.push.ensures
       | in-Heap w ↦
           let v = w.in-Heap.v in
           took_heap G D slots (λ xs. xs ++ x ∷ []) old _ v w.push_reserved.new.self w.in-Heap.is w.self-is

@@ -1,4 +1,4 @@
-use Rattle.std.proofs.Common.{◌≡◌, ◌+◌, ◌<◌, [], refl, ap, ◌∙◌, arith, rules, set, get_or}
+use Rattle.std.proofs.Common.{◌≡◌, ◌+◌, ◌<◌, [], false, refl, ap, ◌∙◌, arith, rules, set, get_or}
 use Rattle.std.proofs.lemmas.List.{get_or_at, set_at}
 use Rattle.tinyvec.proofs.TinyLemmas.{tiny_items-with_item, tiny_framed-with_item}
 use Rattle.tinyvec.proofs.FrameLemmas.{room_then_framed}
@@ -19,7 +19,7 @@ returns g c =
         refl,
         λ w _. (
           tiny_items-with_item g.A.Slots new i w inside ∙ ap (λ l. set l i w) put.items ∙ set_at (tiny_items_of g.A.Slots old) x [] w i at,
-          room_then_framed g.A.Item.Default.is_default g.A.Array.CAPACITY (tiny_len_of g.A.Slots old + 1) (tiny_view_of g.A.Slots old) (tiny_view_of g.A.Slots new) _ tt c.index_mut.result put.room (tiny_framed-with_item g.A.Slots new i w inside),
+          room_then_framed false g.A.Array.CAPACITY (tiny_len_of g.A.Slots old + 1) (tiny_view_of g.A.Slots old) _ (tiny_view_of g.A.Slots new) tt c.index_mut.result put.room (tiny_framed-with_item g.A.Slots new i w inside),
         ),
         tt,
       ),

@@ -12,4 +12,4 @@ returns-in-Inline g c =
     let new = c.push.new.self in
     let put = c.push.ensures in
     rw c.in-Inline.is (inline_becomes D g.A.Array.CAPACITY (view_of G v) (view_of G new) _ put.items
-    (slots_pushed D (view_of G v) (view_of G new) c.args.value put.items put.spare) (still_fits G v new _ c.slot_count-slots.ensures.parts put.lender))
+    (slots_pushed D (view_of G v) (view_of G new) c.args.value put.items put.spare) (still_fits G v new _ c.knows_slots.ensures.parts put.lender))

@@ -17,7 +17,7 @@ returns-in-Inline-clause-becomes g c =
     let in_list : c.args.at ≤ len_of G v = rw c.in-Inline.is at c.requires in
     rw c.in-Inline.is (inline_becomes D g.A.Array.CAPACITY (view_of G v) (view_of G new) _ cut.items
     (slots_freed D (view_of G v) (view_of G new) (len_of G v - c.args.at) (omega (arith, ap length cut.items, length-take c.args.at (items_of G v), in_list)) cut.spare)
-    (still_fits G v new _ c.slot_count-slots.ensures.parts cut.lender))
+    (still_fits G v new _ c.knows_slots.ensures.parts cut.lender))
 
 pub returns-in-Inline-clause-tail : goal.returns-in-Inline-clause-tail
 returns-in-Inline-clause-tail g c =
@@ -27,5 +27,5 @@ returns-in-Inline-clause-tail g c =
       place = rw c.in-Inline.is refl;
       spare = λ _. subst (λ n. AreDefaults g.A.Item.Default.is_default (g.A.Array.CAPACITY - n) (spare_of g.A.Slots c.split_off.result)) (sym long) made.tail_spare;
       capacity = λ no. absurd (false≢true (sym no));
-      fits = omega (arith, c.slot_count-slots.ensures.parts, long);
+      fits = omega (arith, c.knows_slots.ensures.parts, long);
     }

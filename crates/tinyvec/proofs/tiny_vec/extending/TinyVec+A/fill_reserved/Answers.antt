@@ -11,7 +11,7 @@ use Rattle.tinyvec.proofs.tiny_vec.extending.TinyVec+A.fill_reserved.Goals as go
 pub resize-requires : goal.resize-requires
 resize-requires g c =
     let room : len_of g.A.Slots c.in-Inline.v + c.args.n ≤ g.A.Array.CAPACITY = rw c.in-Inline.is at c.requires.room in
-    record { room = omega (arith, c.len.ensures.value, c.slot_count-slots.ensures.slots, room) }
+    record { room = omega (arith, c.len.ensures.value, c.knows_slots.ensures.slots, room) }
 
 pub returns-in-Inline-clause-clones : goal.returns-in-Inline-clause-clones
 returns-in-Inline-clause-clones g c =
@@ -41,7 +41,7 @@ returns-in-Inline-clause-clones g c =
       succeeds = none_refused g.A.Item.Clone.is_infallible (replicate c.args.n x) r
           (on_err_weaker r (λ h. (h.0, copy_refused g.A.Item.Clone.is_infallible c.args.n h.0 x h.1 h.2)) refused);
     })
-    (still_fits G v new _ c.slot_count-slots.ensures.parts c.resize.ensures.lender))
+    (still_fits G v new _ c.knows_slots.ensures.parts c.resize.ensures.lender))
 
 pub returns-in-Ok-clause-clones : goal.returns-in-Ok-clause-clones
 returns-in-Ok-clause-clones g c =

@@ -1,5 +1,6 @@
-use Rattle.std.proofs.Common.{◌≡◌, ◌<◌, ◌++◌, take, take_all, sym, ap, ◌∙◌, arith}
-use Rattle.tinyvec.specs.TinyVec.{tiny_items_of, tiny_len_of}
+use Rattle.std.proofs.Common.{◌≡◌, ◌<◌, ◌+◌, ◌-◌, ◌++◌, refl, take, take_all, sym, ap, ◌∙◌, arith}
+use Rattle.tinyvec.specs.TinyVec.{tiny_items_of, tiny_len_of, tiny_view_of}
+use Rattle.tinyvec.proofs.FrameLemmas.{made_room}
 use Rattle.tinyvec.proofs.tiny_vec.extending.TinyVec+A.resize_by_answers.Goals as goal
 
 pub returns-then-n-len-clause-items : goal.returns-then-n-len-clause-items
@@ -10,3 +11,9 @@ returns-then-n-len-clause-items g c =
     let front : tiny_items_of g.A.Slots c.reserve.new.self ≡ take n olds = c.reserve.ensures.items ∙ sym (take_all n olds (omega arith)) in
     let h = c.push_answers.ensures.items in
     (h.0, h.1 ∙ ap (λ l. l ++ h.0) front, h.2)
+
+pub returns-then-n-len-clause-room : goal.returns-then-n-len-clause-room
+returns-then-n-len-clause-room g c =
+    let many : tiny_len_of g.A.Slots c.args.self.now + (c.args.n - c.len-len.result) ≡ c.args.n = omega (arith, c.len-len.ensures.value) in
+    made_room _ g.A.Item.Default.is_default _ _ (tiny_view_of g.A.Slots c.args.self.now) (tiny_view_of g.A.Slots c.push_answers.new.self) (tiny_view_of g.A.Slots c.reserve.new.self) _ _ refl
+    (λ i. ap (tiny_view_of g.A.Slots) (c.in_ok-reserve.ensures.stays i)) (rw many at c.in_ok-reserve.ensures.room) c.push_answers.ensures.frame

@@ -1,4 +1,4 @@
-use Rattle.std.proofs.Common.{◌<◌, ℕ, List, inl, inr, refl}
+use Rattle.std.proofs.Common.{◌<◌, ℕ, List, inl, inr}
 use Rattle.std.specs.Bool.{⊤}
 use Rattle.tinyvec_slots.specs.Clones.{RefusedAt}
 use Rattle.tinyvec.specs.Refused.{RefusedFor}
@@ -20,18 +20,4 @@ pub returns-in_err-extend_from_slice-clause-room : goal.returns-in_err-extend_fr
 returns-in_err-extend_from_slice-clause-room g c =
     let told = c.in_err-extend_from_slice.ensures in
     let h = for_memory (λ _. ⊤) (λ _. tt) c.args.buf.now _ _ _ (tiny_view_of g.A.Slots c.args.self.now) (tiny_view_of g.A.Slots c.extend_from_slice.new.self) told.refused in
-    room_not_made _ _ _ (tiny_view_of g.A.Slots c.args.self.now) (tiny_view_of g.A.Slots c.extend_from_slice.new.self) c.from_residual.result c.from_residual.ensures.0 h.0 h.1 told.room.fits
-
-pub returns-clause-room : goal.returns-clause-room
-returns-clause-room g c =
-    let room = c.in_ok-extend_from_slice.ensures.room in record {
-      place = room.place;
-      slot_rule = room.slot_rule;
-      capacity = room.capacity;
-      same_room = room.same_room;
-      grown = room.grown;
-      fits = room.fits;
-      succeeds = λ _. refl;
-      full = tt;
-      refused = tt;
-    }
+    room_not_made _ _ _ (tiny_view_of g.A.Slots c.args.self.now) (tiny_view_of g.A.Slots c.extend_from_slice.new.self) c.from_residual.result c.from_residual.ensures.0 h.0 h.1 told.fits

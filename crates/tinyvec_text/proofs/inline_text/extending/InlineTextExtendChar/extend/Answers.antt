@@ -4,6 +4,7 @@ use Rattle.std.specs.List.{flat_map}
 use Rattle.tinyvec.specs.View.{capacity_in, lies_inline}
 use Rattle.tinyvec_text.specs.InlineText.{text_len}
 use Rattle.tinyvec_text.proofs.Extending.{flat_encodes, made_place, no_more, pushed_place}
+use Rattle.tinyvec_text.proofs.Lists.{text_unchanged}
 use Rattle.tinyvec_slots.proofs.CloneLemmas.{on_err}
 use Rattle.tinyvec_text.proofs.inline_text.extending.InlineTextExtendChar.extend.Goals as goal
 
@@ -21,7 +22,7 @@ returns-in_err-push-clause-known g c = λ all yields enough.
 pub returns-in_err-push-clause-full : goal.returns-in_err-push-clause-full
 returns-in_err-push-clause-full g c =
     let at = c.loop-c in
-    let kept = c.in_err-push.ensures.room.refused in
+    let kept = text_unchanged _ _ c.in_err-push.ensures.room.refused in
     on_err c.from_residual.result (
       c.into_iter-rest.result,
       at.yielded,

@@ -4,6 +4,7 @@ use Rattle.std.specs.List.{flat_map}
 use Rattle.tinyvec.specs.View.{capacity_in, lies_inline}
 use Rattle.tinyvec_text.specs.InlineText.{text_len}
 use Rattle.tinyvec_text.proofs.Extending.{made_place, no_more, pushed_place}
+use Rattle.tinyvec_text.proofs.Lists.{text_unchanged}
 use Rattle.tinyvec_slots.proofs.CloneLemmas.{on_err}
 use Rattle.tinyvec_text.proofs.inline_text.extending.InlineTextExtendRefStr.extend.Goals as goal
 
@@ -20,7 +21,7 @@ returns-in_err-push_str-clause-known g c = λ all yields enough.
 pub returns-in_err-push_str-clause-full : goal.returns-in_err-push_str-clause-full
 returns-in_err-push_str-clause-full g c =
     let at = c.loop-s in
-    let kept = c.in_err-push_str.ensures.room.refused in
+    let kept = text_unchanged _ _ c.in_err-push_str.ensures.room.refused in
     on_err c.from_residual.result (
       c.into_iter-rest.result,
       at.yielded,
