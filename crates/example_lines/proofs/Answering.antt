@@ -13,11 +13,6 @@ use Rattle.example_lines.specs.Answers.{Advances, AnswersEach, AnswersUpTo, IsAn
 pub front_whole : (old new : Option (List ℕ)) (bytes : List ℕ) → Appends old new bytes → AppendsFront old new bytes
 front_whole old new bytes all = (bytes, [], sym (append-nil bytes), all)
 
--- a line behind what was taken
-pub one_line_more : (bytes taken front after rest : List ℕ) → bytes ≡ taken ++ rest → rest ≡ front ++ 10 ∷ after → bytes ≡ (taken ++ (front ++ 10 ∷ [])) ++ after
-one_line_more bytes taken front after rest whole is =
-    whole ∙ ap (λ l. taken ++ l) (is ∙ sym (append_assoc front (10 ∷ []) after)) ∙ sym (append_assoc taken (front ++ 10 ∷ []) after)
-
 module _ {S : Type 0} (IsAnswer : S → List ℕ → List ℕ → S → Type 0) where
   answers_then : (a b c : S) (lines more : List (List ℕ)) (x y : List ℕ) → AnswersEach IsAnswer a lines x b → AnswersEach IsAnswer b more y c → AnswersEach IsAnswer a (lines ++ more) (x ++ y) c
   answers_then a b c [] more x y first second =

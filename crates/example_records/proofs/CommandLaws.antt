@@ -120,9 +120,6 @@ no_room text numbers left other before full samples (inr are) fit = let b = befo
 
 -- ---- what the commands did
 
-same_some : {A : Type 0} (o : Option A) (a b : A) → o ≡ Some a → o ≡ Some b → a ≡ b
-same_some o a b p q = cc
-
 pub added : (text old new : List ℕ) (c : Said) (frame : List ℕ) → IsRecord text c → ReadingFits c → SpellsFrame c frame → new ≡ old ++ frame
     → (command : Command) → Says (codes "add") text command → Does command old new (Ok None)
 added text old new c frame is fits spelled e (Add d) says = inl (refl, (frame, subst (λ c. SpellsFrame c frame) (same_record text c d is says.1.0) spelled, e))
@@ -134,7 +131,7 @@ added text old new c frame is fits spelled e Copy says = let w : 97 ≡ 99 = ap 
 pub hex_added : (text old new bytes : List ℕ) → bytes_of text ≡ Some bytes → new ≡ old ++ bytes
     → (command : Command) → Says (codes "hex") text command → Does command old new (Ok None)
 hex_added text old new bytes is e (Add d) says = let w : 104 ≡ 97 = ap (λ word. slice_index word 0) says.0 in absurd (omega (arith, w))
-hex_added text old new bytes is e (Hex others) says = inl (refl, e ∙ ap (λ more. old ++ more) (same_some (bytes_of text) bytes others is says.1))
+hex_added text old new bytes is e (Hex others) says = inl (refl, cc)
 hex_added text old new bytes is e (Cut len) says = let w : 104 ≡ 99 = ap (λ word. slice_index word 0) says.0 in absurd (omega (arith, w))
 hex_added text old new bytes is e Read says = let w : 104 ≡ 114 = ap (λ word. slice_index word 0) says.0 in absurd (omega (arith, w))
 hex_added text old new bytes is e Copy says = let w : 104 ≡ 99 = ap (λ word. slice_index word 0) says.0 in absurd (omega (arith, w))
@@ -226,7 +223,3 @@ is_read stream given before after read end same zero stands fit all = record {
   fit = fit;
   all = λ cs bytes tail told fit_cs spelled is whole. (after, subst (λ faults. Gives cs told faults after read end) zero (all cs bytes tail told fit_cs spelled is (ap Some (same ∙ whole))));
 }
-
-pub empty : (text : List ℕ) → length text ≡ 0 → text ≡ []
-empty [] is = refl
-empty (byte ∷ text) is = absurd (omega (arith, is))

@@ -4,6 +4,7 @@ use Rattle.std.specs.Fmt.{signed_decimal}
 use Rattle.std.specs.Int.{w32}
 use Rattle.std.specs.Int.Signed.{mag}
 use Rattle.std.proofs.lemmas.Fmt.{signed_decimal_injective}
+use Rattle.std.proofs.lemmas.List.{same_from_push}
 use Rattle.tinyvec_slots.specs.Slots.{Slots, items, spare, items_len, SlotRule}
 use Rattle.tinyvec_slots.proofs.SlotsLemmas.{defaults_are}
 use Rattle.tinyvec_script.specs.Command.{IsCommand, spelling, name_text}
@@ -123,17 +124,6 @@ module _ (old new : State) (n : ℤ) (fits : FitsSigned w32 n) (digits : List �
       ∙ ap (λ l. codes "ok " ++ state_text l (spare new.a)) push_items
       ∙ ap (λ l. codes "ok " ++ state_text (xs ++ n ∷ []) l) push_spare
 
-last_cut : (xs ys : List ℤ) (x y : ℤ) → xs ++ x ∷ [] ≡ ys ++ y ∷ [] → (xs ≡ ys) × (x ≡ y)
-last_cut [] [] x y e = (refl, cc)
-last_cut [] (z ∷ ys) x y e = absurd (omega (arith, ap length e, length-append ys (y ∷ [])))
-last_cut (z ∷ xs) [] x y e = absurd (omega (arith, ap length e, length-append xs (x ∷ [])))
-last_cut (z ∷ xs) (w ∷ ys) x y e =
-    let head : z ≡ w = cc in
-    let tail : xs ++ x ∷ [] ≡ ys ++ y ∷ [] = cc in
-    let rest = last_cut xs ys x y tail in
-    let same = rest.0 in
-    (cc, rest.1)
-
 popped : (old new : Slots ℤ) (answer : Answer ℤ) → 0 < items_len old → ArrayStep IsZero 4 old Pop answer new
     → (x : ℤ) × (answer ≡ answers.Some x) × (items old ≡ items new ++ x ∷ []) × SlotRule IsZero old new
 popped old new (answers.Some x) some step = (x, refl, step.0, step.1)
@@ -153,7 +143,7 @@ module _ (old new : State) (text : List ℕ) (xs zs : List ℤ) (last : ℤ) (he
   pop_done = popped old.a new.a pop_step.0 (omega (arith, ap length held, length-append xs (last ∷ []))) pop_step.1.0
 
   parts : (items new.a ≡ xs) × (pop_done.0 ≡ last)
-  parts = last_cut (items new.a) xs pop_done.0 last (sym pop_done.2 ∙ held)
+  parts = same_from_push (items new.a) xs pop_done.0 last (sym pop_done.2 ∙ held)
 
   pub pop_items : items new.a ≡ xs
   pop_items = parts.0

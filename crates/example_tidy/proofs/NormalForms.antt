@@ -3,12 +3,12 @@ use Rattle.std.proofs.Common.{◌≡◌, ◌≢◌, ◌∙◌, ℕ, true, false,
 use Rattle.std.specs.List.{dedup, filter, join_with_byte, slice_split}
 use Rattle.std.specs.Char.{is_ascii_whitespace, to_ascii_lowercase}
 use Rattle.std.specs.Str.{bytes_eq}
-use Rattle.std.proofs.lemmas.List.Elements.{All-filter, All-head, All-tail, All-map}
+use Rattle.std.proofs.lemmas.List.Elements.{All-filter, All-head, All-tail, All-map, filter_passes}
 use Rattle.std.proofs.lemmas.List.Filters.{All-dedup}
 use Rattle.std.proofs.lemmas.Str.Ascii.{lowercase-lowercase}
 use Rattle.example_tidy.specs.Tidy.{has_bytes, words, normal_words, normal_line}
 use Rattle.example_tidy.proofs.Repeats.{dedup_twice}
-use Rattle.example_tidy.proofs.Splitting.{All-passes, All-split, All-join, filter_split_join}
+use Rattle.example_tidy.proofs.Splitting.{All-split, All-join, filter_split_join}
 
 -- the byte is in lower case, or no letter
 abbrev IsLow : ℕ → Type 0
@@ -45,7 +45,7 @@ plain_words line = All-normal IsPlain line (λ k d inside plain. plain)
 some_words : (line : List ℕ) → All (λ word. has_bytes word ≡ true) (normal_words line)
 some_words line =
     let parts = slice_split is_ascii_whitespace (map to_ascii_lowercase line) in
-    All-dedup bytes_eq (λ word. has_bytes word ≡ true) (filter has_bytes parts) (All-passes has_bytes parts)
+    All-dedup bytes_eq (λ word. has_bytes word ≡ true) (filter has_bytes parts) (filter_passes has_bytes parts)
 
 -- no line ends within a normal form
 pub ends_none : (line : List ℕ) → All EndsNone (normal_line line)

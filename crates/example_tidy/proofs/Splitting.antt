@@ -4,15 +4,6 @@ use Rattle.std.specs.List.{slice_split, onto_first, filter, join_with_byte}
 use Rattle.std.proofs.lemmas.List.Elements.{All-nil, All-cons, All-head, All-tail, All-append}
 use Rattle.std.proofs.lemmas.List.Splits.{slice_split_none, slice_split_at}
 
--- where a list passes the test, all of what is left of it does
-pub All-passes : {X : Type 0} (p : X → Bool) (xs : List X) → All (λ x. p x ≡ true) (filter p xs)
-All-passes p [] = All-nil (λ x. p x ≡ true)
-All-passes p (x ∷ xs) = by_test (p x) refl (All-passes p xs)
-  where
-    by_test : (b : Bool) → p x ≡ b → All (λ y. p y ≡ true) (filter p xs) → All (λ y. p y ≡ true) (cond b (x ∷ filter p xs) (filter p xs))
-    by_test true is rest = All-cons (λ y. p y ≡ true) x _ is rest
-    by_test false is rest = rest
-
 -- what passes from the items to their list passes to the front part too
 All-onto_first : {X : Type 0} (Q : X → Type 0) (x : X) (parts : List (List X)) → Q x → All (All Q) parts → All (All Q) (onto_first x parts)
 All-onto_first Q x [] q each = All-cons (All Q) (x ∷ []) [] (All-cons Q x [] q (All-nil Q)) (All-nil (All Q))

@@ -2,9 +2,9 @@
 use Rattle.std.proofs.Common.{◌≡◌, ◌∙◌, ℕ, ◌+◌, ◌-◌, ◌<◌, ◌≤◌, true, false, cond, not, List, [], ◌∷◌, ◌++◌, All, ap, length, drop, get_or, slice_range, arith, append-nil}
 use Rattle.std.specs.List.{slice_split, filter}
 use Rattle.std.specs.Char.{is_ascii_whitespace}
-use Rattle.std.proofs.Math.ListN.{drop_of_length-le, length-drop}
+use Rattle.std.proofs.Math.ListN.{drop_of_length-le}
 use Rattle.std.proofs.lemmas.Bool.{ne_eqb}
-use Rattle.std.proofs.lemmas.List.{drop_more, get_or-drop, get_or-take, take_all}
+use Rattle.std.proofs.lemmas.List.{drop_more, get_or-drop, get_or-take}
 use Rattle.std.proofs.lemmas.List.Elements.{All-from_get_or}
 use Rattle.std.proofs.lemmas.List.Folds.{drop_split}
 use Rattle.std.proofs.lemmas.List.Splits.{slice_split_at, slice_split_none}
@@ -55,7 +55,3 @@ word_to_end line start order none =
     ap words (drop_split line start (length line) (omega arith) ∙ ap (λ rest. slice_range line start (length line) ++ rest) (drop_of_length-le line (omega arith)) ∙ append-nil _)
     ∙ ap (filter has_bytes) (slice_split_none is_ascii_whitespace (slice_range line start (length line)) (plain line start (length line) (omega arith) none))
     ∙ one_part (slice_range line start (length line)) [] (omega (arith, length-slice_range line start (length line)))
-
--- a range up to the end of a line
-pub to_end : (line : List ℕ) (start : ℕ) → slice_range line start (length line) ≡ drop start line
-to_end line start = take_all (length line - start) (drop start line) (omega (arith, length-drop start line))

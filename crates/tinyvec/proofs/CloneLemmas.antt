@@ -1,8 +1,8 @@
 -- Lemmas on lists of clones. C is the `is_clone` of an item's `Clone`.
-use Rattle.std.proofs.Common.{◌≡◌, ℕ, Result, Ok, Err, ◌+◌, ◌-◌, ◌<◌, ◌≤◌, List, [], ◌∷◌, ◌++◌, length, take, drop, slice_range, get_or, replicate, refl, sym, ap, subst, ◌∙◌, append_assoc, arith, length-append, length-drop, length-take-le, append-nil, take_at, drop_at, take-append-drop}
+use Rattle.std.proofs.Common.{◌≡◌, ℕ, Result, Ok, Err, ◌+◌, ◌-◌, ◌<◌, ◌≤◌, List, [], ◌∷◌, ◌++◌, length, take, drop, slice_range, get_or, replicate, refl, sym, ap, subst, ◌∙◌, append_assoc, arith, length-append, length-drop, length-take, append-nil, take_at, drop_at, take-append-drop}
 use Rattle.std.proofs.Concat.{each_append}
 use Rattle.std.proofs.Math.Seq.{take-add}
-use Rattle.std.proofs.lemmas.List.{take_more, take_rest, drop_all, replicate_more, length-replicate, get_or-replicate, get_or_default, get_or_append_left, get_or-take, get_or-drop}
+use Rattle.std.proofs.lemmas.List.{places, take_more, take_rest, drop_all, replicate_more, length-replicate, get_or-replicate, get_or_default, get_or-take}
 use Rattle.std.proofs.lemmas.List.Elements.{AllZip-push, length_all_zip}
 use Rattle.std.specs.Prelude.{All, OnOk, OnErr, IsOk, if◌then◌else◌, is_ok}
 use Rattle.std.specs.List.{AllZip, AppendsClones}
@@ -58,8 +58,7 @@ module _ {T : Type 0} (C : T → T → Type 0) where
   -- clones of all slots are clones of the spare ones
   pub spare_cloned : (v w : Slots T) → items_len w ≡ items_len v → AllZip C (all_slots v) (all_slots w) → AllZip C (spare v) (spare w)
   spare_cloned v w long h =
-      let k = items_len v in
-      rw (spare_from v.len v.slots k refl, spare_from w.len w.slots k (sym long)) at (AllZip-cut C k (all_slots v) (all_slots w) h).1
+      rw (spare_from v.len v.slots (items_len v) refl, spare_from w.len w.slots (items_len v) (sym long)) at (AllZip-cut C (items_len v) (all_slots v) (all_slots w) h).1
 
 -- the clone of the element at i was refused
 pub refused_at : {T : Type 0} (I : T → Type 0) (from : List T) (i : ℕ) (x : T) → i < length from → x ≡ get_or from i x → (I x → ⊥) → (j : ℕ) × RefusedAt I from j
@@ -77,15 +76,11 @@ none_refused I xs (Err e) refused all = absurd (all_granted I xs refused.0 all r
 -- Clones of the items of `old` from `start` up to i were appended, one by one.
 module _ {T : Type 0} (C : T → T → Type 0) (old new : List T) (start i : ℕ) (le : start ≤ i) (h : AppendsClones C old new (slice_range old start i)) where
   pub within_len : i ≤ length old → length new ≡ length old + (i - start)
-  within_len last =
-      appends_len C old new (slice_range old start i) h
-      ∙ ap (λ n. length old + n) (length-take-le (i - start) (drop start old) (omega (arith, length-drop start old, le, last)))
+  within_len last = omega (arith, appends_len C old new (slice_range old start i) h, length-take (i - start) (drop start old), length-drop start old, le, last)
 
   module _ (x : T) (lt : i < length old) (is : x ≡ get_or new i x) where
     within_read : x ≡ get_or (drop start old) (i - start) x
-    within_read =
-        let at : start + (i - start) ≡ i = omega (arith, le) in
-        is ∙ ap (λ l. get_or l i x) h.1 ∙ get_or_append_left old h.0 x i lt ∙ sym (get_or-drop start old (i - start) x ∙ ap (λ k. get_or old k x) at)
+    within_read = grind (arith, places, h.1)
 
     pub within_next : (y : T) → C x y → AppendsClones C old (new ++ y ∷ []) (slice_range old start (i + 1))
     within_next y clone =
@@ -93,11 +88,9 @@ module _ {T : Type 0} (C : T → T → Type 0) (old new : List T) (start i : ℕ
 
     pub within_refused : (I : T → Type 0) (end : ℕ) → i < end → end ≤ length old → (I x → ⊥) → (j : ℕ) × RefusedAt I (slice_range old start end) j
     within_refused I end before last refused =
-        let n = end - start in
-        let few : i - start < n = omega (arith, le, before) in
-        let long = length-take-le n (drop start old) (omega (arith, length-drop start old, last, le, before)) in
-        refused_at I (slice_range old start end) (i - start) x (omega (arith, long, few))
-        (within_read ∙ sym (get_or-take n (drop start old) (i - start) x few)) refused
+        let few : i - start < end - start = omega (arith, le, before) in
+        refused_at I (slice_range old start end) (i - start) x (omega (arith, length-take (end - start) (drop start old), length-drop start old, last, few))
+        (within_read ∙ sym (get_or-take (end - start) (drop start old) (i - start) x few)) refused
 
 -- what a value is after each outcome of a call, said at once
 pub chosen : {T E A : Type 0} (r : Result T E) {x : A} (y z : A) → OnOk r (x ≡ y) → OnErr r (x ≡ z) → x ≡ (if is_ok r then y else z)
@@ -116,10 +109,7 @@ module _ {T : Type 0} (old ys block now new items : List T) (at n m : ℕ) where
   pub written_last : now ≡ old ++ ys → length old ≡ at → length ys ≡ n → length block ≡ n → m ≡ length now
       → new ≡ block ++ drop n (take (length now - at) (drop at now)) → take m (written ++ drop (length written) items) ≡ old ++ block
   written_last is long behind whole all made =
-      let front : take at now ≡ old = rw is (take_at old ys at long) in
-      let part : take (length now - at) (drop at now) ≡ ys = rw (take_rest now at, is) (drop_at old ys at long) in
-      let over : new ≡ block = rw (made, part, drop_all n ys (omega (arith, behind)), append-nil) in
-      let left : post_of at (length now - at) now ≡ [] = drop_all (length now - at) (drop at now) (omega (arith, length-drop at now)) in
-      let same : written ≡ old ++ block = rw (left, append-nil, over, front) in
-      let sum : length (old ++ block) ≡ m = omega (arith, length-append old block, ap length is, length-append old ys, behind, whole, all) in
-      rw same (take_at (old ++ block) (drop (length (old ++ block)) items) m sum)
+      let few : length ys ≤ length (old ++ ys) - at = omega (arith, length-append old ys, long) in
+      let gone : drop n (take (length (old ++ ys) - at) ys) ≡ [] = drop_all n (take (length (old ++ ys) - at) ys) (omega (arith, length-take (length (old ++ ys) - at) ys, behind)) in
+      rw (made, is, take_at old ys at long, drop_at old ys at long, gone, drop_all (length (old ++ ys) - at) ys few, append-nil block, append-nil block)
+      (take_at (old ++ block) _ m (omega (arith, length-append old block, length-append old ys, ap length is, behind, whole, all)))

@@ -12,11 +12,11 @@ use Rattle.tinyvec_slots.specs.Slots.{Slots, items, items_len}
 use Rattle.tinyvec_slots.specs.Clones.{ClonesOver, AddsClones, AppendsAllOrNone}
 use Rattle.tinyvec_slots.proofs.CloneLemmas.{on_err}
 use Rattle.tinyvec.specs.View.{TinyView, view_len, view_inline, ViewInline, view_capacity}
-use Rattle.tinyvec.specs.Room.{MakesRoom}
-use Rattle.tinyvec.specs.Refused.{RefusedFor, ClonesBehind, ClonesInRoom, ClonesRefused}
+use Rattle.tinyvec.specs.Room.{KeepsRoom, MakesRoom}
+use Rattle.tinyvec.specs.Refused.{RoomGranted, RefusedFor, ClonesBehind, ClonesInRoom, ClonesRefused}
 use Rattle.tinyvec.specs.OnHeap.{PushesClones}
 use Rattle.tinyvec.proofs.TinyLemmas.{array_view, heap_view, used_up, on_ok_two, never_ok}
-use Rattle.tinyvec.proofs.FrameLemmas.{room_granted}
+use Rattle.tinyvec.proofs.FrameLemmas.{granted_no_less, room_granted}
 use Rattle.tinyvec.proofs.CloneLemmas.{appends_len, chosen, none_refused}
 use Rattle.tinyvec.proofs.RefusedLemmas.{granted_before, granted_then, spare_kept}
 
@@ -34,6 +34,8 @@ module _ {T X E : Type 0} (g : Clone.Ghosts T) (slots : ℕ) (xs : List T) (r : 
   pub record Extended (old new : TinyView T) : Type 0 where
     pub clones : AppendsAllOrNone g.is_clone xs r old.items new.items
     pub room : OnOk r (MakesRoom (view_inline old) slots (view_len old + length xs) old new r)
+    pub capacity : view_capacity slots old ≤ view_capacity slots new
+    pub same_room : KeepsRoom slots (view_len old + length xs) old new
     pub fits : view_len new ≤ view_capacity slots new
     pub succeeds : view_len old + length xs ≤ view_capacity slots old → All g.is_infallible xs → IsOk r
     pub refused : OnErr r (ClonesRefused g slots xs old new)
@@ -65,33 +67,32 @@ module _ {T X E : Type 0} (g : Clone.Ghosts T) (slots : ℕ) (xs : List T) (r : 
   }
 
   module _ (old new : TinyView T) where
-    -- there was room
-    pub extended_in_room : ClonesInRoom g slots xs old new r → view_len old + length xs ≤ view_capacity slots old → Extended old new
-    extended_in_room made room =
-        let granted = granted_before (view_inline old) slots (view_len old + length xs) old new made.place made.capacity room in record {
-          clones = all_or_none g.is_clone xs r old.items new.items made.items made.kept;
-          room = room_granted _ slots _ old new r granted made.fits
-              (on_ok_two r made.items made.spare (λ h spare. used_up old new (length xs) (appends_len g.is_clone old.items new.items xs h) (λ _. spare)));
+    -- room for them was granted, and then they came
+    extended : (mid : TinyView T) → mid.items ≡ old.items → (ViewInline mid → mid ≡ old) → RoomGranted (view_inline old) slots (view_len old + length xs) old new
+        → ClonesInRoom g slots xs mid new r → Extended old new
+    extended mid items stays granted made =
+        let kept = spare_kept old mid new stays made.place in record {
+          clones = all_or_none g.is_clone xs r old.items new.items
+              (on_ok_weaker r (subst (λ l. AppendsClones g.is_clone l new.items xs) items) made.items) (on_err_weaker r (λ h. h ∙ items) made.kept);
+          room = room_granted _ slots _ old new r granted made.fits (on_ok_two r made.items made.spare (λ h spare.
+              used_up old new (length xs) (appends_len g.is_clone mid.items new.items xs h ∙ ap (λ l. length l + length xs) items) (λ i. spare ∙ ap (drop (length xs)) (kept i))));
+          capacity = granted_no_less (view_inline old) slots (view_len old + length xs) old new granted;
+          same_room = granted.1;
           fits = made.fits;
           succeeds = λ _. made.succeeds;
-          refused = on_err_weaker r (λ h. inr (granted, h)) made.refused;
+          refused = on_err_weaker r (λ h. inr (granted, (h.0, h.1, λ i. rw (kept i) at h.2 i))) made.refused;
         }
+
+    -- there was room
+    pub extended_in_room : ClonesInRoom g slots xs old new r → view_len old + length xs ≤ view_capacity slots old → Extended old new
+    extended_in_room made room = extended old refl (λ _. refl) (granted_before (view_inline old) slots _ old new made.place made.capacity room) made
 
     -- room for n more was made first
     pub extended_grown : {Y F : Type 0} (n : ℕ) (mid : TinyView T) (y : Y) → n ≡ length xs
         → mid.items ≡ old.items → (ViewInline mid → mid ≡ old) → MakesRoom {E = F} (view_inline old) slots (view_len old + n) old mid (Ok y)
         → ClonesInRoom g slots xs mid new r → Extended old new
     extended_grown n mid y many items stays grown made =
-        let granted = granted_then (view_inline old) slots (view_len old + length xs) old new mid y made.place made.capacity (rw many at grown) in record {
-          clones = all_or_none g.is_clone xs r old.items new.items
-              (on_ok_weaker r (subst (λ l. AppendsClones g.is_clone l new.items xs) items) made.items) (on_err_weaker r (λ h. h ∙ items) made.kept);
-          room = room_granted _ slots _ old new r granted made.fits (on_ok_two r made.items made.spare (λ h spare.
-              used_up old new (length xs) (appends_len g.is_clone mid.items new.items xs h ∙ ap (λ l. length l + length xs) items)
-              (λ i. spare ∙ ap (drop (length xs)) (spare_kept old mid new stays made.place i))));
-          fits = made.fits;
-          succeeds = λ _. made.succeeds;
-          refused = on_err_weaker r (λ h. inr (granted, (h.0, h.1, λ i. rw (spare_kept old mid new stays made.place i) at h.2 i))) made.refused;
-        }
+        extended mid items stays (granted_then (view_inline old) slots (view_len old + length xs) old new mid y made.place made.capacity (rw many at grown)) made
 
   -- room for them was refused
   pub extended_refused : {Y F : Type 0} (old new : TinyView T) (n : ℕ) (e : F) → n ≡ length xs → IsErr r
@@ -99,6 +100,8 @@ module _ {T X E : Type 0} (g : Clone.Ghosts T) (slots : ℕ) (xs : List T) (r : 
   extended_refused old new n e many err grown = record {
     clones = all_or_none g.is_clone xs r old.items new.items (never_ok _ r err) (on_err r grown.refused.items);
     room = never_ok _ r err;
+    capacity = grown.capacity;
+    same_room = λ fits. grown.same_room (omega (arith, fits, many));
     fits = grown.fits;
     succeeds = λ fits _. absurd (false≢true (grown.succeeds (omega (arith, fits, many))));
     refused = on_err r (inl (omega (arith, grown.full, many), grown.refused));
@@ -115,13 +118,6 @@ copies_refused g slots n need x old new is h =
       | inr some ↦
           let at = some.1 in
           let lt : at.0 < n = omega (arith, at.1.0, length-replicate n x) in
-          inr (
-            rw all at some.0,
-            (
-              at.0,
-              lt,
-              λ sure. at.1.1 x (subst g.is_infallible (sym (get_or-replicate n at.0 x x lt)) sure),
-              λ i. subst (λ l. ClonesOver g.is_clone l at.0 old.spare new.spare) (take-replicate at.0 n x (omega (arith, lt))) (at.2 i),
-            ),
-          )
+          let refused : ¬ (g.is_infallible x) = λ sure. at.1.1 x (subst g.is_infallible (sym (get_or-replicate n at.0 x x lt)) sure) in
+          inr (rw all at some.0, (at.0, lt, refused, λ i. subst (λ l. ClonesOver g.is_clone l at.0 old.spare new.spare) (take-replicate at.0 n x (omega (arith, lt))) (at.2 i)))
     ]

@@ -16,7 +16,7 @@ use Rattle.tinyvec.specs.declared.tiny_vec.TinyVec.{TinyVec}
 use Rattle.tinyvec.specs.declared.tiny_vec.TinyVec.TheVariants.{Inline, Heap}
 use Rattle.tinyvec.specs.Room.{Grows, MakesRoom}
 use Rattle.tinyvec.specs.Refused.{RoomGranted}
-use Rattle.tinyvec.proofs.TinyLemmas.{array_view, heap_view, capacity_inline, view_unchanged, slots_taken, taken, used_up, used_rule, UsesSpare, slots_after_room, tiny_slots_then}
+use Rattle.tinyvec.proofs.TinyLemmas.{array_view, heap_view, capacity_inline, slots_taken, taken, used_up, used_rule, UsesSpare, slots_after_room, tiny_slots_then}
 use Rattle.tinyvec.proofs.RefusedLemmas.{granted_then, granted_before}
 use Rattle.tinyvec_array.proofs.ViewLemmas.{still_fits}
 
@@ -50,16 +50,13 @@ doubled_more m k mid last once again = again ∙ ap (λ n. 2 * n) once ∙ sym (
 
 doubled_again : (first mid last : ℕ) → (first < mid) ⊎ (mid ≤ first) → first ≤ mid → last ≡ max (2 * mid) (mid + 1)
     → (first < mid → (k : ℕ) × (mid ≡ 2 ^ k * max 1 first)) → (k : ℕ) × (last ≡ 2 ^ k * max 1 first)
-doubled_again first mid last (inl more) le is h = let before = h more in (suc before.0, doubled_more (max 1 first) before.0 mid last before.1 (omega (arith, more, is)))
+doubled_again first mid last (inl more) le is h = (suc (h more).0, doubled_more (max 1 first) (h more).0 mid last (h more).1 (omega (arith, more, is)))
 doubled_again first mid last (inr least) le is h = doubled_once first last (subst (λ n. last ≡ max (2 * n) (n + 1)) (omega (arith, le, least)) is)
 
 module _ {T : Type 0} (D : T → Type 0) (slots : ℕ) where
   -- a list that is as it was
   pub stays_same : (v : TinyView T) → view_len v ≤ view_capacity slots v → StaysInPlace D slots v v
   stays_same v fits = record { items = refl; place = refl; slot_rule = slots_taken D v v 0 (omega arith) refl; capacity = refl; fits = fits }
-
-  pub unchanged_stays : (v w : TinyView T) → view_len v ≤ view_capacity slots v → Unchanged v w → StaysInPlace D slots v w
-  unchanged_stays v w fits h = subst (λ u. Becomes D slots v u u.items) (sym (view_unchanged v w h)) (stays_same v fits)
 
   -- a list that used up k spare slots in its place
   pub taken_stays : (v w : TinyView T) (k : ℕ) → view_len w ≡ view_len v + k → view_len v + k ≤ view_capacity slots v → w.spare ≡ drop k v.spare
@@ -115,13 +112,17 @@ module _ {T : Type 0} (D : T → Type 0) (slots : ℕ) where
   grows_in_room v w le h = record { items = refl; place = same_side slots (view_len w) v.place w.place le h.place; slot_rule = h.slot_rule; capacity = h.same_room le; fits = h.fits }
 
 module _ {T : Type 0} (exact : Bool) (slots need : ℕ) (old new : TinyView T) where
+  -- the capacity is no less then
+  pub granted_no_less : RoomGranted exact slots need old new → view_capacity slots old ≤ view_capacity slots new
+  granted_no_less granted = no_less exact need (view_capacity slots old) (view_capacity slots new) (cases_lt (view_capacity slots old) need) granted.1 granted.2
+
   -- a call that was granted room, and leaves a list that fits it
   pub room_granted : {X E : Type 0} (r : Result X E) → RoomGranted exact slots need old new → view_len new ≤ view_capacity slots new → OnOk r (UsesSpare old new)
       → OnOk r (MakesRoom exact slots need old new r)
   room_granted (Ok y) granted fits spare = record {
     place = granted.0;
     spare = spare;
-    capacity = no_less exact need (view_capacity slots old) (view_capacity slots new) (cases_lt (view_capacity slots old) need) granted.1 granted.2;
+    capacity = granted_no_less granted;
     same_room = granted.1;
     grown = granted.2;
     fits = fits;

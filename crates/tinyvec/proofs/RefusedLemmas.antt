@@ -1,5 +1,5 @@
 -- Lemmas on what refused calls leave.
-use Rattle.std.proofs.Common.{◌≡◌, ℕ, ◌+◌, ◌-◌, ◌≤◌, List, [], ◌++◌, take, drop, slice_range, refl, sym, ap, subst, ◌∙◌, le_refl, arith, append-nil, length, length-take, length-take-le, length-drop}
+use Rattle.std.proofs.Common.{◌≡◌, ℕ, ◌+◌, ◌-◌, ◌≤◌, List, [], ◌++◌, take, drop, slice_range, refl, sym, ap, subst, ◌∙◌, le_refl, arith, append-nil, add-zero, ◌<◌, length, length-take, length-take-le, length-drop}
 use Rattle.std.proofs.lemmas.List.{get_or-take, get_or-drop}
 use Rattle.std.specs.Prelude.{Bool, IsTrue, Ok}
 use Rattle.std.proofs.lemmas.List.Elements.{All-nil}
@@ -16,16 +16,12 @@ module _ {T : Type 0} (I : T → Type 0) (xs : List T) where
   -- what was refused among the first n was refused
   pub refused_in_front : (n j : ℕ) → RefusedAt I (take n xs) j → RefusedAt I xs j
   refused_in_front n j h =
-      let below = h.0 in
-      let long = length-take n xs in
-      (omega (arith, below, long), λ d. subst (λ x. ¬ (I x)) (get_or-take n xs j d (omega (arith, below, long))) (h.1 d))
+      let both : (j < n) × (j < length xs) = (omega (arith, h.0, length-take n xs), omega (arith, h.0, length-take n xs)) in
+      (both.1, λ d. subst (λ x. ¬ (I x)) (get_or-take n xs j d both.0) (h.1 d))
 
   -- and among those behind them
   pub refused_behind : (n j : ℕ) → RefusedAt I (drop n xs) j → RefusedAt I xs (n + j)
-  refused_behind n j h =
-      let below = h.0 in
-      let long = length-drop n xs in
-      (omega (arith, below, long), λ d. subst (λ x. ¬ (I x)) (get_or-drop n xs j d) (h.1 d))
+  refused_behind n j h = (omega (arith, h.0, length-drop n xs), λ d. subst (λ x. ¬ (I x)) (get_or-drop n xs j d) (h.1 d))
 
 -- what stands behind the list, with defaults in the slots that were vacated from m on
 abbrev Behind : {T : Type 0} → (T → Type 0) → TinyView T → TinyView T → ℕ → List T → Type 0
@@ -39,7 +35,6 @@ module _ {T : Type 0} (D I : T → Type 0) (C : T → T → Type 0) (source : Li
   pub partly_over : (j : ℕ) → j ≤ m → RefusedAt I source j → ClonesOver C (take j source) j (take m old.items) new.items
       → (ViewInline new → Behind D old new m old.spare) → InPart
   partly_over j le refused over spares =
-      let sum : j + 0 ≡ j = omega arith in
       let none : m + 0 - m ≡ 0 = omega arith in
       let nothing : slice_range source m (m + 0) ≡ [] = ap (λ n. take n (drop m source)) none in
       record {
@@ -48,12 +43,10 @@ module _ {T : Type 0} (D I : T → Type 0) (C : T → T → Type 0) (source : Li
         made = over.made;
         within = le;
         in_order = λ h. absurd (omega (arith, h));
-        refused_at = rw sum refused;
+        refused_at = rw (add-zero j) refused;
         clones = over.clones;
         listed = over.written ∙ ap (λ l. over.made ++ l) (sym (between_is old.items j m));
-        left = λ i.
-            let h = spares i in
-            (h.0, h.1, [], rw nothing tt, rw (append-nil h.0) h.2);
+        left = λ i. ((spares i).0, (spares i).1, [], rw nothing tt, rw (append-nil (spares i).0) (spares i).2);
       }
 
   -- or one of those behind, and the list is as long
@@ -73,9 +66,7 @@ module _ {T : Type 0} (D I : T → Type 0) (C : T → T → Type 0) (source : Li
         refused_at = refused;
         clones = clones;
         listed = sym (ap (λ l. new.items ++ l) nothing ∙ append-nil new.items);
-        left = λ i.
-            let over = spares i in
-            ([], (freed, All-nil D), over.made, rw more over.clones, over.written);
+        left = λ i. ([], (freed, All-nil D), (spares i).made, rw more (spares i).clones, (spares i).written);
       }
 
 module _ {T : Type 0} (D : T → Type 0) where
@@ -86,17 +77,12 @@ module _ {T : Type 0} (D : T → Type 0) where
       let was = sym frame.place ∙ j in
       let h = rule (sym same ∙ was) was in
       let long : view_len mid ≡ m = ap length cut ∙ length-take-le m old.items le in
-      let no_more : view_len mid - view_len old ≡ 0 = omega arith in (
-        h.0,
-        (h.1.0 ∙ ap (λ n. view_len old - n) long, h.1.1),
-        frame.spare ∙ h.2 ∙ ap (λ n. h.0 ++ drop n old.spare) no_more,
-      )
+      let no_more : view_len mid - view_len old ≡ 0 = omega arith in
+      (h.0, (h.1.0 ∙ ap (λ n. view_len old - n) long, h.1.1), frame.spare ∙ h.2 ∙ ap (λ n. h.0 ++ drop n old.spare) no_more)
 
   -- a list that is as long vacated none
   pub none_freed : (old new : TinyView T) (m : ℕ) → m ≡ view_len old → new.spare ≡ old.spare → Behind D old new m old.spare
-  none_freed old new m long same =
-      let freed : 0 ≡ view_len old - m = omega arith in
-      ([], (freed, All-nil D), same)
+  none_freed old new m long same = ([], (omega arith, All-nil D), same)
 
 -- room was made first: a list that is inline afterwards had its old spare slots then
 pub spare_kept : {T : Type 0} (old mid new : TinyView T) → (ViewInline mid → mid ≡ old) → view_inline new ≡ view_inline mid

@@ -1,12 +1,14 @@
 -- Lemmas on the list, the spare slots and the place.
-use Rattle.std.proofs.Common.{Vec, Global, vec_capacity, ◌≡◌, ℕ, ◌+◌, ◌-◌, ◌<◌, ◌≤◌, replicate, [], ◌∷◌, length, drop, ◌++◌, refl, sym, ap, subst, ◌∙◌, length-set, length-drop, slice_set, insert, remove, All, arith, rules}
-use Rattle.std.specs.Prelude.{OnOk, OnErr, IsErr, IfOk, Result, Ok, Err}
+use Rattle.std.proofs.Common.{Vec, Global, vec_capacity, ◌≡◌, ℕ, ◌+◌, ◌-◌, ◌<◌, ◌≤◌, replicate, [], ◌∷◌, length, drop, ◌++◌, refl, sym, ap, subst, ◌∙◌, length-set, length-drop, slice_set, insert, remove, All, arith}
+use Rattle.std.specs.Prelude.{OnOk, OnErr, IsErr, Result, Ok, Err}
+use Rattle.std.proofs.lemmas.Result.{IfOk-from_err}
 use Rattle.std.proofs.lemmas.List.{drop-drop, nil_from_length, length_push}
 use Rattle.std.proofs.lemmas.List.Edits.{length-insert, length-remove}
 use Rattle.std.proofs.lemmas.List.Elements.{All-drop, All-nil}
-use Rattle.tinyvec_slots.specs.Slots.{Slots, AreDefaults, Vacates, SlotRule, items, items_len, spare}
+use Rattle.tinyvec_slots.specs.Slots.{Slots, Vacates, SlotRule, items, items_len, spare}
 use Rattle.tinyvec_slots.proofs.SlotsLemmas.{slots_used, slots_freed, defaults_are, items-with_slot, spare-with_slot}
-use Rattle.tinyvec.specs.View.{in_array, on_heap, Place, lies_inline, capacity_in, TinyView, view_len, view_inline, ViewInline, TinySlotRule, SameFrame, Unchanged}
+use Rattle.tinyvec.specs.View.{in_array, on_heap, Place, lies_inline, capacity_in, TinyView, view_len, view_inline, ViewInline, TinySlotRule, SameFrame, Unchanged, IsNew}
+use Rattle.tinyvec.specs.Room.{Grows, Collects}
 use Rattle.tinyvec_array.specs.ArrayVec.{view_of, items_of, slots_of}
 use Rattle.tinyvec_array.proofs.ViewLemmas.{view_of-at}
 use Rattle.tinyvec_array.specs.declared.storage.Slots as Storage
@@ -97,14 +99,21 @@ module _ {T : Type 0} (D : T → Type 0) where
   pub used_rule : (old new : TinyView T) → view_len old ≤ view_len new → UsesSpare old new → TinySlotRule D old new
   used_rule old new le spare i j = slots_taken old new (view_len new - view_len old) (omega (arith, le)) (spare i j le) i j
 
-  -- an empty inline list among defaults was made longer: what is left of them
-  pub defaults_left : (slots : ℕ) (old new : TinyView T) → old.items ≡ [] → ViewInline old → AreDefaults D slots old.spare
-      → TinySlotRule D old new → ViewInline new → AreDefaults D (slots - view_len new) new.spare
-  defaults_left slots old new none inline made rule still =
-      let zero : view_len old ≡ 0 = ap length none in
-      let n = view_len new - view_len old in
-      let is = taken old new (omega (arith, zero)) rule inline still in
-      (ap length is ∙ length-drop n old.spare ∙ omega (arith, made.0, zero), subst (All D) (sym is) (All-drop D n old.spare made.1))
+  -- what a new list collects item by item
+  pub collected : (slots : ℕ) (old new : TinyView T) → IsNew D slots old → Grows D slots old new → Collects D slots new.items new
+  collected slots old new made grows =
+      let zero : view_len old ≡ 0 = ap length made.items in
+      let first = capacity_inline slots old made.place in
+      let n = view_len new - view_len old in record {
+        items = refl;
+        place = (λ i. (grows.place.0 i).1, λ le. grows.place.1 (made.place, le));
+        spare = λ i.
+            let is = taken old new (omega (arith, zero)) grows.slot_rule made.place i in
+            (ap length is ∙ length-drop n old.spare ∙ omega (arith, made.spare.0, zero), subst (All D) (sym is) (All-drop D n old.spare made.spare.1));
+        grown = rw first at grows.grown;
+        doubled = rw first at grows.doubled;
+        fits = grows.fits;
+      }
 
   -- the slot rule of a call that first made room
   pub slots_after_room : (old mid new : TinyView T) → (ViewInline mid → mid ≡ old) → view_inline new ≡ view_inline mid
@@ -115,11 +124,8 @@ module _ {T : Type 0} (D : T → Type 0) where
   pub tiny_slots_then : (a b c : TinyView T) → (ViewInline c → ViewInline b) → view_len a ≤ view_len b → view_len b ≤ view_len c
       → TinySlotRule D a b → TinySlotRule D b c → TinySlotRule D a c
   tiny_slots_then a b c place le more g h i k =
-      let first = view_len b - view_len a in
-      let second = view_len c - view_len b in
-      let both : first + second ≡ view_len c - view_len a = omega arith in
-      slots_taken a c (view_len c - view_len a) (omega arith)
-      (taken b c more h (place k) k ∙ ap (drop second) (taken a b le g i (place k)) ∙ drop-drop second first a.spare ∙ ap (λ n. drop n a.spare) both) i k
+      let both : view_len b - view_len a + (view_len c - view_len b) ≡ view_len c - view_len a = omega arith in
+      slots_taken a c (view_len c - view_len a) (omega arith) (rw (taken b c more h (place k) k, taken a b le g i (place k), drop-drop, both) refl) i k
 
   module _ (c : T) (only : (x : T) → D x → x ≡ c) where
     -- the slot rule where the item's `Default` answers one value only
@@ -146,10 +152,4 @@ on_err_two (Err e) p q f = f p q
 
 -- an error says nothing of success
 pub never_ok : {T E : Type 0} (P : Type 0) (r : Result T E) → IsErr r → OnOk r P
-never_ok P (Ok x) err = search rules
-never_ok P (Err e) err = tt
-
--- nor of a value
-pub never_if_ok : {T E : Type 0} (P : T → Type 0) (r : Result T E) → IsErr r → IfOk r P
-never_if_ok P (Ok x) err = search rules
-never_if_ok P (Err e) err = tt
+never_ok P r = IfOk-from_err r (λ _. P)

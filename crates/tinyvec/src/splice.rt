@@ -11,7 +11,7 @@ ghost use Rattle.tinyvec.specs.View.{TinySlotRule, StaysInPlace, Becomes, Unchan
 ghost use Rattle.tinyvec_slots.specs.Filling.{IntoIterYields, ShowsItems};
 ghost use Rattle.tinyvec_slots.specs.Replacing.{PutsBetween};
 ghost use Rattle.tinyvec_slots.specs.AnySplice.{SpliceBegins, FinishTouches};
-ghost use Rattle.tinyvec.specs.Room.{Grows, MakesRoom};
+ghost use Rattle.tinyvec.specs.Room.{KeepsRoom, Grows, MakesRoom};
 ghost use Rattle.tinyvec.specs.TinyVecSplice.{items_moved};
 
 use crate::TinyVec;
@@ -151,6 +151,9 @@ impl<A: Array> TinyVec<A> {
             (tiny_view_of A.Slots self.old) (tiny_view_of A.Slots self.new) result) }
         ensures slot_rule { OnOk result (TinySlotRule A.Item.is_default (tiny_view_of A.Slots self.old)
             (tiny_view_of A.Slots self.new)) }
+        ensures capacity { tiny_capacity A.CAPACITY self.old ≤ tiny_capacity A.CAPACITY self.new }
+        ensures same_room { KeepsRoom A.CAPACITY (tiny_len_of A.Slots self.new)
+            (tiny_view_of A.Slots self.old) (tiny_view_of A.Slots self.new) }
         ensures fits { tiny_len_of A.Slots self.new ≤ tiny_capacity A.CAPACITY self.new }
 
         // If there is room it allocates nothing.

@@ -1,5 +1,5 @@
 -- Calls that append to a vector over a lent slice, one after another.
-use Rattle.std.proofs.Common.{◌≡◌, ◌∙◌, ◌-◌, ◌∷◌, List, [], ◌++◌, ap, sym, length, drop, append_assoc, length-append}
+use Rattle.std.proofs.Common.{◌≡◌, ◌∙◌, ◌-◌, ◌∷◌, List, [], ◌++◌, ap, length, drop, append_assoc, length-append}
 use Rattle.std.proofs.lemmas.List.{drop-drop, length-drop}
 use Rattle.std.specs.List.{flat_map}
 use Rattle.tinyvec_array.specs.Appends.{LentVec, Appends}
@@ -11,8 +11,7 @@ module _ {T : Type 0} where
   Appends-then xs ys u v w first second = record {
     same_reference = second.same_reference ∙ first.same_reference;
     items = second.items ∙ ap (λ l. l ++ ys) first.items ∙ append_assoc _ xs ys;
-    spare = second.spare ∙ ap (drop (length ys)) first.spare ∙ drop-drop (length ys) (length xs) (spare u)
-        ∙ ap (λ n. drop n (spare u)) (sym (length-append xs ys));
+    spare = cc (second.spare, first.spare, drop-drop (length ys) (length xs) (spare u), length-append xs ys);
   }
 
   -- how many spare slots are left

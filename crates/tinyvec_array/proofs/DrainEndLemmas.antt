@@ -42,8 +42,7 @@ module _ {T : Type 0} (D : T → Type 0) (c : T) (only : (x : T) → D x → x �
       → (items_of g v ≡ drain_kept g first) × (spare_of g v ≡ replicate (drain_count first) c ++ drain_spare g first)
       × (slots_of g v ≡ drain_kept g first ++ (replicate (drain_count first) c ++ drain_spare g first))
   drained g first last v kept h =
-      let listed = h.1 ∙ kept.kept in
-      let behind : spare_of g v ≡ replicate (drain_count first) c ++ drain_spare g first =
-      h.2.2 ∙ ap (λ ds. ds ++ drain_spare g last) (defaults_are D c only (drain_count last) h.2.0 h.2.1)
-      ∙ ap (λ n. replicate n c ++ drain_spare g last) kept.count ∙ ap (λ xs. replicate (drain_count first) c ++ xs) kept.spare in
-      (listed, behind, slots_are (view_of g v) ∙ ap (λ xs. xs ++ spare_of g v) listed ∙ ap (λ xs. drain_kept g first ++ xs) behind)
+      let listed : items_of g v ≡ drain_kept g first = h.1 ∙ kept.kept in
+      let defaults = defaults_are D c only (drain_count last) h.2.0 h.2.1 in
+      let behind : spare_of g v ≡ replicate (drain_count first) c ++ drain_spare g first = cc (h.2.2, defaults, kept.count, kept.spare) in
+      (listed, behind, cc (slots_are (view_of g v), listed, behind))

@@ -12,9 +12,7 @@ use Rattle.tinyvec_array.proofs.ViewLemmas.{parts_of}
 -- n is how long the list is, and k the vector's `len`
 pub put_in_parts : {X : Type 0} (k : ℕ) (xs : List X) (n : ℕ) (is : n ≡ length (take k xs)) (i : ℕ) (x : X)
     → insert (take n xs) i x ++ drop (n + 1) xs ≡ insert (take k xs) i x ++ drop 1 (drop k xs)
-put_in_parts k xs n is i x =
-    ap (λ l. insert l i x ++ drop (n + 1) xs) (list_to k xs n is)
-    ∙ ap (λ l. insert (take k xs) i x ++ l) (sym (drop-drop 1 n xs) ∙ ap (drop 1) (spare_from k xs n is))
+put_in_parts k xs n is i x = cc (list_to k xs n is, spare_from k xs n is, drop-drop 1 n xs)
 
 module _ {S T L : Type 0} (g : Storage.Ghosts S T L) (v : ArrayVec S L) (i : ℕ) (x : T) (le : i ≤ length (items_of g v)) where
   holds : g.slots (inserted_at g v i x).slots ≡ insert (items_of g v) i x ++ drop 1 (spare_of g v)

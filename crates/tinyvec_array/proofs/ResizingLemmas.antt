@@ -1,5 +1,5 @@
 -- Lemmas on a list that is cut item by item, where each vacated slot is written.
-use Rattle.std.proofs.Common.{◌≡◌, ℕ, suc, ◌-◌, ◌<◌, ◌≤◌, List, ◌∷◌, ◌++◌, length, take, replicate, sym, ap, subst, ◌∙◌, arith, length-take-le}
+use Rattle.std.proofs.Common.{◌≡◌, ℕ, suc, ◌-◌, ◌<◌, ◌≤◌, List, ◌∷◌, ◌++◌, length, take, replicate, ap, subst, ◌∙◌, arith, length-take-le}
 use Rattle.std.proofs.lemmas.List.{take-take}
 use Rattle.std.proofs.lemmas.List.Elements.{same_from_all_zip}
 use Rattle.std.specs.List.{AllZip}
@@ -13,9 +13,7 @@ module _ {X : Type 0} (whole old new : List X) (some : 0 < length old) (last : n
 
   -- what is left are still the first items
   pub first_items : old ≡ take (length old) whole → new ≡ take (length new) whole
-  first_items is =
-      last ∙ ap (take (length old - 1)) is ∙ take-take (length old - 1) (length old) whole (omega arith)
-      ∙ ap (λ n. take n whole) (sym one_less)
+  first_items is = cc (is, last, one_less, take-take (length old - 1) (length old) whole (omega arith))
 
   -- and one more slot was written
   pub one_more : length old ≤ length whole → suc (length whole - length old) ≡ length whole - length new
@@ -30,9 +28,7 @@ module _ {X : Type 0} (whole old new : List X) (some : 0 < length old) (last : n
 
 -- what is left, in the words of how many slots were written
 pub left_after : {X : Type 0} (xs : List X) (k : ℕ) → k ≤ length xs → take k xs ≡ take (length xs - (length xs - k)) xs
-left_after xs k le =
-    let back : k ≡ length xs - (length xs - k) = omega arith in
-    ap (λ n. take n xs) back
+left_after xs k le = let back : k ≡ length xs - (length xs - k) = omega arith in cc
 
 -- where clones equal their originals
 module _ {X : Type 0} (C : X → X → Type 0) (rule : ClonesAreEqual C) where

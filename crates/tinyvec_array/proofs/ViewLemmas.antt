@@ -21,20 +21,15 @@ use Rattle.tinyvec_array.specs.declared.array_vec.ArrayVec.{ArrayVec}
 -- what was written over the first n slots leaves the list as long as it was
 front_len : {X : Type 0} (k : ℕ) (xs : List X) (n : ℕ) → n ≡ length (take k xs) → (ws : List X) → length (take k (with_front xs n ws)) ≡ n
 front_len k xs n is ws =
-    let first = length-take k xs in
-    let part = length-take n xs in
-    let written = length_refill n (take n xs) ws (omega (arith, is, first, part)) in
-    let all = length-append (refill n (take n xs) ws) (drop n xs) in
-    let behind = length-drop n xs in
-    omega (arith, length-take k (with_front xs n ws), all, written, behind, first, is)
+    let written = length_refill n (take n xs) ws (omega (arith, is, length-take k xs, length-take n xs)) in
+    omega (arith, is, written, length-take k (with_front xs n ws), length-take k xs, length-append (refill n (take n xs) ws) (drop n xs), length-drop n xs)
 
 -- the items were written as a slice
 module _ {S T L : Type 0} (g : Storage.Ghosts S T L) (v : ArrayVec S L) (ws : List T) where
   pub slots_of-written : length ws ≡ length (items_of g v) → slots_of g (with_items_of g v ws) ≡ ws ++ spare_of g v
   slots_of-written long =
-      g.slots_written v.slots (with_front (g.slots v.slots) (length (items_of g v)) ws)
-      ∙ sym (with_front-as_long (g.slots v.slots) ws (length (items_of g v)) long)
-      ∙ ap (λ l. ws ++ l) (spare_from (g.count v.len) (g.slots v.slots) (length (items_of g v)) refl)
+      let n = length (items_of g v) in
+      cc (g.slots_written v.slots (with_front (g.slots v.slots) n ws), with_front-as_long (g.slots v.slots) ws n long, spare_from (g.count v.len) (g.slots v.slots) n refl)
 
   -- however long the written slice is
   pub len_of-written : len_of g (with_items_of g v ws) ≡ len_of g v
@@ -50,9 +45,8 @@ module _ {S T L : Type 0} (g : Storage.Ghosts S T L) (v : ArrayVec S L) (ws : Li
   pub slots_of-back : length ws ≡ length (spare_of g v) → slots_of g put_back ≡ items_of g v ++ ws
   slots_of-back long =
       let behind = spare_from (g.count v.len) (g.slots v.slots) (len_of g v) refl in
-      g.slots_written v.slots (with_back (slots_of g v) (len_of g v) ws)
-      ∙ sym (with_back-as_long (slots_of g v) ws (len_of g v) (long ∙ sym (ap length behind)))
-      ∙ ap (λ l. l ++ ws) (list_to (g.count v.len) (slots_of g v) (len_of g v) refl)
+      let written = with_back-as_long (slots_of g v) ws (len_of g v) (long ∙ sym (ap length behind)) in
+      cc (g.slots_written v.slots (with_back (slots_of g v) (len_of g v) ws), written, list_to (g.count v.len) (slots_of g v) (len_of g v) refl)
 
   pub back_lender : length ws ≡ length (spare_of g v) → SameLender g v put_back
   back_lender long = record {
@@ -117,5 +111,4 @@ module _ {S T L : Type 0} (g : Storage.Ghosts S T L) (v : ArrayVec S L) (i : ℕ
 
 -- what the owner of a slice sees of a vector over it
 pub owner_sees : {T : Type 0} (v : ArrayVec (MutBor (List T)) ℕ) (xs ys : List T) → items v ≡ xs → spare v ≡ ys → slots v ≡ xs ++ ys
-owner_sees v xs ys listed behind =
-    sym (take-append-drop v.len v.slots.now) ∙ ap (λ l. l ++ spare v) listed ∙ ap (λ l. xs ++ l) behind
+owner_sees v xs ys listed behind = cc (take-append-drop v.len v.slots.now, listed, behind)

@@ -1,7 +1,7 @@
 -- Lemmas for proofs by hand of functions that lend on a part of a slice, which a call lent them.
 use mathlib.Core.Path.{◌≡◌, refl, sym, ap, ◌∙◌}
 use Prim.Native.Nat.{ℕ, zero, suc, ◌+◌, ◌-◌, ◌*◌, ◌^◌, ◌<◌, ◌≤◌}
-use native.Mathlib.Nat.{zero-mul, suc-mul}
+use native.Mathlib.Nat.{zero-mul, suc-mul, mul-le-mul_right}
 use native.Mathlib.Omega.{arith}
 use mathlib.Core.List.{List, [], ◌∷◌, ◌++◌}
 use seplogic.Ra.Ura.{Ura}
@@ -26,11 +26,20 @@ use denote.Ref.{MutRef}
 use denote.Slice.{MutSlice, Room, slice_val}
 use lib.ListN.{length, take, drop as drop_list, set, get_or, take-append-drop, length-drop, length-append, length-set}
 use borrow.Table.Elements.{at, at_mul, cut_app, join_app, focus_any, length-take-le}
+use Rattle.std.proofs.Common.{append_assoc}
+use Rattle.std.proofs.lemmas.List.{drop-drop}
+use Rattle.tinyvec_array.specs.SliceParts.{with_part, with_part-as_long}
 
 -- where the product fits a word, the count is zero or the size fits too
 pub uncapped : (i k : ℕ) → i * k < 2 ^ 64 → i * capped k ≡ i * k
 uncapped zero k h = zero-mul (capped k) ∙ sym (zero-mul k)
 uncapped (suc i) k h = let step = suc-mul i k in ap (λ (j : ℕ). suc i * j) (capped_is k (omega arith))
+
+-- where n elements have room, fewer have
+pub fewer : (R : RattleType) {n : ℕ} (k : ℕ) → Room R n → k ≤ n → Room R k
+fewer R {n} k room le =
+    let most : n * (mem R).size < 2 ^ 63 = room.1 in
+    let less : k * (mem R).size ≤ n * (mem R).size = mul-le-mul_right (mem R).size le in (omega arith, omega arith)
 
 module _ {M : Type 1} {𝓤 : Ura M} (𝓛 : Logic 𝓤) (R : RattleType) (κ : Lft) (q : Share) (b o : ℕ) (γ : GName) (xs : List R.Denot) where
   open 𝓛 use {H, A}
@@ -42,7 +51,7 @@ module _ {M : Type 1} {𝓤 : Ura M} (𝓛 : Logic 𝓤) (R : RattleType) (κ : 
   abbrev Whole : List Val → SProp 𝓤
   Whole vs = sem 𝓛 ((MutSlice (named 0) κ R).own_val (record { ref_ptr = (b, o); ghost_name = γ; now = xs }) vs)
 
-  -- The elements from i up to j are lent on. The slice ends as `filled` of what is then there.
+  -- the elements from i up to j are lent on
   module _ (i j : ℕ) (le : i ≤ j) (within : j ≤ length xs) where
     abbrev m : ℕ
     m = j - i
@@ -53,28 +62,36 @@ module _ {M : Type 1} {𝓤 : Ura M} (𝓛 : Logic 𝓤) (R : RattleType) (κ : 
     abbrev front : List R.Denot
     front = take i xs
 
-    abbrev pub run : List R.Denot
+    abbrev run : List R.Denot
     run = take m (drop_list i xs)
 
-    abbrev pub tail : List R.Denot
+    abbrev tail : List R.Denot
     tail = drop_list m (drop_list i xs)
 
     front_long : length front ≡ i
     front_long = length-take-le i xs (omega arith)
 
-    pub run_long : length run ≡ m
+    run_long : length run ≡ m
     run_long = let cut = length-drop i xs in length-take-le m (drop_list i xs) (omega arith)
 
     begins : at o (mem R).size (length front) ≡ p
     begins = ap (at o (mem R).size) front_long ∙ at_mul o (mem R).size i
 
-    module _ (filled : List R.Denot → List R.Denot) (joins : (ws : List R.Denot) → length ws ≡ m → front ++ (ws ++ tail) ≡ filled ws)
-        (room : Room R (length run)) where
+    abbrev filled : List R.Denot → List R.Denot
+    filled = with_part xs i j
+
+    -- what was lent, between the others, is the list with that part
+    joins : (ws : List R.Denot) → length ws ≡ m → front ++ (ws ++ tail) ≡ filled ws
+    joins ws e =
+        let ends : i + m ≡ j = omega arith in
+        sym (append_assoc front ws tail) ∙ ap (λ (l : List R.Denot). front ++ ws ++ l) (drop-drop m i xs ∙ ap (λ (k : ℕ). drop_list k xs) ends) ∙ with_part-as_long xs ws i j e
+
+    module _ (room : Room R (length xs)) where
       abbrev Rest : Fml
       Rest = fsep (cells (mem R) front b o) (cells (mem R) tail b (at p (mem R).size (length run)))
 
       abbrev LentRun : GName → SProp 𝓤
-      LentRun δ = sep 𝓤 (sem 𝓛 ((MutSlice (named 0) κ R).own_val (record { ref_ptr = (b, p); ghost_name = δ; now = run }) (slice_val (b, p) (length run) ∷ []))) (sep 𝓤 (A.lft κ q) (sem 𝓛 (follows (Array R 0) (Array R 0) γ δ filled)))
+      LentRun δ = sep 𝓤 (sem 𝓛 ((MutSlice (named 0) κ R).own_val (record { ref_ptr = (b, p); ghost_name = δ; now = run }) (slice_val (b, p) m ∷ []))) (sep 𝓤 (A.lft κ q) (sem 𝓛 (follows (Array R 0) (Array R 0) γ δ filled)))
 
       put_run : (ws : List R.Denot) → ent 𝓤 (sep 𝓤 (sem 𝓛 ((L (length run)).own_at ws b p)) (sem 𝓛 Rest)) (sem 𝓛 ((L (length xs)).own_at (filled ws) b o))
       put_run ws =
@@ -112,7 +129,8 @@ module _ {M : Type 1} {𝓤 : Ura M} (𝓛 : Logic 𝓤) (R : RattleType) (κ : 
           feq_i ! ℕ (length run) (length run) refl $ fjoin ! $ move ! (2 ∷ 3 ∷ 4 ∷ 0 ∷ 1 ∷ []) $ group ! 5 $
           use1 𝓛 (later (some (λ (δ : GName). ‵ (fobs δ ((coded_list R.coded).code run)) ⊛ ‵ (fbor κ (Body (L (length run)) b p δ)) ⊛ ‵ (flft κ q) ⊛ ‵ (follows (Array R 0) (Array R 0) γ δ filled))))
           (takes_part 𝓛 (L (length xs)) (L (length run)) filled κ q b o b p γ (sem 𝓛 Rest) put_run ((coded_list R.coded).code xs) ((coded_list R.coded).code xs) run) $ await ! tt $ pick ! (λ δ. split3 ! $
-          use2 𝓛 (‵ ((MutSlice (named 0) κ R).own_val (record { ref_ptr = (b, p); ghost_name = δ; now = run }) (slice_val (b, p) (length run) ∷ []))) (slice_of 𝓛 R (named 0) κ b p δ run room) $ now ! $ show ! LentRun δ $ done !)
+          use2 𝓛 (‵ ((MutSlice (named 0) κ R).own_val (record { ref_ptr = (b, p); ghost_name = δ; now = run }) (slice_val (b, p) (length run) ∷ []))) (slice_of 𝓛 R (named 0) κ b p δ run (fewer R (length run) room (omega (arith, run_long)))) $
+          rewrite ! 0 (λ (k : ℕ). ‵ ((MutSlice (named 0) κ R).own_val (record { ref_ptr = (b, p); ghost_name = δ; now = run }) (slice_val (b, p) k ∷ []))) run_long refl $ now ! $ show ! LentRun δ $ done !)
 
   -- the element at i is lent on
   module _ (i : ℕ) (lt : i < length xs) (d : R.Denot) where

@@ -1,5 +1,5 @@
 -- What was written or read where a call fails.
-use Rattle.std.proofs.Common.{◌≡◌, ◌≢◌, ◌∙◌, ap, sym, subst, ℕ, suc, ◌*◌, ◌<◌, ◌≤◌, arith, List, [], ◌∷◌, ◌++◌, length, length-append, map, take, drop, get_or, append_assoc, refl, Option, Result, Ok, Err, OnErr}
+use Rattle.std.proofs.Common.{◌≡◌, ◌≢◌, ◌∙◌, ap, sym, subst, ℕ, suc, ◌*◌, ◌<◌, ◌≤◌, arith, List, [], ◌∷◌, ◌++◌, length, length-append, map, take, drop, get_or, append_assoc, refl, Option, Result, Ok, Err}
 use Rattle.std.proofs.lemmas.List.{map-append, take-append-drop}
 use Rattle.std.proofs.Math.Seq.{drop-cons}
 use Rattle.std.specs.Io.KnownBytes.{Consumes}
@@ -17,10 +17,6 @@ use Rattle.tinyvec_borsh.specs.TwoParts.{HasParts, joined}
 use Rattle.tinyvec_borsh.specs.Reading.{FewBytes, TakesSome}
 use Rattle.tinyvec_borsh.specs.Writing.{WritesSpelling, WritesValue, AddsFront}
 use Rattle.tinyvec_borsh.proofs.ItemByItem.{WroteItems, failed-since}
-
-pub on-err : {T E P Q : Type 0} (r : Result T E) → (P → Q) → OnErr r P → OnErr r Q
-on-err (Ok x) f p = tt
-on-err (Err e) f p = f p
 
 -- a fault that was reported since a later state was reported since an earlier one
 pub fault-since : {f g h : ℕ} {e : BorshError} → f ≤ g → (e ≡ Io) × Reported g h → (e ≡ Io) × Reported f h
@@ -40,10 +36,6 @@ front-second old mid new one wrote front bytes p =
 pub parts_at : {T C : Type 0} (content : T → C) (xs : List T) (i : ℕ) (x : T) → i < length xs → x ≡ get_or xs i x → map content xs ≡ map content (take i xs) ++ (content x ∷ map content (drop (suc i) xs))
 parts_at content xs i x within is =
     ap (map content) (sym (take-append-drop i xs) ∙ ap (λ l. take i xs ++ l) (drop-cons xs i x within ∙ ap (λ y. y ∷ drop (suc i) xs) (sym is))) ∙ map-append content (take i xs) (x ∷ drop (suc i) xs)
-
--- the first ones, a block, and the others
-pub parts_around : {T : Type 0} (xs : List T) (i k : ℕ) → xs ≡ take i xs ++ (take k (drop i xs) ++ drop k (drop i xs))
-parts_around xs i k = sym (take-append-drop i xs) ∙ ap (λ l. take i xs ++ l) (sym (take-append-drop k (drop i xs)))
 
 module _ {W S T : Type 0} {contents : W → Option (List ℕ)} {P Q : List ℕ → Type 0} where
   -- the first part was not written

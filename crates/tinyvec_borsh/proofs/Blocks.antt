@@ -48,11 +48,10 @@ module _ {C : Type 0} (Spells : C → List ℕ → Type 0) (Fits : C → Type 0)
 
 -- a list was made longer, and what was added was written
 pub grown : {T : Type 0} (start end : ℕ) (old more mid ws xs : List T) → length old ≡ start → start ≤ end → mid ≡ take end old ++ more → length ws ≡ end → take end ws ≡ take start mid ++ xs → ws ≡ old ++ xs
-grown start end old more mid ws xs long order is all e =
-    sym (take_all end ws (omega (arith, all))) ∙ e ∙ ap (λ l. l ++ xs) (ap (take start) (is ∙ ap (λ l. l ++ more) (take_all end old (omega (arith, long, order)))) ∙ take_at old more start long)
+grown start end old more mid ws xs long order is all e = rw (← take_all end ws (omega (arith, all)), e, is, take_all end old (omega (arith, long, order)), take_at old more start long)
 
 pub length-mapped : {T C : Type 0} (content : T → C) (xs : List T) (n : ℕ) → n ≤ length xs → length (map content (take n xs)) ≡ n
-length-mapped content xs n within = length-map (take n xs) content ∙ length-take-le n xs within
+length-mapped content xs n within = simp (length-map, length-take-le)
 
 -- what was written from the start up to the end stands behind what stood before
 pub take-block : {T : Type 0} (start end : ℕ) (xs ys : List T) → start ≤ end → end ≤ length xs → length ys ≡ end - start → take end (put_mid start (end - start) xs ys) ≡ take start xs ++ ys

@@ -1,6 +1,6 @@
 -- Lists that are written and read item after item.
 use Rattle.std.proofs.Common.{◌≡◌, ◌∙◌, ap, sym, subst, ℕ, Bool, false, ◌+◌, ◌<◌, ◌≤◌, ◌⊎◌, inl, inr, List, [], ◌∷◌, ◌++◌, length, refl, arith, append-nil, length-append, Option, None, Some, Result, Ok, Err, le_refl, map, take, get_or}
-use Rattle.std.proofs.lemmas.List.{map-append, take_more}
+use Rattle.std.proofs.lemmas.List.{map-append, map_more}
 use Rattle.std.specs.Io.KnownBytes.{Appends, Consumes}
 use Rattle.std.proofs.KnownBytes.{Appends-trans, Consumes-trans}
 use Rattle.std.specs.List.{AllByRecursion}
@@ -134,13 +134,11 @@ module _ {C : Type 0} (Spells : C → List ℕ → Type 0) where
 
   pub wrote-next : {T : Type 0} (content : T → C) (xs : List T) (i : ℕ) (x : T) (old mid new : Option (List ℕ)) → i < length xs → x ≡ get_or xs i x → WroteItems (map content (take i xs)) old mid
       → (bytes : List ℕ) × Spells (content x) bytes × Appends mid new bytes → WroteItems (map content (take (i + 1) xs)) old new
-  wrote-next content xs i x old mid new within is w t =
-      let more : take (i + 1) xs ≡ take i xs ++ x ∷ [] = take_more xs i x within ∙ ap (λ y. take i xs ++ y ∷ []) (sym is) in
-      subst (λ cs. WroteItems cs old new) (sym (ap (map content) more ∙ map-append content (take i xs) (x ∷ []))) (record {
-        bytes = w.bytes ++ t.0;
-        spelled = items-more (map content (take i xs)) (content x) w.bytes t.0 w.spelled t.1;
-        appended = Appends-trans old mid new w.bytes t.0 w.appended t.2;
-      })
+  wrote-next content xs i x old mid new within is w t = rw (map_more content xs i x within, ← is) (record {
+    bytes = w.bytes ++ t.0;
+    spelled = items-more (map content (take i xs)) (content x) w.bytes t.0 w.spelled t.1;
+    appended = Appends-trans old mid new w.bytes t.0 w.appended t.2;
+  })
 
   module _ (Fits : C → Type 0) where
     -- the count and these items were read
@@ -276,6 +274,4 @@ module _ {C : Type 0} (Spells : C → List ℕ → Type 0) where
 
 pub fit-next : {T C : Type 0} (content : T → C) (Fits : C → Type 0) (xs : List T) (i : ℕ) (x : T) → i < length xs → x ≡ get_or xs i x → AllByRecursion Fits (map content (take i xs)) → Fits (content x)
     → AllByRecursion Fits (map content (take (i + 1) xs))
-fit-next content Fits xs i x within is fit f =
-    let more : take (i + 1) xs ≡ take i xs ++ x ∷ [] = take_more xs i x within ∙ ap (λ y. take i xs ++ y ∷ []) (sym is) in
-    subst (AllByRecursion Fits) (sym (ap (map content) more ∙ map-append content (take i xs) (x ∷ []))) (fit-more Fits (map content (take i xs)) (content x) fit f)
+fit-next content Fits xs i x within is fit f = rw (map_more content xs i x within, ← is) (fit-more Fits (map content (take i xs)) (content x) fit f)

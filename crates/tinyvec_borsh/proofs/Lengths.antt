@@ -1,19 +1,17 @@
 -- How many bytes a spelling has.
-use Rattle.std.proofs.Common.{◌≡◌, ◌∙◌, ap, sym, subst, ℕ, ◌+◌, ◌*◌, ◌-◌, ◌^◌, ◌<◌, List, [], ◌∷◌, ◌++◌, length, min, refl, arith, map, take, get_or, append-nil}
-use Rattle.std.proofs.lemmas.List.{map-append, take_more}
+use Rattle.std.proofs.Common.{◌≡◌, ◌∙◌, ap, ℕ, ◌+◌, ◌*◌, ◌-◌, ◌^◌, ◌<◌, List, [], ◌∷◌, ◌++◌, length, min, refl, arith, map, take, get_or, append-nil}
+use Rattle.std.proofs.lemmas.List.{map_more}
 use Rattle.tinyvec_borsh.specs.Items.{SpellsItems, SpellsList}
 use Rattle.tinyvec_borsh.specs.Number.{SpellsNumber}
 use Rattle.tinyvec_borsh.specs.TwoParts.{HasParts, group-first, parts-length, rest-so}
 
 numbers-length : (width : ℕ) (ns bytes : List ℕ) → SpellsItems (SpellsNumber width) ns bytes → length bytes ≡ width * length ns
 numbers-length width [] bytes p = omega (arith, ap length p)
-numbers-length width (n ∷ ns) bytes p =
-    let rest = numbers-length width ns p.rest p.is_rest in
-    parts-length p ∙ (λ i. p.is_first.many i + rest i) ∙ omega arith
+numbers-length width (n ∷ ns) bytes p = omega (arith, parts-length p, p.is_first.many, numbers-length width ns p.rest p.is_rest)
 
 -- of a list of numbers
 pub list-length : (width : ℕ) (ns bytes : List ℕ) → SpellsList (SpellsNumber width) ns bytes → length bytes ≡ 8 + width * length ns
-list-length width ns bytes p = parts-length p ∙ (λ i. p.is_first.many i + numbers-length width ns p.rest p.is_rest i)
+list-length width ns bytes p = omega (arith, parts-length p, p.is_first.many, numbers-length width ns p.rest p.is_rest)
 
 module _ {C : Type 0} (Spells : C → List ℕ → Type 0) where
   -- So long is each spelling of the items, up to the greatest number.
@@ -32,7 +30,4 @@ module _ {C : Type 0} (Spells : C → List ℕ → Type 0) where
 
   pub next-length : {T : Type 0} (content : T → C) (xs : List T) (i : ℕ) (x : T) (n m k : ℕ) → i < length xs → x ≡ get_or xs i x → k ≡ min (n + m) (2 ^ 64 - 1) → HaveLength (map content (take i xs)) n
       → ((bytes : List ℕ) → Spells (content x) bytes → m ≡ min (length bytes) (2 ^ 64 - 1)) → HaveLength (map content (take (i + 1) xs)) k
-  next-length content xs i x n m k within is sum have item =
-      let more : take (i + 1) xs ≡ take i xs ++ x ∷ [] = take_more xs i x within ∙ ap (λ y. take i xs ++ y ∷ []) (sym is) in
-      subst (λ cs. HaveLength cs k) (sym (ap (map content) more ∙ map-append content (take i xs) (x ∷ [])))
-      (subst (HaveLength (map content (take i xs) ++ content x ∷ [])) (sym sum) (one-more (map content (take i xs)) (content x) n m have item))
+  next-length content xs i x n m k within is sum have item = rw (map_more content xs i x within, ← is, sum) (one-more (map content (take i xs)) (content x) n m have item)

@@ -3,7 +3,8 @@ use Rattle.std.proofs.Common.{◌≡◌, ◌∙◌, ap, sym, subst, ℕ, ◌+◌
 use Rattle.std.proofs.Math.Nat.{div-mul-le_self, mul-le-mul_right}
 use Rattle.std.proofs.lemmas.Bool.{cases_lt}
 use Rattle.std.proofs.lemmas.List.{take_more, take_more_set}
-use Rattle.std.specs.List.{AllByRecursion}
+use Rattle.std.proofs.lemmas.List.Elements.{All-drop, All-from_get_or, All-from_recursion, All-take, recursion_from_All}
+use Rattle.std.specs.List.{All, AllByRecursion}
 use Rattle.std.specs.Io.KnownBytes.{Appends}
 use Rattle.std.proofs.KnownBytes.{Appends-trans}
 use Rattle.tinyvec_borsh.specs.declared.borsh_error.BorshError.{BorshError}
@@ -23,9 +24,7 @@ one-more i width = omega arith
 
 -- room for some numbers is room for each
 pub next_within : (i n width : ℕ) → i < n → i * width + width ≤ n * width
-next_within i n width within =
-    let more : (i + 1) * width ≤ n * width = mul-le-mul_right width (omega arith) in
-    omega (arith, more, one-more i width)
+next_within i n width within = grind arith
 
 -- a block fits the room
 pub block_within : (room count width : ℕ) → count ≤ room / width → count * width ≤ room
@@ -34,8 +33,7 @@ block_within room count width few =
     omega (arith, most, div-mul-le_self room width)
 
 pub small_bytes : (bytes : List ℕ) → ((i : ℕ) → get_or bytes i 0 < 256) → AllByRecursion (λ byte. byte < 256) bytes
-small_bytes [] small = tt
-small_bytes (x ∷ bytes) small = (small 0, small_bytes bytes (λ i. small (suc i)))
+small_bytes bytes small = recursion_from_All (λ byte. byte < 256) bytes (All-from_get_or (λ byte. byte < 256) bytes 0 (λ i _. small i))
 
 -- each byte spells itself
 pub spells-bytes : (xs : List ℕ) → AllByRecursion (λ byte. byte < 256) xs → SpellsItems (SpellsNumber 1) xs xs
@@ -45,43 +43,24 @@ spells-bytes (x ∷ xs) small = joined (x ∷ []) xs (record { many = refl; smal
 -- the first items, and the block behind them
 pub until-end : {T : Type 0} (start count : ℕ) (xs : List T) → take (start + count) xs ≡ take start xs ++ take (start + count - start) (drop start xs)
 until-end start count xs =
-    let many : start + count - start ≡ count = omega arith in
-    take-add start count xs ∙ ap (λ n. take start xs ++ take n (drop start xs)) (sym many)
-
-small-take : (n : ℕ) (bytes : List ℕ) → AllByRecursion (λ byte. byte < 256) bytes → AllByRecursion (λ byte. byte < 256) (take n bytes)
-small-take zero bytes small = tt
-small-take (suc n) [] small = tt
-small-take (suc n) (x ∷ bytes) small = (small.0, small-take n bytes small.1)
-
-small-drop : (n : ℕ) (bytes : List ℕ) → AllByRecursion (λ byte. byte < 256) bytes → AllByRecursion (λ byte. byte < 256) (drop n bytes)
-small-drop zero bytes small = small
-small-drop (suc n) [] small = tt
-small-drop (suc n) (x ∷ bytes) small = small-drop n bytes small.1
+    let many : start + count - start ≡ count = omega arith in rw many (take-add start count xs)
 
 module _ {C : Type 0} (Spells : C → List ℕ → Type 0) (Fits : C → Type 0) where
   -- the numbers of the first slots are spelled, and that of the next one
   pub spells-next : (width count : ℕ) (bytes : List ℕ) (xs : List C) (i : ℕ) (x : C) → i < length xs → count ≡ width → SpellsItems Spells (take i xs) (take (i * width) bytes)
       → Spells x (take count (drop (i * width) bytes)) → SpellsItems Spells (take (i + 1) (slice_set xs i x)) (take ((i + 1) * width) bytes)
-  spells-next width count bytes xs i x within same before is =
-      let more = items-more Spells (take i xs) x _ _ before (subst (λ n. Spells x (take n (drop (i * width) bytes))) same is) in
-      let front = ap (λ n. take n bytes) (one-more i width) ∙ take-add (i * width) width bytes in
-      subst (λ cs. SpellsItems Spells cs (take ((i + 1) * width) bytes)) (sym (take_more_set xs i x within)) (subst (SpellsItems Spells _) (sym front) more)
+  spells-next width count bytes xs i x within same before is = rw (take_more_set xs i x within, one-more i width, take-add (i * width) width bytes) (items-more Spells (take i xs) x _ _ before (rw same at is))
 
   pub fit-slot : (xs : List C) (i : ℕ) (x : C) → i < length xs → AllByRecursion Fits (take i xs) → Fits x → AllByRecursion Fits (take (i + 1) (slice_set xs i x))
   fit-slot xs i x within before fits = subst (AllByRecursion Fits) (sym (take_more_set xs i x within)) (fit-more Fits (take i xs) x before fits)
 
-  next-item : (xs : List C) (i : ℕ) (x : C) → i < length xs → x ≡ get_or xs i x → take (i + 1) xs ≡ take i xs ++ x ∷ []
-  next-item xs i x within is = take_more xs i x within ∙ ap (λ y. take i xs ++ y ∷ []) (sym is)
-
   -- the bytes of the first numbers were put into the room, and those of the next one
   pub spells-put : (width : ℕ) (xs : List C) (i : ℕ) (x : C) (room new bytes : List ℕ) → i < length xs → x ≡ get_or xs i x → take (i * width + width) new ≡ take (i * width) room ++ bytes
       → SpellsItems Spells (take i xs) (take (i * width) room) → Spells x bytes → SpellsItems Spells (take (i + 1) xs) (take ((i + 1) * width) new)
-  spells-put width xs i x room new bytes within is put before next =
-      let front = ap (λ n. take n new) (one-more i width) ∙ put in
-      subst (λ cs. SpellsItems Spells cs (take ((i + 1) * width) new)) (sym (next-item xs i x within is)) (subst (SpellsItems Spells _) (sym front) (items-more Spells (take i xs) x _ bytes before next))
+  spells-put width xs i x room new bytes within is put before next = rw (take_more xs i x within, ← is, one-more i width, put) (items-more Spells (take i xs) x _ bytes before next)
 
   pub fit-put : (xs : List C) (i : ℕ) (x : C) → i < length xs → x ≡ get_or xs i x → AllByRecursion Fits (take i xs) → Fits x → AllByRecursion Fits (take (i + 1) xs)
-  fit-put xs i x within is before fits = subst (AllByRecursion Fits) (sym (next-item xs i x within is)) (fit-more Fits (take i xs) x before fits)
+  fit-put xs i x within is before fits = rw (take_more xs i x within, ← is) (fit-more Fits (take i xs) x before fits)
 
   -- a block was put into the room and written behind the items so far
   pub wrote-block : (width n : ℕ) (xs ys zs : List C) (bytes room : List ℕ) (old mid new : Option (List ℕ)) → zs ≡ xs ++ ys → bytes ≡ take (n * width) room → n ≡ length ys → WroteItems Spells xs old mid
@@ -111,14 +90,14 @@ module _ {C : Type 0} (Spells : C → List ℕ → Type 0) (Fits : C → Type 0)
 
   module _ (width : ℕ) (of_bytes : List ℕ → C) (read : (bytes : List ℕ) → length bytes ≡ width → AllByRecursion (λ byte. byte < 256) bytes → Spells (of_bytes bytes) bytes × Fits (of_bytes bytes)) where
     -- of fewer bytes than so many numbers have, the last number that begins is cut
-    few-numbers : (n : ℕ) (input : List ℕ) → AllByRecursion (λ byte. byte < 256) input → length input < n * width → AfterItems Spells Fits (TooFewBytes width) n Ended input
+    few-numbers : (n : ℕ) (input : List ℕ) → All (λ byte. byte < 256) input → length input < n * width → AfterItems Spells Fits (TooFewBytes width) n Ended input
     few-numbers zero input small few = absurd (omega (arith, few))
     few-numbers (suc n) input small few = elim (cases_lt (length input) width) [
       | inl cut ↦ record { items = []; fewer = omega arith; fit = tt; parts = joined [] input refl (refl, cut) }
       | inr enough ↦
           let long = length-take-le width input enough in
-          let one = read (take width input) long (small-take width input small) in
-          let rest = few-numbers n (drop width input) (small-drop width input small) (omega (arith, length-drop width input, few, enough)) in
+          let one = read (take width input) long (recursion_from_All (λ byte. byte < 256) (take width input) (All-take (λ byte. byte < 256) width input small)) in
+          let rest = few-numbers n (drop width input) (All-drop (λ byte. byte < 256) width input small) (omega (arith, length-drop width input, few, enough)) in
           record {
             items = of_bytes (take width input) ∷ rest.items;
             fewer = omega (arith, rest.fewer);
@@ -130,4 +109,4 @@ module _ {C : Type 0} (Spells : C → List ℕ → Type 0) (Fits : C → Type 0)
     -- so many numbers have `many` bytes, which were not all there
     pub few-bytes : (n many : ℕ) → many ≡ n * width → (e : BorshError) (input : List ℕ) → FewBytes many e input → AfterItems Spells Fits (TooFewBytes width) n e input
     few-bytes n many is e input few =
-        subst (λ f. AfterItems Spells Fits (TooFewBytes width) n f input) (sym few.0) (few-numbers n input few.1 (omega (arith, few.2, is)))
+        subst (λ f. AfterItems Spells Fits (TooFewBytes width) n f input) (sym few.0) (few-numbers n input (All-from_recursion (λ byte. byte < 256) input few.1) (omega (arith, few.2, is)))

@@ -1,5 +1,6 @@
 -- What is spelled is read.
 use Rattle.std.proofs.Common.{◌≡◌, ◌∙◌, ap, sym, subst, ℕ, ◌⊎◌, inl, inr, List, [], ◌∷◌, ◌++◌, map, refl, Option, None, Some, Result, Ok, Err, IfOk, IfErr, append-nil}
+use Rattle.std.proofs.lemmas.Result.{IfOk-weaker}
 use Rattle.std.proofs.lemmas.Simd.{map-map}
 use Rattle.tinyvec_borsh.specs.declared.borsh_error.BorshError.{BorshError}
 use Rattle.tinyvec_borsh.specs.declared.borsh_error.BorshError.TheVariants.{Ended, InvalidLength, InvalidUtf8, Io, Memory}
@@ -7,7 +8,6 @@ use Rattle.tinyvec_borsh.specs.Apart.{AreApart}
 use Rattle.tinyvec_borsh.specs.Code.{IsCode, TellsApart}
 use Rattle.tinyvec_borsh.specs.ItemsLaws.{same-item}
 use Rattle.tinyvec_borsh.specs.Reading.{ReadsSpelling, Fails, MayBe, ReadsBack}
-use Rattle.tinyvec_borsh.proofs.Outcomes.{if-ok}
 
 module _ {T C : Type 0} (content : T → C) (Spells : C → List ℕ → Type 0) (code : IsCode Spells) where
   pub takes-it : (c d : C) (bytes rest : List ℕ) (new : Option (List ℕ)) → Spells c bytes → ReadsSpelling (Spells d) (Some (bytes ++ rest)) new → (d ≡ c) × (new ≡ Some rest)
@@ -45,16 +45,13 @@ pub same-list : {T C : Type 0} (content : T → C) → TellsApart content → (x
 same-list content apart [] [] e = refl
 same-list content apart [] (y ∷ ys) e = cc
 same-list content apart (x ∷ xs) [] e = cc
-same-list content apart (x ∷ xs) (y ∷ ys) e =
-    let first : content x ≡ content y = cc in
-    let more : map content xs ≡ map content ys = cc in
-    λ i. apart x y first i ∷ same-list content apart xs ys more i
+same-list content apart (x ∷ xs) (y ∷ ys) e = λ i. apart x y (cc) i ∷ same-list content apart xs ys (cc) i
 
 module _ {V E T C : Type 0} (content : T → C) (apart : TellsApart content) (r : Result V E) where
   -- so a list that was read again is the one that was written
   pub same-items : (items : V → List T) (v : V) → IfOk r (λ w. map content (items w) ≡ map content (items v)) → IfOk r (λ w. items w ≡ items v)
-  same-items items v = if-ok r (λ w. same-list content apart (items w) (items v))
+  same-items items v = IfOk-weaker r _ _ (λ w. same-list content apart (items w) (items v))
 
   -- and so of a list of lists
   pub same-lists : {W : Type 0} (items : W → List T) (lists : V → List W) (v : V) → IfOk r (λ w. map (λ l. map content (items l)) (lists w) ≡ map (λ l. map content (items l)) (lists v)) → IfOk r (λ w. map items (lists w) ≡ map items (lists v))
-  same-lists items lists v = if-ok r (λ w e. same-list (map content) (same-list content apart) (map items (lists w)) (map items (lists v)) (map-map (map content) items (lists w) ∙ e ∙ sym (map-map (map content) items (lists v))))
+  same-lists items lists v = IfOk-weaker r _ _ (λ w e. same-list (map content) (same-list content apart) (map items (lists w)) (map items (lists v)) (map-map (map content) items (lists w) ∙ e ∙ sym (map-map (map content) items (lists v))))

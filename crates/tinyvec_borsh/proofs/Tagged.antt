@@ -16,10 +16,7 @@ one-byte n (b ∷ []) p = let same : b ≡ n = omega (arith, p.value) in λ i. s
 one-byte n (b ∷ d ∷ bytes) p = absurd (omega (arith, p.many))
 
 pub same-tagged : (n m : ℕ) (x y : List ℕ) → n ∷ x ≡ m ∷ y → (n ≡ m) × (x ≡ y)
-same-tagged n m x y e =
-    let head : n ≡ m = cc in
-    let tail : x ≡ y = cc in
-    (head, tail)
+same-tagged n m x y e = (cc, cc)
 
 module _ {C : Type 0} (tag : ℕ) (Spells : C → List ℕ → Type 0) where
   pub tagged-code : IsCode Spells → IsCode (SpellsTagged tag Spells)

@@ -1,6 +1,7 @@
 -- A buffer that is filled piece by piece.
-use Rattle.std.proofs.Common.{◌≡◌, zero, suc, ℕ, ◌+◌, ◌<◌, ◌≤◌, List, [], ◌∷◌, ◌++◌, length, take, drop, get_or, arith, length-take-le, length-drop, take-add, take-take, take_at, drop_at}
+use Rattle.std.proofs.Common.{◌≡◌, ℕ, ◌+◌, ◌<◌, ◌≤◌, List, ◌++◌, length, take, drop, get_or, arith, length-take-le, length-drop, take-add, take-take, take_at, drop_at}
 use Rattle.std.specs.List.{AllByRecursion}
+use Rattle.std.proofs.lemmas.List.Elements.{All-from_get_or, All-take, recursion_from_All}
 use Rattle.std.proofs.lemmas.Slice.{take-put_mid}
 use borrow.Rule.Slice.PartMut.{put_mid, same_len_mid}
 
@@ -15,6 +16,4 @@ length-part f k xs ys fits long = same_len_mid f k xs ys (omega (arith, length-t
 
 -- the first bytes of a buffer are bytes
 pub small-front : (n : ℕ) (bytes : List ℕ) → ((i : ℕ) → get_or bytes i 0 < 256) → AllByRecursion (λ byte. byte < 256) (take n bytes)
-small-front zero bytes small = tt
-small-front (suc n) [] small = tt
-small-front (suc n) (x ∷ bytes) small = (small 0, small-front n bytes (λ i. small (suc i)))
+small-front n bytes small = recursion_from_All (λ byte. byte < 256) (take n bytes) (All-take (λ byte. byte < 256) n bytes (All-from_get_or (λ byte. byte < 256) bytes 0 (λ i _. small i)))

@@ -1,7 +1,7 @@
 -- Lemmas on a splice that is driven by a word of ends.
-use Rattle.std.proofs.Common.{◌≡◌, ℕ, inl, inr, slice_range, if◌then◌else◌, ◌+◌, ◌-◌, ◌<◌, ◌≤◌, List, [], ◌∷◌, ◌++◌, length, take, drop, Option, Some, None, Result, Ok, Err, OnErr, Vec, Global, refl, sym, ap, subst, ◌∙◌, arith, get_or, true, false, length-append}
+use Rattle.std.proofs.Common.{◌≡◌, ℕ, inl, inr, slice_range, if◌then◌else◌, ◌+◌, ◌-◌, ◌<◌, ◌≤◌, List, [], ◌∷◌, ◌++◌, length, take, drop, Option, Some, None, Result, Ok, Err, OnErr, Vec, Global, refl, sym, ap, subst, ◌∙◌, arith, true, false, length-append}
 use Rattle.std.proofs.lemmas.Bool.{cases_lt, lt-ltb, le-ltb}
-use Rattle.std.proofs.lemmas.List.{nil_from_length, take_more, map-append, length-take-le, length-drop}
+use Rattle.std.proofs.lemmas.List.{nil_from_length, length-take-le, length-drop}
 use Rattle.std.specs.Iterator.{YieldsFirst, YieldsLast}
 use Rattle.std.specs.Vec.Iter.{into_iter_items, into_iter_len, into_iter_steps, into_iter_steps_back}
 use Rattle.std.specs.declared.vec.IntoIter.{IntoIter}
@@ -34,10 +34,6 @@ module _ {S T : Type 0} (gives gives_back : S → Option T → S → Type 0) whe
       RunsWord-then gives gives_back s word answers mid (front ∷ []) (r ∷ []) to asked (to, step, refl)
   RunsWord-letter Back s word answers mid r to asked step =
       RunsWord-then gives gives_back s word answers mid (back ∷ []) (r ∷ []) to asked (to, step, refl)
-
--- the word with one letter more
-pub word_of-more : (word : List End) (i : ℕ) (d : End) → i < length word → word_of (take (i + 1) word) ≡ word_of (take i word) ++ letter (get_or word i d) ∷ []
-word_of-more word i d within = ap word_of (take_more word i d within) ∙ map-append letter (take i word) (get_or word i d ∷ [])
 
 -- a vector's items have two ends
 module _ {X Z : Type 0} where

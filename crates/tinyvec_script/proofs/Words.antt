@@ -19,11 +19,7 @@ module _ (mark : ℕ) where
   cut_once [] b [] d p q e = (refl, cc)
   cut_once [] b (y ∷ c) d p q e = absurd (q.0 (cc))
   cut_once (x ∷ a) b [] d p q e = absurd (p.0 (cc))
-  cut_once (x ∷ a) b (y ∷ c) d p q e =
-      let head : x ≡ y = cc in
-      let tail : a ++ mark ∷ b ≡ c ++ mark ∷ d = cc in
-      let rest = cut_once a b c d p.1 q.1 tail in
-      (cc, rest.1)
+  cut_once (x ∷ a) b (y ∷ c) d p q e = let rest = cut_once a b c d p.1 q.1 (cc) in (cc, rest.1)
 
 pub has_blank : (text xs ys : List ℕ) → All (λ byte. byte ≢ 32) text → text ≡ xs ++ 32 ∷ ys → ⊥
 has_blank text xs ys h e = no_mark_in 32 xs ys (recursion_from_All _ _ (rw e at h))
@@ -38,11 +34,7 @@ split_once [] [] (y ∷ c) d p q s t e = absurd (let no : [] ≡ y ∷ (c ++ d) 
 split_once [] (z ∷ b) (y ∷ c) d p q s t e = absurd (q.0 (let same : z ≡ y = cc in sym same ∙ s))
 split_once (x ∷ a) b [] [] p q s t e = absurd (let no : x ∷ (a ++ b) ≡ [] = e in cc)
 split_once (x ∷ a) b [] (z ∷ d) p q s t e = absurd (p.0 (let same : x ≡ z = cc in same ∙ t))
-split_once (x ∷ a) b (y ∷ c) d p q s t e =
-    let head : x ≡ y = cc in
-    let tail : a ++ b ≡ c ++ d = cc in
-    let rest = split_once a b c d p.1 q.1 s t tail in
-    (cc, rest.1)
+split_once (x ∷ a) b (y ∷ c) d p q s t e = let rest = split_once a b c d p.1 q.1 s t (cc) in (cc, rest.1)
 
 -- the first word of a text, and what follows it
 pub first_word : (a b : List ℕ) → Lacks 32 a → (word_of (a ++ 32 ∷ b) ≡ a) × (words_after (a ++ 32 ∷ b) ≡ b)

@@ -49,8 +49,7 @@ module _ {W : Type 0} {contents : W → Option (List ℕ)} where
             written = first.written ++ next.written;
             rest = next.rest;
             appended = Appends-trans _ _ _ first.written next.written first.appended next.appended;
-            whole = sym (append_assoc bytes text more) ∙ ap (λ l. l ++ more) first.whole ∙ append_assoc first.written first.rest more
-                ∙ ap (λ l. first.written ++ l) next.whole ∙ sym (append_assoc first.written next.written next.rest);
+            whole = rw (← append_assoc bytes text more, first.whole) (simp (append_assoc, next.whole));
             grows = le_trans first.grows next.grows;
             kept = elim next.kept [ inl on ↦ inl (on.0, on.1 ∙ goes_on.1) | inr off ↦ inr (off.0, reported_since _ _ _ first.grows off.1) ];
           })

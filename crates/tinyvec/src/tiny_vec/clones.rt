@@ -5,7 +5,7 @@ ghost use Rattle.tinyvec_slots.specs.Clones.{RefusedAt, AreClones, ClonesOver, C
 ghost use Rattle.tinyvec.specs.TinyVec.{tiny_items_of, tiny_len_of, tiny_spare_of, is_inline, tiny_capacity, IsInline, tiny_view_of};
 ghost use Rattle.tinyvec.specs.View.{TinySlotRule, SameFrame, IsTinyClone, IsTinyInfallible};
 ghost use Rattle.tinyvec.specs.Refused.{RefusedFor};
-ghost use Rattle.tinyvec.specs.Room.{MakesRoom};
+ghost use Rattle.tinyvec.specs.Room.{KeepsRoom, MakesRoom};
 
 use crate::TinyVec;
 use crate::tuned::push_clones;
@@ -67,6 +67,9 @@ impl<A: Array> TinyVec<A> {
             (tiny_view_of A.Slots self.old) (tiny_view_of A.Slots self.new) result) }
         ensures slot_rule { OnOk result (TinySlotRule A.Item.is_default (tiny_view_of A.Slots self.old)
             (tiny_view_of A.Slots self.new)) }
+        ensures capacity { tiny_capacity A.CAPACITY self.old ≤ tiny_capacity A.CAPACITY self.new }
+        ensures same_room { KeepsRoom A.CAPACITY (tiny_len_of A.Slots source.now)
+            (tiny_view_of A.Slots self.old) (tiny_view_of A.Slots self.new) }
         ensures fits { tiny_len_of A.Slots self.new ≤ tiny_capacity A.CAPACITY self.new }
 
         // If there is room only clones allocate.

@@ -5,7 +5,7 @@ ghost use Rattle.tinyvec_slots.specs.Clones.{ClonesAreEqual, AppendsAllOrNone};
 ghost use Rattle.tinyvec.specs.TinyVec.{tiny_items_of, tiny_len_of, tiny_capacity, is_inline, IsInline, tiny_view_of};
 ghost use Rattle.tinyvec.specs.View.{PlaceRule, TinySlotRule, StaysInPlace, Becomes};
 ghost use Rattle.tinyvec.specs.Refused.{RefusedFor, ClonesBehind, ClonesInRoom, ClonesRefused};
-ghost use Rattle.tinyvec.specs.Room.{MakesRoom, Grows, Collects};
+ghost use Rattle.tinyvec.specs.Room.{KeepsRoom, MakesRoom, Grows, Collects};
 ghost use Rattle.tinyvec_slots.specs.Slots.{AreDefaults};
 ghost use Rattle.tinyvec_array.specs.ArrayVec.{items_of, len_of, Grows as GrowsInSlots};
 ghost use Rattle.std.specs.Iterator.{IsFinite, Drains, YieldsThen, size};
@@ -51,6 +51,9 @@ impl<A: Array> TinyVec<A> {
             result (tiny_items_of A.Slots self.old) (tiny_items_of A.Slots self.new) }
         ensures room { OnOk result (MakesRoom (is_inline self.old) A.CAPACITY (tiny_len_of A.Slots self.old
             + length other.now) (tiny_view_of A.Slots self.old) (tiny_view_of A.Slots self.new) result) }
+        ensures capacity { tiny_capacity A.CAPACITY self.old ≤ tiny_capacity A.CAPACITY self.new }
+        ensures same_room { KeepsRoom A.CAPACITY (tiny_len_of A.Slots self.old + length other.now)
+            (tiny_view_of A.Slots self.old) (tiny_view_of A.Slots self.new) }
         ensures fits { tiny_len_of A.Slots self.new ≤ tiny_capacity A.CAPACITY self.new }
 
         // If there is room only clones allocate.
@@ -87,6 +90,10 @@ impl<A: Array> TinyVec<A> {
             (tiny_len_of A.Slots self.old + length (removed (tiny_items_of A.Slots self.old) (R.start_bound range)
             (R.end_bound range)))
             (tiny_view_of A.Slots self.old) (tiny_view_of A.Slots self.new) result) }
+        ensures capacity { tiny_capacity A.CAPACITY self.old ≤ tiny_capacity A.CAPACITY self.new }
+        ensures same_room { KeepsRoom A.CAPACITY (tiny_len_of A.Slots self.old + length (removed (tiny_items_of A.Slots self.old) (R.start_bound range)
+            (R.end_bound range)))
+            (tiny_view_of A.Slots self.old) (tiny_view_of A.Slots self.new) }
         ensures fits { tiny_len_of A.Slots self.new ≤ tiny_capacity A.CAPACITY self.new }
 
         // If there is room only clones allocate.
@@ -372,6 +379,9 @@ impl<A: Array> TinyVec<A> {
             (tiny_view_of A.Slots self.new) result) }
         ensures slot_rule { OnOk result (TinySlotRule A.Item.is_default (tiny_view_of A.Slots self.old)
             (tiny_view_of A.Slots self.new)) }
+        ensures capacity { tiny_capacity A.CAPACITY self.old ≤ tiny_capacity A.CAPACITY self.new }
+        ensures same_room { KeepsRoom A.CAPACITY new_len
+            (tiny_view_of A.Slots self.old) (tiny_view_of A.Slots self.new) }
         ensures fits { tiny_len_of A.Slots self.new ≤ tiny_capacity A.CAPACITY self.new }
         ensures place { OnOk result (PlaceRule A.CAPACITY (max new_len (tiny_len_of A.Slots self.old))
             (tiny_view_of A.Slots self.old) (tiny_view_of A.Slots self.new)) }

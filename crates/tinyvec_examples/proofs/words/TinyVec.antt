@@ -9,7 +9,7 @@ use Rattle.tinyvec.specs.declared.tiny_vec.TinyVec.{TinyVec}
 use Rattle.tinyvec.specs.declared.tiny_vec.TinyVec.TheVariants.{Inline}
 use Rattle.tinyvec.specs.TinyVec.{tiny_items, tiny_items_of, tiny_len_of, tiny_spare, tiny_spare_of, is_inline, IsInline, tiny_capacity, tiny_allocator, tiny_view, tiny_view_of}
 use Rattle.tinyvec.specs.View.{HoldsInline, IsNew, SameFrame, Becomes, StaysInPlace, ShortensInPlace, IsTail, Unchanged, IsTinyClone, IsTinyInfallible, PlaceRule, TinySlotRule, in_array}
-use Rattle.tinyvec.specs.Room.{Collects, GrowsTo, Grows, MadeFor, MakesRoom, MovesToHeap}
+use Rattle.tinyvec.specs.Room.{Collects, KeepsRoom, GrowsTo, Grows, MadeFor, MakesRoom, MovesToHeap}
 use Rattle.tinyvec.specs.Refused.{RefusedFor, ClonesBehind, ClonesRefused}
 use Rattle.tinyvec.specs.Following.{PushesItems}
 use Rattle.tinyvec_slots.specs.Filling.{IntoIterYields}
@@ -135,6 +135,9 @@ module _ (alloc : Global) where
 
   pub example-TinySlotRule : TinySlotRule D (tiny_view (inline (1 ∷ 2 ∷ []) (7 ∷ 8 ∷ []))) (tiny_view (inline (1 ∷ []) (0 ∷ 7 ∷ 8 ∷ [])))
   example-TinySlotRule i j = (0 ∷ [], search rules, refl)
+
+  pub example-KeepsRoom : KeepsRoom 4 3 (tiny_view (inline (1 ∷ 2 ∷ []) (0 ∷ 0 ∷ []))) (tiny_view (inline (1 ∷ 2 ∷ 3 ∷ []) (0 ∷ [])))
+  example-KeepsRoom = λ _. refl
 
   pub example-GrowsTo : (v : TinyVec (List ℕ) ℕ (UpTo 4)) → GrowsTo true 4 9 (tiny_view (inline (1 ∷ []) (0 ∷ 0 ∷ 0 ∷ []))) (tiny_view v) → tiny_capacity 4 v ≡ 9
   example-GrowsTo v h = search rules

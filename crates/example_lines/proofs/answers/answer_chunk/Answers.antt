@@ -1,9 +1,9 @@
-use Rattle.std.proofs.Common.{◌≡◌, ◌∙◌, ◌++◌, ◌∷◌, [], refl, sym, subst, rules, arith, append-nil, Err}
+use Rattle.std.proofs.Common.{◌≡◌, ◌∙◌, ◌++◌, ◌∷◌, [], refl, sym, subst, rules, arith, append-nil, append_assoc, Err}
 use Rattle.std.proofs.KnownBytes.{Appends-trans, Appends-kept}
 use Rattle.std.specs.Str.Lines.{strip_carriage_return}
 use Rattle.tinyvec_io.proofs.Pieces.{AppendsFront-then}
 use Rattle.example_lines.specs.declared.failure.Stop.TheVariants.{Memory, Output}
-use Rattle.example_lines.proofs.Answering.{advances_line, advances_rest, advances_then, front_whole, one_line_more}
+use Rattle.example_lines.proofs.Answering.{advances_line, advances_rest, advances_then, front_whole}
 use Rattle.example_lines.proofs.answers.answer_chunk.Goals as goal
 
 pub returns-in_err-extend_from_slice-clause-memory : goal.returns-in_err-extend_from_slice-clause-memory
@@ -31,7 +31,7 @@ returns-in_err-answer_line-clause-output g c = λ error is.
       after,
       s.1 ++ f.0,
       [],
-      one_line_more c.args.bytes.now s.0 front after c.loop-front.rest.now s.2 c.in-Some.ensures.whole,
+      rw (s.2, c.in-Some.ensures.whole) (simp append_assoc),
       AppendsFront-then _ _ _ s.1 f.0 s.3 f.1,
       advances_then g.A.Answer.IsAnswer c.args.program.now c.loop-front.program c.answer_line.new.program c.args.line.now.items before [] s.0 (front ++ 10 ∷ []) s.1 f.0 s.4 line,
     )
@@ -49,7 +49,7 @@ loop-front-preserved g c =
       so_far = (
         s.0 ++ (front ++ 10 ∷ []),
         s.1 ++ f.0,
-        one_line_more c.args.bytes.now s.0 front c.in-Some.after.now c.loop-front.rest.now s.2 c.in-Some.ensures.whole,
+        rw (s.2, c.in-Some.ensures.whole) (simp append_assoc),
         Appends-trans _ _ _ s.1 f.0 s.3 f.1,
         advances_then g.A.Answer.IsAnswer c.args.program.now c.loop-front.program c.answer_line.new.program c.args.line.now.items before next s.0 (front ++ 10 ∷ []) s.1 f.0 s.4 line,
       );

@@ -1,5 +1,5 @@
 use Rattle.std.proofs.Common.{◌≡◌, ◌∙◌, ◌++◌, ◌∷◌, [], None, Some, Ok, Err, ap, length, rules, string_bytes, sym}
-use Rattle.tinyvec_borsh.proofs.Outcomes.{if-ok}
+use Rattle.std.proofs.lemmas.Result.{IfOk-weaker}
 use Rattle.example_records.specs.Shown.{len_text}
 use Rattle.example_records.proofs.Showing.{answered, more_bytes}
 use Rattle.example_records.proofs.answer.answer_to.Goals as goal
@@ -9,7 +9,7 @@ returns-then-len-eq1 c =
     let run = c.run.ensures in
     let is : c.run.result ≡ Ok None = search rules in
     let one : length c.run.new.stream.items ≡ 1 = search rules in
-    if-ok c.format.result
+    IfOk-weaker c.format.result _ _
     (λ text same. answered c.args.line.now c.args.stream.now.items c.run.new.stream.items (string_bytes text) c.run.result (Ok None) run.answers run.text run.unknown run.tells is
     (same ∙ ap (λ len. len_text len ++ 10 ∷ []) (sym one)))
     c.format.ensures.ok
@@ -28,7 +28,7 @@ returns-else-len-eq1 c =
     let run = c.run.ensures in
     let is : c.run.result ≡ Ok None = search rules in
     let len : c.len-len.result ≡ length c.run.new.stream.items = search rules in
-    if-ok c.format-in-Ok-None.result
+    IfOk-weaker c.format-in-Ok-None.result _ _
     (λ text same. answered c.args.line.now c.args.stream.now.items c.run.new.stream.items (string_bytes text) c.run.result (Ok None) run.answers run.text run.unknown run.tells is
     (same ∙ more_bytes c.len-len.result c.if-len-eq1.false ∙ ap (λ n. len_text n ++ 10 ∷ []) len))
     c.format-in-Ok-None.ensures.ok
@@ -36,6 +36,6 @@ returns-else-len-eq1 c =
 pub returns-in-Err : goal.returns-in-Err
 returns-in-Err c =
     let run = c.run.ensures in
-    if-ok c.format-in-Err.result
+    IfOk-weaker c.format-in-Err.result _ _
     (λ text same. answered c.args.line.now c.args.stream.now.items c.run.new.stream.items (string_bytes text) c.run.result (Err c.in-Err.error) run.answers run.text run.unknown run.tells c.in-Err.is same)
     c.format-in-Err.ensures.ok

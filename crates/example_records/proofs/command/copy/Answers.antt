@@ -1,9 +1,10 @@
 use Rattle.std.proofs.Common.{◌≡◌, [], Ok, refl, rules, length, map, subst, sym}
+use Rattle.std.proofs.lemmas.List.{nil_from_length}
 use Rattle.example_records.specs.Commands.{HasTag, IsRead, IsReadOfCopy, IsTold}
 use Rattle.example_records.specs.Commands.Command.{Copy}
 use Rattle.example_records.specs.Readings.{said}
 use Rattle.example_records.specs.Stream.{IsCopy}
-use Rattle.example_records.proofs.CommandLaws.{copied_as, copy_none, empty, is_read}
+use Rattle.example_records.proofs.CommandLaws.{copied_as, copy_none, is_read}
 use Rattle.example_records.proofs.command.copy.Goals as goal
 
 pub returns-in-Ok-clause-answers : goal.returns-in-Ok-clause-answers
@@ -22,7 +23,7 @@ returns-in-Ok-clause-answers c =
     } in
     record {
       carried_out = copied_as c.args.rest.now c.args.stream.now c.in-Ok.copy read;
-      is_command = (Copy, (refl, empty c.args.rest.now none));
+      is_command = (Copy, (refl, nil_from_length c.args.rest.now none));
       refused = tt;
     }
 
@@ -35,6 +36,6 @@ returns-then-not-has_tag-clause-answers c =
     let read : IsReadOfCopy stream (map said c.new.result.items) (Ok tt) = subst (λ items. IsReadOfCopy stream (map said items) (Ok tt)) (sym no_records) (copy_none stream no_tag) in
     record {
       carried_out = copied_as c.args.rest.now stream _ read;
-      is_command = (Copy, (refl, empty c.args.rest.now none));
+      is_command = (Copy, (refl, nil_from_length c.args.rest.now none));
       refused = tt;
     }

@@ -1,5 +1,5 @@
 use Rattle.std.proofs.Common.{◌≡◌, IfErr, IsUtf8, rules, subst, sym}
-use Rattle.tinyvec_borsh.proofs.Outcomes.{on-ok}
+use Rattle.std.proofs.lemmas.Result.{on_ok_weaker}
 use Rattle.example_records.specs.Commands.{Says, Tells, rest_of, word_of}
 use Rattle.example_records.proofs.command.run.Goals as goal
 
@@ -10,7 +10,7 @@ returns-in-Ok-clause-answers c =
     let answers = c.obey.ensures.answers in
     record {
       carried_out = λ command asks. answers.carried_out command (subst (λ text. Says (word_of text) (rest_of text) command) (sym same) asks.1);
-      is_command = on-ok c.obey.result (λ said. (said.0, (text, subst (λ text. Says (word_of text) (rest_of text) (said.0)) same said.1))) answers.is_command;
+      is_command = on_ok_weaker c.obey.result (λ said. (said.0, (text, subst (λ text. Says (word_of text) (rest_of text) (said.0)) same said.1))) answers.is_command;
       refused = answers.refused;
     }
 

@@ -1,6 +1,7 @@
-use Rattle.std.proofs.Common.{◌∙◌, ◌∷◌, ◌+◌, arith, ap, below_more, sym, slice_range}
+use Rattle.std.proofs.Common.{◌∙◌, ◌∷◌, ◌+◌, arith, ap, below_more, sym, slice_range, length, le_refl}
+use Rattle.std.proofs.lemmas.Slice.{between_to_end}
 use Rattle.example_tidy.specs.Tidy.{words}
-use Rattle.example_tidy.proofs.WordLemmas.{blank_at, to_end, word_at, word_to_end}
+use Rattle.example_tidy.proofs.WordLemmas.{blank_at, word_at, word_to_end}
 use Rattle.example_tidy.proofs.words.next_word.Goals as goal
 use Rattle.example_tidy.proofs.words.next_word.Goals.{then-is_ascii_whitespace+else-start-index, else-is_ascii_whitespace}
 
@@ -11,7 +12,7 @@ returns-then-start-index-clause-some c =
     let index = c.loop-index.index in
     let inv = c.loop-index.invariant in
     sym inv.so_far ∙ word_at text start index c.if-start-index.true (omega arith) inv.none_since (sym c.if-is_ascii_whitespace.ensures.value)
-    ∙ ap (λ rest. slice_range text start index ∷ words rest) (sym (to_end text (index + 1)))
+    ∙ ap (λ rest. slice_range text start index ∷ words rest) (sym (between_to_end text (index + 1) (length text) (le_refl _)))
 
 -- a turn of the loop: a blank follows a blank, or the byte is no blank
 pub loop-index-preserved : goal.loop-index-preserved

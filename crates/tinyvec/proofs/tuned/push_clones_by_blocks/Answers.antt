@@ -12,9 +12,8 @@ refused I from done at = (done + at.0, refused_behind I from done at.0 (refused_
 
 pub returns-in_default : goal.returns-in_default
 returns-in_default g c =
-    let first = c.replace-vec.result in
     let made = c.loop-done.invariant.cloned in
-    let long = ap (λ v. length v.items) (sym c.replace-vec.ensures.value) ∙ sym (c.len-len.ensures ∙ first.ok.0) in record {
+    let long = ap (λ v. length v.items) (sym c.replace-vec.ensures.value) ∙ sym (c.len-len.ensures ∙ c.replace-vec.result.ok.0) in record {
       items = tt;
       kept = c.truncate.ensures.items ∙ ap (take c.len-len.result) made.1 ∙ take_at c.args.heap.now.items made.0 c.len-len.result long;
       refused = refused g.T.Clone.is_infallible c.args.from.now c.loop-done.done c.in_default.ensures.refused;
@@ -39,10 +38,9 @@ loop-done-preserved g c =
 
 pub returns-in_default-push_clones : goal.returns-in_default-push_clones
 returns-in_default-push_clones g c =
-    let first = c.replace-vec.result in
     let made = c.loop-done.invariant.cloned in
     let put = c.in_default-push_clones.ensures in
-    let long = ap (λ v. length v.items) (sym c.replace-vec.ensures.value) ∙ sym (c.len-len.ensures ∙ first.ok.0) in record {
+    let long = ap (λ v. length v.items) (sym c.replace-vec.ensures.value) ∙ sym (c.len-len.ensures ∙ c.replace-vec.result.ok.0) in record {
       items = tt;
       kept = c.truncate-in_default-push_clones.ensures.items ∙ ap (take c.len-len.result) (put.kept ∙ made.1) ∙ take_at c.args.heap.now.items made.0 c.len-len.result long;
       refused = refused g.T.Clone.is_infallible c.args.from.now c.loop-done.done put.refused;

@@ -8,17 +8,7 @@ push_blocks-requires-clause-room g c =
     let from = c.args.from.now in
     let most = c.push_blocks-most in
     let same = c.replace-vec.ensures.value in
-    let rest = drop most.result from in
-    omega (
-      arith,
-      ap length most.ensures.becomes.items,
-      length-append c.replace-vec.result.items (take most.result from),
-      length-take most.result from,
-      length-take (length from - most.result) rest,
-      length-drop most.result from,
-      ap vec_len same,
-      ap vec_capacity same,
-    )
+    omega (arith, simp (length-append, length-take) at (ap length most.ensures.becomes.items), length-take (length from - most.result) (drop most.result from), length-drop most.result from, ap vec_len same, ap vec_capacity same)
 
 pub loop-i-init : goal.loop-i-init
 loop-i-init g c =

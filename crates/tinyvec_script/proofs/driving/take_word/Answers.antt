@@ -1,10 +1,11 @@
 use Rattle.std.proofs.Common.{◌+◌, ◌++◌, ◌∷◌, [], ap, ◌∙◌, subst, sym, append-nil, append_assoc, arith, take, length, length-append}
+use Rattle.std.proofs.lemmas.List.{map_more}
 use Rattle.std.specs.Option.{option_to_list}
 use Rattle.tinyvec_slots.specs.Ends.{RunsWord, given_items}
 use Rattle.tinyvec_slots.proofs.EndsLemmas.{given_items-more}
-use Rattle.tinyvec_script.specs.Driving.{word_of}
+use Rattle.tinyvec_script.specs.Driving.{letter, word_of}
 use Rattle.tinyvec_script.specs.declared.call.End.TheVariants.{Front}
-use Rattle.tinyvec_script.proofs.DrivingLemmas.{RunsWord-letter, word_of-more}
+use Rattle.tinyvec_script.proofs.DrivingLemmas.{RunsWord-letter}
 use Rattle.tinyvec_script.proofs.driving.take_word.Goals.{After-take_from, in-Some, in-None}
 use Rattle.tinyvec_script.proofs.driving.take_word.Goals as goal
 
@@ -20,7 +21,7 @@ asked_more g c =
     let r = c.take_from.result in
     let to = c.take_from.new.self in
     let word = c.args.word.now in
-    subst (λ w. RunsWord gives gives_back c.args.splice.now w (asked.0 ++ r ∷ []) to) (sym (word_of-more word turn.letter-index Front c.loop-letter-test.true))
+    subst (λ w. RunsWord gives gives_back c.args.splice.now w (asked.0 ++ r ∷ []) to) (sym (map_more letter word turn.letter-index Front c.loop-letter-test.true))
     (RunsWord-letter gives gives_back _ c.args.splice.now (word_of (take turn.letter-index word)) asked.0 turn.splice r to asked.1 c.take_from.ensures)
 
 pub push_reserved-requires : goal.push_reserved-requires

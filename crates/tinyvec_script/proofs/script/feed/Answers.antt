@@ -1,15 +1,10 @@
-use Rattle.std.proofs.Common.{◌≡◌, ℕ, ◌<◌, List, [], ◌∷◌, ◌++◌, ap, sym, ◌∙◌, append_assoc, append-nil, refl, length, length-append, arith}
+use Rattle.std.proofs.Common.{◌≡◌, ℕ, ◌<◌, List, [], ◌∷◌, ◌++◌, ap, append_assoc, append-nil, refl, length, length-append, arith}
 use Rattle.tinyvec_script.proofs.Written.{gathers_nothing, gathers_then}
 use Rattle.tinyvec_script.proofs.HistoryLemmas.{feeds_nothing, feeds_then, feeds_piece, feeds_line}
 use Rattle.tinyvec_script.proofs.script.feed.Goals as goal
 
 pub loop-front-init : goal.loop-front-init
 loop-front-init g c = ([], [], refl, gathers_nothing, feeds_nothing)
-
--- a line behind others
-split_further : (bytes lines front after rest : List ℕ) → bytes ≡ lines ++ rest → rest ≡ front ++ 10 ∷ after → bytes ≡ (lines ++ (front ++ 10 ∷ [])) ++ after
-split_further bytes lines front after rest whole is =
-    whole ∙ ap (λ l. lines ++ l) (is ∙ sym (append_assoc front (10 ∷ []) after)) ∙ sym (append_assoc lines (front ++ 10 ∷ []) after)
 
 after_is_shorter : (front after rest : List ℕ) → rest ≡ front ++ 10 ∷ after → length after < length rest
 after_is_shorter front after rest is = omega (arith, ap length is, length-append front (10 ∷ after))
@@ -22,7 +17,7 @@ loop-front-preserved g c =
     let line = feeds_then (feeds_piece c.in-Some.ensures.front c.extend.ensures) (feeds_line answered.2 c.clear.ensures) in (
       before.0 ++ (front ++ 10 ∷ []),
       before.1 ++ (answered.0 ++ 10 ∷ []),
-      split_further c.args.bytes.now before.0 front c.in-Some.after.now c.loop-front.rest.now before.2 c.in-Some.ensures.some,
+      rw (before.2, c.in-Some.ensures.some) (simp append_assoc),
       gathers_then before.3 answered.1,
       feeds_then before.4 line,
     )

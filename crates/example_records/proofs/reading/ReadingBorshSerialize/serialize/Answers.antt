@@ -2,9 +2,8 @@ use Rattle.std.proofs.Common.{lit<, subst}
 use Rattle.std.proofs.lemmas.List.{map-id}
 use Rattle.tinyvec.specs.TinyVec.{tiny_items}
 use Rattle.tinyvec_array.specs.ArrayVec.{items}
-use Rattle.tinyvec_borsh.proofs.Outcomes.{on-ok}
 use Rattle.example_records.specs.Readings.{NoteFits, SamplesFit}
-use Rattle.std.proofs.lemmas.Result.{err_from_is_err_and}
+use Rattle.std.proofs.lemmas.Result.{err_from_is_err_and, on_ok_weaker}
 use Rattle.tinyvec_borsh.specs.NumberLaws.{number_code}
 use Rattle.example_records.specs.Readings.{samples_code}
 use Rattle.tinyvec_borsh.proofs.AtFaults.{writes-both, writes-first}
@@ -30,4 +29,4 @@ returns-clause-writes g c =
 
 pub returns-clause-valid : goal.returns-clause-valid
 returns-clause-valid g c =
-    on-ok c.serialize-3.result (λ fits. (c.in_ok-serialize.ensures.valid, (subst SamplesFit (map-id _) c.in_ok-serialize-2.ensures.valid, subst NoteFits (map-id _) fits))) c.serialize-3.ensures.valid
+    on_ok_weaker c.serialize-3.result (λ fits. (c.in_ok-serialize.ensures.valid, (subst SamplesFit (map-id _) c.in_ok-serialize-2.ensures.valid, subst NoteFits (map-id _) fits))) c.serialize-3.ensures.valid

@@ -28,6 +28,12 @@ returns-clause-room g c =
     replaced_room _ _ _ _ _ (omega (arith, c.len.ensures.fits, c.len.ensures.value)) (omega (arith, long, same, more, end, inside)) (λ some. omega (arith, long, same, more, end, inside, some))
     _ g.A.Item.Default.is_default _ _ (λ i. ap (tiny_view_of g.A.Slots) (c.in_ok-reserve.ensures.stays i)) c.in_ok-reserve.ensures.room c.replace_reserved.ensures
 
+pub returns-clause-capacity : goal.returns-clause-capacity
+returns-clause-capacity g c = (returns-clause-room g c).capacity
+
+pub returns-clause-same_room : goal.returns-clause-same_room
+returns-clause-same_room g c = (returns-clause-room g c).same_room
+
 pub returns-clause-slot_rule : goal.returns-clause-slot_rule
 returns-clause-slot_rule g c =
     slots_after_room g.A.Item.Default.is_default _ _ _ (λ i. ap (tiny_view_of g.A.Slots) (c.in_ok-reserve.ensures.stays i)) c.replace_reserved.ensures.place c.replace_reserved.ensures.slot_rule

@@ -7,7 +7,7 @@ use Rattle.tinyvec_borsh.proofs.AtFaults.{some-cut}
 use Rattle.tinyvec_borsh.proofs.ItemByItem.{fails-like, maybe-any, maybe-so, none-failed}
 use Rattle.std.proofs.KnownBytes.{Consumes-nil}
 use Rattle.tinyvec_borsh.proofs.Blocks.{grown, of-more}
-use Rattle.tinyvec_borsh.proofs.Outcomes.{on-ok}
+use Rattle.std.proofs.lemmas.Result.{on_ok_weaker}
 use Rattle.tinyvec_borsh.proofs.Place.{place-framed, room-grown}
 use Rattle.tinyvec_borsh.proofs.lists.tiny_vec.read_more.Goals as goal
 
@@ -17,7 +17,7 @@ returns-clause-place g c =
     let same : length c.read_items.new.slots ≡ tiny_len_of g.A.Slots mid = search rules in
     let framed = tiny_framed-with g.A.Slots mid c.read_items.new.slots same in
     let made = c.in-Ok.ensures in
-    on-ok c.read_items.result (λ _. place-framed g.A.Array.CAPACITY _ (tiny_view_of g.A.Slots c.args.v.now) (tiny_view_of g.A.Slots mid) (tiny_view_of g.A.Slots (tiny_with_items g.A.Slots mid c.read_items.new.slots)) made.room.place framed.place (framed.len ∙ made.len)) c.read_items.ensures.ok
+    on_ok_weaker c.read_items.result (λ _. place-framed g.A.Array.CAPACITY _ (tiny_view_of g.A.Slots c.args.v.now) (tiny_view_of g.A.Slots mid) (tiny_view_of g.A.Slots (tiny_with_items g.A.Slots mid c.read_items.new.slots)) made.room.place framed.place (framed.len ∙ made.len)) c.read_items.ensures.ok
 
 pub returns-clause-ok : goal.returns-clause-ok
 returns-clause-ok g c =
@@ -27,7 +27,7 @@ returns-clause-ok g c =
     let long : tiny_len_of g.A.Slots c.args.v.now ≤ tiny_len_of g.A.Slots mid = search rules in
     let fewer : tiny_len_of g.A.Slots mid ≤ c.args.count = search rules in
     let some : tiny_len_of g.A.Slots c.args.v.now + 1 ≤ tiny_len_of g.A.Slots mid = search rules in
-    on-ok c.read_items.result (λ t. (
+    on_ok_weaker c.read_items.result (λ t. (
       t.0,
       tiny_items-with g.A.Slots mid c.read_items.new.slots same ∙ grown c.len-start.result (c.len-start.result + c.min.result) (tiny_items_of g.A.Slots c.args.v.now) c.in-Ok.ensures.items.0 (tiny_items_of g.A.Slots mid) c.read_items.new.slots t.0 (search rules) (search rules) c.in-Ok.ensures.items.2 (search rules) (search rules),
       search rules,
@@ -40,7 +40,7 @@ pub returns-clause-slot_rule : goal.returns-clause-slot_rule
 returns-clause-slot_rule g c =
     let mid = c.resize_with.new.self in
     let same : length c.read_items.new.slots ≡ tiny_len_of g.A.Slots mid = search rules in
-    on-ok c.read_items.result (λ _. tiny_slots_then_framed g.A.Item.Default.is_default (tiny_view_of g.A.Slots c.args.v.now) (tiny_view_of g.A.Slots mid) (tiny_view_of g.A.Slots (tiny_with_items g.A.Slots mid c.read_items.new.slots)) c.resize_with.ensures.slot_rule (tiny_framed-with g.A.Slots mid c.read_items.new.slots same)) c.read_items.ensures.ok
+    on_ok_weaker c.read_items.result (λ _. tiny_slots_then_framed g.A.Item.Default.is_default (tiny_view_of g.A.Slots c.args.v.now) (tiny_view_of g.A.Slots mid) (tiny_view_of g.A.Slots (tiny_with_items g.A.Slots mid c.read_items.new.slots)) c.resize_with.ensures.slot_rule (tiny_framed-with g.A.Slots mid c.read_items.new.slots same)) c.read_items.ensures.ok
 
 pub returns-clause-capacity : goal.returns-clause-capacity
 returns-clause-capacity g c =
@@ -50,7 +50,7 @@ returns-clause-capacity g c =
     let framed = tiny_framed-with g.A.Slots mid c.read_items.new.slots same in
     let few : c.len-start.result + c.min.result ≤ c.args.count = search rules in
     let grown = room-grown slots (c.len-start.result + c.min.result) c.args.count (tiny_view_of g.A.Slots c.args.v.now) (tiny_view_of g.A.Slots mid) c.resize_with.ensures.room.same_room c.in-Ok.ensures.room.grown few in
-    on-ok c.read_items.result (λ _. omega (arith, framed.capacity slots, grown)) c.read_items.ensures.ok
+    on_ok_weaker c.read_items.result (λ _. omega (arith, framed.capacity slots, grown)) c.read_items.ensures.ok
 
 pub returns-clause-fails : goal.returns-clause-fails
 returns-clause-fails g c =

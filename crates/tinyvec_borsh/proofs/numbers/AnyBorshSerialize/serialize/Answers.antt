@@ -1,6 +1,5 @@
 use Rattle.std.proofs.Common.{◌∙◌, subst, sym}
-use Rattle.tinyvec_borsh.proofs.Outcomes.{on-ok}
-use Rattle.tinyvec_borsh.proofs.AtFaults.{on-err}
+use Rattle.std.proofs.lemmas.Result.{on_err_weaker, on_ok_weaker}
 use Rattle.tinyvec_io.specs.Counted.{AppendsFront}
 use Rattle.tinyvec_borsh.proofs.numbers.AnyBorshSerialize.serialize.Goals as goal
 
@@ -9,9 +8,9 @@ returns-clause-writes g c =
     let spelled = subst (g.T.FixedWidth.form.Spells c.args.self.now) (sym (c.all.ensures.value ∙ c.to_bytes.ensures.bytes)) (g.T.FixedWidth.form.written c.args.self.now c.to_bytes.ensures.valid) in
     let told = c.write_bytes.ensures in
     record {
-      ok = on-ok c.write_bytes.result (λ h. (c.all.result.now, spelled, h)) told.ok;
+      ok = on_ok_weaker c.write_bytes.result (λ h. (c.all.result.now, spelled, h)) told.ok;
       err = told.err;
-      front = on-err c.write_bytes.result (λ h bytes p. subst (AppendsFront _ _) (g.T.FixedWidth.form.code.one_spelling c.args.self.now c.all.result.now bytes spelled p) h) told.front;
+      front = on_err_weaker c.write_bytes.result (λ h bytes p. subst (AppendsFront _ _) (g.T.FixedWidth.form.code.one_spelling c.args.self.now c.all.result.now bytes spelled p) h) told.front;
       grows = told.faults_grow;
       failed = told.failed;
     }

@@ -1,30 +1,25 @@
-use Rattle.std.proofs.Common.{◌≡◌, ◌++◌, All, refl, sym, ap, subst, ◌∙◌, arith}
+use Rattle.std.proofs.Common.{refl, sym, ap, ◌∙◌, arith, take-append-drop}
 use Rattle.std.proofs.lemmas.Bool.{false≢true}
 use Rattle.std.specs.List.{AllZip}
-use Rattle.tinyvec_slots.specs.Clones.{RefusedAt, are_clones}
-use Rattle.tinyvec_slots.proofs.SlotsLemmas.{slots_are}
+use Rattle.tinyvec_slots.specs.Clones.{are_clones}
 use Rattle.tinyvec_slots.proofs.CloneLemmas.{on_err}
-use Rattle.tinyvec.proofs.TinyLemmas.{never_if_ok}
+use Rattle.std.proofs.lemmas.Result.{IfOk-from_err}
 use Rattle.tinyvec.proofs.CloneLemmas.{appends_alone, spare_cloned}
-use Rattle.tinyvec.specs.TinyVec.{tiny_items_of, tiny_len_of, tiny_spare_of, is_inline}
-use Rattle.tinyvec_array.specs.ArrayVec.{items_of, spare_of, slots_of, view_of}
+use Rattle.tinyvec.specs.TinyVec.{tiny_items_of, tiny_len_of, is_inline}
+use Rattle.tinyvec_array.specs.ArrayVec.{items_of, spare_of, view_of}
 use Rattle.tinyvec.proofs.tiny_vec.clones.TinyVec+A.clone.Goals as goal
 
 pub returns-in_err-copy-in-Inline-clause-copied : goal.returns-in_err-copy-in-Inline-clause-copied
-returns-in_err-copy-in-Inline-clause-copied g c = never_if_ok _ c.from_residual.result c.from_residual.ensures.0
+returns-in_err-copy-in-Inline-clause-copied g c = IfOk-from_err c.from_residual.result _ c.from_residual.ensures.0
 
 pub returns-in_err-copy-in-Inline-clause-refused : goal.returns-in_err-copy-in-Inline-clause-refused
 returns-in_err-copy-in-Inline-clause-refused g c =
-    let v = c.in-Inline.v in
     let h = c.in_err-copy-in-Inline.ensures.refused in
-    let same : slots_of g.A.Slots v ≡ tiny_items_of g.A.Slots c.args.self.now ++ tiny_spare_of g.A.Slots c.args.self.now = slots_are (view_of g.A.Slots v) ∙ sym (ap (λ w. tiny_items_of g.A.Slots w ++ tiny_spare_of g.A.Slots w) c.in-Inline.is) in
-    on_err c.from_residual.result (λ inline. (h.0, subst (λ xs. RefusedAt g.A.Item.Clone.is_infallible xs h.0) same h.1))
+    on_err c.from_residual.result (λ inline. (h.0, rw (c.in-Inline.is, take-append-drop) h.1))
 
 pub returns-in_err-copy-in-Inline-clause-succeeds : goal.returns-in_err-copy-in-Inline-clause-succeeds
 returns-in_err-copy-in-Inline-clause-succeeds g c = λ inline all.
-    let v = c.in-Inline.v in
-    let same : slots_of g.A.Slots v ≡ tiny_items_of g.A.Slots c.args.self.now ++ tiny_spare_of g.A.Slots c.args.self.now = slots_are (view_of g.A.Slots v) ∙ sym (ap (λ w. tiny_items_of g.A.Slots w ++ tiny_spare_of g.A.Slots w) c.in-Inline.is) in
-    absurd (false≢true (c.in_err-copy-in-Inline.ensures.succeeds (subst (All g.A.Item.Clone.is_infallible) (sym same) all)))
+    absurd (false≢true (c.in_err-copy-in-Inline.ensures.succeeds (rw (c.in-Inline.is, take-append-drop) at all)))
 
 pub returns-in-Inline-clause-copied : goal.returns-in-Inline-clause-copied
 returns-in-Inline-clause-copied g c =
@@ -39,18 +34,11 @@ returns-in-Inline-clause-copied g c =
       capacity = λ heap. absurd (false≢true (sym heap));
     }
 
-pub returns-in-Inline-clause-refused : goal.returns-in-Inline-clause-refused
-returns-in-Inline-clause-refused g c = tt
-
-pub returns-in-Inline-clause-succeeds : goal.returns-in-Inline-clause-succeeds
-returns-in-Inline-clause-succeeds g c = λ _ _. refl
-
 pub returns-in_err-copy : goal.returns-in_err-copy
 returns-in_err-copy g c =
     let answer = c.from_residual-in_err-copy.result in
-    let err = c.from_residual-in_err-copy.ensures.0 in
     let outside = sym (ap is_inline c.in-Heap.is) in record {
-      copied = never_if_ok _ answer err;
+      copied = IfOk-from_err answer _ c.from_residual-in_err-copy.ensures.0;
       refused = on_err answer (λ inline. absurd (false≢true (outside ∙ inline)));
       succeeds = λ inline _. absurd (false≢true (outside ∙ inline));
       succeeds_empty = λ _ empty. absurd (false≢true (c.in_err-copy.ensures.succeeds (omega (arith, c.len.ensures, c.in-Heap.v.ok.0, ap (tiny_len_of g.A.Slots) c.in-Heap.is, empty))));
@@ -59,9 +47,8 @@ returns-in_err-copy g c =
 pub returns-in_err-push_clones : goal.returns-in_err-push_clones
 returns-in_err-push_clones g c =
     let answer = c.from_residual-in_err-push_clones.result in
-    let err = c.from_residual-in_err-push_clones.ensures.0 in
     let outside = sym (ap is_inline c.in-Heap.is) in record {
-      copied = never_if_ok _ answer err;
+      copied = IfOk-from_err answer _ c.from_residual-in_err-push_clones.ensures.0;
       refused = on_err answer (λ inline. absurd (false≢true (outside ∙ inline)));
       succeeds = λ inline _. absurd (false≢true (outside ∙ inline));
       succeeds_empty = λ _ empty. absurd (omega (arith, c.in_err-push_clones.ensures.refused.1.0, c.as_slice.ensures.len, c.in-Heap.v.ok.0, ap (tiny_len_of g.A.Slots) c.in-Heap.is, empty));
@@ -87,9 +74,3 @@ returns-clause-copied g c =
       place = sym (ap is_inline c.in-Heap.is);
       capacity = λ _. rw c.in-Heap.is (made.capacity ∙ c.in_ok-copy.ensures.exact ∙ c.len.ensures ∙ c.in-Heap.v.ok.0);
     }
-
-pub returns-clause-refused : goal.returns-clause-refused
-returns-clause-refused g c = tt
-
-pub returns-clause-succeeds : goal.returns-clause-succeeds
-returns-clause-succeeds g c = λ _ _. refl

@@ -9,7 +9,7 @@ use Rattle.tinyvec_slots.proofs.CloneLemmas.{on_err}
 use Rattle.tinyvec.specs.View.{view_len, view_inline, ViewInline, view_capacity, TinySlotRule}
 use Rattle.std.specs.Prelude.{OnOk}
 use Rattle.tinyvec.proofs.TinyLemmas.{slots_taken, taken, slots_after_room, tiny_slots_then_framed, on_ok_two, on_err_two, never_ok}
-use Rattle.tinyvec.proofs.FrameLemmas.{room_granted}
+use Rattle.tinyvec.proofs.FrameLemmas.{granted_no_less, room_granted}
 use Rattle.tinyvec.proofs.CloneLemmas.{appends_len, appends_rest}
 use Rattle.tinyvec.proofs.RefusedLemmas.{refused_in_front, refused_behind, partly_over, partly_behind, cut_freed, none_freed, spare_kept, granted_before, granted_then}
 use Rattle.tinyvec.specs.TinyVec.{tiny_items_of, tiny_view_of}
@@ -46,6 +46,8 @@ returns-then-count-len g c =
       items = on_ok_weaker r (are_clones C xs new.items) (rw c.as_slice.ensures at put.ok);
       room = room_granted _ slots _ old new r granted fits (on_ok_weaker r (λ _ i j le. taken D old new le rule i j) put.ok);
       slot_rule = on_ok_weaker r (λ _. rule) put.ok;
+      capacity = granted_no_less _ slots _ old new granted;
+      same_room = granted.1;
       fits = fits;
       succeeds = λ room all. put.succeeds (rw c.as_slice.ensures all);
       refused = on_err_weaker r (λ h.
@@ -69,6 +71,8 @@ returns-in_err-reserve g c =
       items = never_ok _ answer err;
       room = never_ok _ answer err;
       slot_rule = never_ok _ answer err;
+      capacity = grown.capacity;
+      same_room = λ fits. grown.same_room (omega (arith, fits));
       fits = grown.fits;
       succeeds = λ fits _. absurd (false≢true (grown.succeeds (omega (arith, fits))));
       refused = on_err answer (inl (omega (arith, grown.full), grown.refused));
@@ -103,14 +107,17 @@ returns-in_err-overwrite g c =
     let early : h.0 ≤ n = let below = h.1.0 in let front = length-take n xs in omega arith in
     let long : m ≡ length old.items = omega arith in
     let all : take m old.items ≡ old.items = take_all m old.items (omega arith) in
-    let many : length old.items + (c.len-count.result - n) ≡ length xs = omega arith in record {
+    let many : length old.items + (c.len-count.result - n) ≡ length xs = omega arith in
+    let granted = granted_then _ slots _ old new mid _ frame.place (frame.capacity slots) (rw many at c.in_ok-reserve.ensures.room) in record {
       items = never_ok _ answer err;
       room = never_ok _ answer err;
       slot_rule = never_ok _ answer err;
+      capacity = granted_no_less _ slots _ old new granted;
+      same_room = granted.1;
       fits = omega (arith, c.reserve.ensures.room.fits, frame.len, frame.capacity slots);
       succeeds = λ fits sure. absurd (false≢true (c.in_err-overwrite.ensures.succeeds (rw c.as_slice-2.ensures (All-take I n xs sure))));
       refused = on_err answer (inr (
-        granted_then _ slots _ old new mid _ frame.place (frame.capacity slots) (rw many at c.in_ok-reserve.ensures.room),
+        granted,
         partly_over D I g.A.Item.Clone.is_clone xs old new m h.0 (omega arith) (refused_in_front I xs n h.0 h.1) (rw (take-take h.0 n xs early, c.reserve.ensures.items ∙ sym all) at h.2)
             (λ i. none_freed D old new m long (frame.spare ∙ spare_kept old mid new (λ i. ap (tiny_view_of g.A.Slots) (c.reserve.ensures.stays i)) frame.place i)),
       ));
@@ -171,6 +178,8 @@ returns g c =
       items = on_ok_weaker r (λ h. are_clones C xs new.items (appends_rest C over.items new.items xs c.as_slice-2.result.now source n c.as_slice-2.ensures c.as_slice-3.ensures c.in_ok-overwrite.ensures.ok h)) made.items;
       room = room_granted _ slots _ old new r granted made.fits (on_ok_weaker r (λ rule i j le. taken D old new le rule i j) rule);
       slot_rule = rule;
+      capacity = granted_no_less _ slots _ old new granted;
+      same_room = granted.1;
       fits = made.fits;
       succeeds = λ fits all. let every : All I source = rw c.as_slice-3.ensures all in made.succeeds (All-take I (length source - n) (drop n source) (All-drop I n source every));
       refused = on_err_two r made.refused made.kept (λ h kept. inr (

@@ -1,7 +1,7 @@
-use Rattle.std.proofs.Common.{◌≤◌, ◌++◌, length, length-append, sym, ap, ◌∙◌, arith}
+use Rattle.std.proofs.Common.{◌≤◌, ◌++◌, length, length-append, refl, ap, ◌∙◌, arith}
 use Rattle.std.specs.Iterator.{size}
 use Rattle.tinyvec_slots.proofs.FillingLemmas.{drained, drained_all}
-use Rattle.tinyvec.specs.TinyVec.{tiny_items_of, tiny_view_of}
+use Rattle.tinyvec.specs.TinyVec.{tiny_view_of}
 use Rattle.tinyvec.proofs.FrameLemmas.{made_room}
 use Rattle.tinyvec.proofs.tiny_vec.extending.TinyVec+A.extend_exact_size.Goals as goal
 
@@ -23,17 +23,10 @@ pub returns-clause-listed : goal.returns-clause-listed
 returns-clause-listed g c = λ rest shows.
     let it = c.into_iter-items.result in
     let ran = c.in-Ok.ensures.fills.ran in
-    let olds = tiny_items_of g.A.Slots c.args.self.now in (
-      it,
-      c.into_iter-items.ensures.into_iter_gives,
-      ran.2 ∙ ap (λ l. l ++ ran.0) c.reserve.ensures.items
-          ∙ ap (λ l. olds ++ l) (sym (drained g.I.IntoIter.Iterator.next_gives rest shows it ran.0 ran.1.0 ran.1.1)),
-    )
+    (it, c.into_iter-items.ensures.into_iter_gives, rw (ran.2, c.reserve.ensures.items, drained g.I.IntoIter.Iterator.next_gives rest shows it ran.0 ran.1.0 ran.1.1) refl)
 
 pub returns-clause-known : goal.returns-clause-known
 returns-clause-known g c = λ xs yields.
     let it = c.into_iter-items.result in
     let ran = c.in-Ok.ensures.fills.ran in
-    let olds = tiny_items_of g.A.Slots c.args.self.now in
-    ran.2 ∙ ap (λ l. l ++ ran.0) c.reserve.ensures.items
-    ∙ ap (λ l. olds ++ l) (drained_all g.I.IntoIter.Iterator.next_gives xs it (yields it c.into_iter-items.ensures.into_iter_gives) ran.0 ran.1.0 ran.1.1)
+    rw (ran.2, c.reserve.ensures.items, drained_all g.I.IntoIter.Iterator.next_gives xs it (yields it c.into_iter-items.ensures.into_iter_gives) ran.0 ran.1.0 ran.1.1) refl

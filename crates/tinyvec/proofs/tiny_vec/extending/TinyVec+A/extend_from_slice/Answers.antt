@@ -18,7 +18,7 @@ returns-in-Inline g c =
     rw c.in-Inline.is
     (let made = extended_in_room g.A.Item.Clone _ _ _ _ _
     (inline_clones g.A.Item.Clone _ _ _ (view_of g.A.Slots v) (view_of g.A.Slots c.extend_from_slice.new.self) c.extend_from_slice.ensures.clones (still_fits g.A.Slots v c.extend_from_slice.new.self _ parts c.extend_from_slice.ensures.lender)) room in
-    record { clones = made.clones; room = made.room; fits = made.fits; succeeds = made.succeeds; refused = made.refused })
+    record { clones = made.clones; room = made.room; capacity = made.capacity; same_room = made.same_room; fits = made.fits; succeeds = made.succeeds; refused = made.refused })
 
 pub push_many_clones-requires : goal.push_many_clones-requires
 push_many_clones-requires g c = record { room = omega arith }
@@ -30,7 +30,7 @@ returns-in-Heap g c =
     rw c.in-Heap.is
     (let made = extended_in_room g.A.Item.Clone _ _ _ _ _
     (heap_clones g.A.Item.Clone _ _ _ v c.push_many_clones.new.heap c.push_many_clones.ensures) room in
-    record { clones = made.clones; room = made.room; fits = made.fits; succeeds = made.succeeds; refused = made.refused })
+    record { clones = made.clones; room = made.room; capacity = made.capacity; same_room = made.same_room; fits = made.fits; succeeds = made.succeeds; refused = made.refused })
 
 -- a list that had no room is as it was before it grows
 same : (g : _) (c : In_default g) → c.in_default.self ≡ c.args.self.now
@@ -43,7 +43,7 @@ pub returns-in_err-grow-in_default : goal.returns-in_err-grow-in_default
 returns-in_err-grow-in_default g c =
     let made = extended_refused g.A.Item.Clone _ _ _ (tiny_view_of g.A.Slots c.args.self.now) _ _ _ refl c.from_residual.ensures.0
     (rw (same g (goal.at.returns-in_err-grow-in_default g c).In_default) at c.in_err-grow-in_default.ensures.room) in
-    record { clones = made.clones; room = made.room; fits = made.fits; succeeds = made.succeeds; refused = made.refused }
+    record { clones = made.clones; room = made.room; capacity = made.capacity; same_room = made.same_room; fits = made.fits; succeeds = made.succeeds; refused = made.refused }
 
 pub extend_reserved-requires : goal.extend_reserved-requires
 extend_reserved-requires g c = record { room = omega (arith, ap length c.grow.ensures.items, c.in_ok-grow-in_default.ensures.enough) }
@@ -55,4 +55,4 @@ returns-in_ok-grow-in_default g c =
     let grown = c.in_ok-grow-in_default.ensures in
     let made = extended_grown g.A.Item.Clone _ _ _ (tiny_view_of g.A.Slots c.args.self.now) _ _ _ _ refl
     (rw before at grown.items) (λ i. ap (tiny_view_of g.A.Slots) ((rw before at grown.stays) i)) (rw before at grown.room) c.extend_reserved.ensures in
-    record { clones = made.clones; room = made.room; fits = made.fits; succeeds = made.succeeds; refused = made.refused }
+    record { clones = made.clones; room = made.room; capacity = made.capacity; same_room = made.same_room; fits = made.fits; succeeds = made.succeeds; refused = made.refused }

@@ -1,14 +1,16 @@
-use Rattle.std.proofs.Common.{◌≡◌, ◌≤◌, ◌+◌, ◌∷◌, ◌++◌, [], append_assoc, append-nil, Some, None, length, sym, ap, subst, ◌∙◌, arith, rules}
+use Rattle.std.proofs.Common.{◌≡◌, ◌≤◌, ◌+◌, ◌∷◌, ◌++◌, [], append_assoc, append-nil, Err, length, sym, ap, subst, ◌∙◌, arith, rules}
 use Rattle.std.proofs.iter.Next.{Yields-more}
 use Rattle.std.proofs.lemmas.List.{length_push}
-use Rattle.std.specs.Iterator.{Yields, YieldsThen}
+use Rattle.std.specs.Iterator.{Yields}
 use Rattle.tinyvec.specs.View.{view_len, view_capacity}
 use Rattle.tinyvec.specs.Room.{Grows}
+use Rattle.tinyvec.specs.Following.{FillsRoom}
 use Rattle.tinyvec.specs.SpliceLaws.{stays_grows}
-use Rattle.tinyvec.proofs.FillingLemmas.{yields_then, no_fewer}
-use Rattle.tinyvec.proofs.FrameLemmas.{stays_same, unchanged_stays, grows_stays, grows_pushed}
-use Rattle.tinyvec.proofs.tiny_vec.extending.TinyVec+A.extend_runs.Goals.{After-fill_room}
-use Rattle.tinyvec.specs.TinyVec.{tiny_items_of, tiny_len_of, tiny_view_of}
+use Rattle.tinyvec.proofs.FillingLemmas.{runs_on, no_fewer}
+use Rattle.tinyvec.proofs.FrameLemmas.{stays_same, grows_stays, grows_pushed}
+use Rattle.tinyvec.proofs.TinyLemmas.{view_unchanged}
+use Rattle.tinyvec.proofs.tiny_vec.extending.TinyVec+A.extend_runs.Goals.{After-fill_room, In-Err}
+use Rattle.tinyvec.specs.TinyVec.{tiny_items_of, tiny_len_of, tiny_view_of, tiny_capacity}
 use Rattle.tinyvec.proofs.tiny_vec.extending.TinyVec+A.extend_runs.Goals as goal
 
 pub loop-item-init : goal.loop-item-init
@@ -30,14 +32,7 @@ pub returns-in-Ok-clause-fills : goal.returns-in-Ok-clause-fills
 returns-in-Ok-clause-fills g c =
     let at = c.loop-item in
     let placed = at.invariant.ran in
-    let run = c.in-Ok.ensures.fills in
-    let ran = run.ran in
-    let all = yields_then g.I.Iterator.next_gives c.args.iter placed.0 at.items ran.0 None ran.1.0 placed.1 ran.1.1 in
-    let olds = tiny_items_of g.A.Slots c.args.self.now in record {
-      ran = (placed.0 ++ ran.0, (ran.1.0, all), ran.2 ∙ ap (λ l. l ++ ran.0) placed.2 ∙ append_assoc olds placed.0 ran.0);
-      full = tt;
-      goes_on = omega (arith, run.goes_on, at.invariant.no_longer);
-    }
+    runs_on g.I.Iterator c.args.iter at.items _ _ (tiny_items_of g.A.Slots c.args.self.now) (tiny_items_of g.A.Slots at.self) _ placed.0 placed.1 placed.2 at.invariant.no_longer c.in-Ok.ensures.fills
 
 -- what a run leaves of place and room
 filled : (g : _) (c : After-fill_room g) → Grows g.A.Item.Default.is_default g.A.Array.CAPACITY (tiny_view_of g.A.Slots c.args.self.now) (tiny_view_of g.A.Slots c.fill_room.new.self)
@@ -50,69 +45,46 @@ filled g c =
 pub returns-in-Ok-clause-grows : goal.returns-in-Ok-clause-grows
 returns-in-Ok-clause-grows g c = filled g (goal.at.returns-in-Ok-clause-grows g c).After-fill_room
 
+-- what was placed before an item found no room
+refused : (g : _) (c : In-Err g) → FillsRoom {X = Unit} g.I.Iterator c.args.iter (tiny_capacity g.A.Array.CAPACITY c.fill_room.new.self) (Err c.in-Err.field-0) (tiny_items_of g.A.Slots c.args.self.now) (tiny_items_of g.A.Slots c.fill_room.new.self)
+refused g c =
+    let at = c.loop-item in
+    let placed = at.invariant.ran in
+    runs_on g.I.Iterator c.args.iter at.items _ _ (tiny_items_of g.A.Slots c.args.self.now) (tiny_items_of g.A.Slots at.self) _ placed.0 placed.1 placed.2 at.invariant.no_longer c.in-Err.ensures.fills
+
 pub loop-item-preserved : goal.loop-item-preserved
 loop-item-preserved g c =
-    let at = c.loop-item in
-    let inv = at.invariant in
-    let first = c.args.self.now in
+    let inv = c.loop-item.invariant in
+    let olds = tiny_items_of g.A.Slots c.args.self.now in
     let mid = c.fill_room.new.self in
     let new = c.push.new.self in
-    let run = no_fewer (tiny_items_of g.A.Slots at.self) (tiny_items_of g.A.Slots mid) c.fill_room.ensures.fills in
-    let fills = c.in-Err.ensures.fills in
-    let ran = fills.ran in
+    let run = refused g (goal.at.loop-item-preserved g c).In-Err in
+    let ran = run.ran in
     let made = c.in-Ok-push.ensures in
     let x = c.in-Err.field-0.item in
-    let rest = c.in-Err.field-0.rest in
-    let goes = fills.goes_on in
-    let placed = inv.ran in
-    let all = yields_then g.I.Iterator.next_gives c.args.iter placed.0 at.items ran.0 (Some x) rest placed.1 ran.1 in
-    let olds = tiny_items_of g.A.Slots first in
-    let filled_with : tiny_items_of g.A.Slots mid ≡ olds ++ (placed.0 ++ ran.0) = ran.2 ∙ ap (λ l. l ++ ran.0) placed.2 ∙ append_assoc olds placed.0 ran.0 in
-    let is : tiny_items_of g.A.Slots new ≡ olds ++ ((placed.0 ++ ran.0) ++ x ∷ []) =
-    made.items ∙ ap (λ l. l ++ x ∷ []) filled_with ∙ append_assoc olds (placed.0 ++ ran.0) (x ∷ []) in
     let one : tiny_len_of g.A.Slots new ≡ tiny_len_of g.A.Slots mid + 1 = ap length made.items ∙ length_push (tiny_items_of g.A.Slots mid) x in
-    let long : tiny_len_of g.A.Slots first ≤ tiny_len_of g.A.Slots mid = omega (arith, inv.longer, run) in record {
-      can = goes.0;
-      finite = goes.1;
+    let long : length olds ≤ tiny_len_of g.A.Slots mid = omega (arith, inv.longer, no_fewer (tiny_items_of g.A.Slots c.loop-item.self) (tiny_items_of g.A.Slots mid) c.fill_room.ensures.fills) in record {
+      can = run.goes_on.0;
+      finite = run.goes_on.1;
       ran = (
-        (placed.0 ++ ran.0) ++ x ∷ [],
-        Yields-more g.I.Iterator.next_gives c.args.iter (placed.0 ++ ran.0) all.0 x rest all.1 all.2,
-        is,
+        ran.0 ++ x ∷ [],
+        Yields-more g.I.Iterator.next_gives c.args.iter ran.0 ran.1.0 x c.in-Err.field-0.rest ran.1.1 ran.1.2,
+        made.items ∙ ap (λ l. l ++ x ∷ []) ran.2 ∙ append_assoc olds ran.0 (x ∷ []),
       );
-      no_longer = omega (arith, goes.2, inv.no_longer, one);
+      no_longer = omega (arith, run.goes_on.2, one);
       longer = omega (arith, long, one);
-      grows = grows_pushed g.A.Item.Default.is_default g.A.Array.CAPACITY (tiny_view_of g.A.Slots first) (tiny_view_of g.A.Slots mid) (tiny_view_of g.A.Slots new) _ long one fills.full
+      grows = grows_pushed g.A.Item.Default.is_default g.A.Array.CAPACITY (tiny_view_of g.A.Slots c.args.self.now) (tiny_view_of g.A.Slots mid) (tiny_view_of g.A.Slots new) _ long one run.full
           (filled g (goal.at.loop-item-preserved g c).After-fill_room) made.room;
     }
 
 pub returns-in-Err-push-clause-fills : goal.returns-in-Err-push-clause-fills
 returns-in-Err-push-clause-fills g c =
-    let at = c.loop-item in
-    let placed = at.invariant.ran in
-    let run = c.in-Err.ensures.fills in
-    let ran = run.ran in
-    let goes = run.goes_on in
-    let rest = c.in-Err.field-0.rest in
     let refusal = c.in-Err-push.ensures in
     let same = refusal.room.refused in
-    let steps = g.I.Iterator.next_gives in
-    let all = yields_then steps c.args.iter placed.0 at.items ran.0 (Some c.in-Err.field-0.item) rest placed.1 ran.1 in
-    let olds = tiny_items_of g.A.Slots c.args.self.now in record {
-      ran = (
-        placed.0 ++ ran.0,
-        subst (λ y. YieldsThen steps c.args.iter (placed.0 ++ ran.0) (Some y) rest) (sym refusal.value_returned) all,
-        same.items ∙ ran.2 ∙ ap (λ l. l ++ ran.0) placed.2 ∙ append_assoc olds placed.0 ran.0,
-      );
-      full = ap length same.items ∙ run.full ∙ sym (same.capacity g.A.Array.CAPACITY);
-      goes_on = (goes.0, goes.1, omega (arith, goes.2, at.invariant.no_longer, ap length same.items));
-    }
+    rw (same.items, same.capacity g.A.Array.CAPACITY, refusal.value_returned) (refused g (goal.at.returns-in-Err-push-clause-fills g c).In-Err)
 
 pub returns-in-Err-push-clause-grows : goal.returns-in-Err-push-clause-grows
 returns-in-Err-push-clause-grows g c =
-    let run = c.fill_room.ensures in
-    let mid = c.fill_room.new.self in
-    let refused = c.in-Err-push.ensures.room.refused in
-    let same = ap length refused.items in
-    grows_stays g.A.Item.Default.is_default g.A.Array.CAPACITY (tiny_view_of g.A.Slots c.args.self.now) (tiny_view_of g.A.Slots mid) (tiny_view_of g.A.Slots c.push.new.self)
-    (omega (arith, c.loop-item.invariant.longer, no_fewer (tiny_items_of g.A.Slots c.loop-item.self) (tiny_items_of g.A.Slots mid) run.fills)) (omega (arith, same)) (filled g (goal.at.returns-in-Err-push-clause-grows g c).After-fill_room)
-    (unchanged_stays g.A.Item.Default.is_default g.A.Array.CAPACITY (tiny_view_of g.A.Slots mid) (tiny_view_of g.A.Slots c.push.new.self) run.frame.fits refused)
+    subst (Grows g.A.Item.Default.is_default g.A.Array.CAPACITY (tiny_view_of g.A.Slots c.args.self.now))
+    (sym (view_unchanged (tiny_view_of g.A.Slots c.fill_room.new.self) (tiny_view_of g.A.Slots c.push.new.self) c.in-Err-push.ensures.room.refused))
+    (filled g (goal.at.returns-in-Err-push-clause-grows g c).After-fill_room)

@@ -1,5 +1,5 @@
-use Rattle.std.proofs.Common.{◌++◌, ◌∷◌, refl, sym, ap, ◌∙◌, rules}
-use Rattle.tinyvec.proofs.TinyLemmas.{defaults_left}
+use Rattle.std.proofs.Common.{◌++◌, ◌∷◌, refl, sym, ap, ◌∙◌}
+use Rattle.tinyvec.proofs.TinyLemmas.{collected}
 use Rattle.tinyvec.specs.TinyVec.{tiny_view_of}
 use Rattle.tinyvec.proofs.tiny_vec.extending.TinyVec+A.from_iter.Goals as goal
 
@@ -21,22 +21,10 @@ returns-in-Ok-clause-known g c = λ xs yields.
 
 pub returns-in-Ok-clause-collected : goal.returns-in-Ok-clause-collected
 returns-in-Ok-clause-collected g c =
-    let made = c.new-vec.ensures in record {
-      items = refl;
-      place = search rules;
-      spare = defaults_left g.A.Item.Default.is_default g.A.Array.CAPACITY (tiny_view_of g.A.Slots c.new-vec.result) (tiny_view_of g.A.Slots c.extend.new.self) made.items made.place made.spare c.in-Ok.ensures.grows.slot_rule;
-      grown = search rules;
-      doubled = search rules;
-      fits = search rules;
-    }
+    let made = c.new-vec.ensures in
+    collected g.A.Item.Default.is_default g.A.Array.CAPACITY (tiny_view_of g.A.Slots c.new-vec.result) _ (record { items = made.items; spare = made.spare; place = made.place }) c.in-Ok.ensures.grows
 
 pub returns-in-Err-clause-collected_so_far : goal.returns-in-Err-clause-collected_so_far
 returns-in-Err-clause-collected_so_far g c =
-    let made = c.new-vec.ensures in record {
-      items = refl;
-      place = search rules;
-      spare = defaults_left g.A.Item.Default.is_default g.A.Array.CAPACITY (tiny_view_of g.A.Slots c.new-vec.result) (tiny_view_of g.A.Slots c.extend.new.self) made.items made.place made.spare c.in-Err.ensures.grows.slot_rule;
-      grown = search rules;
-      doubled = search rules;
-      fits = search rules;
-    }
+    let made = c.new-vec.ensures in
+    collected g.A.Item.Default.is_default g.A.Array.CAPACITY (tiny_view_of g.A.Slots c.new-vec.result) _ (record { items = made.items; spare = made.spare; place = made.place }) c.in-Err.ensures.grows

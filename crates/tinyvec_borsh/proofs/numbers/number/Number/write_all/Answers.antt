@@ -1,11 +1,11 @@
 use Rattle.std.proofs.Common.{◌∙◌, ◌+◌, ◌-◌, ◌*◌, ap, arith, drop, length-drop, length-take-le, rules, subst, take}
-use Rattle.std.proofs.lemmas.List.{take_all}
+use Rattle.std.proofs.lemmas.List.{take-append-drop, take_all}
 use Rattle.std.specs.List.{AllByRecursion}
 use Rattle.tinyvec_borsh.specs.Items.{SpellsItems}
 use Rattle.tinyvec_borsh.proofs.ItemByItem.{failed-since, none-failed}
 use Rattle.tinyvec_borsh.proofs.NumberBlocks.{fit-block, until-end, wrote-block}
 use Rattle.std.proofs.lemmas.Result.{err_from_is_err_and}
-use Rattle.tinyvec_borsh.proofs.AtFaults.{fault-since, front-next-block, parts_around}
+use Rattle.tinyvec_borsh.proofs.AtFaults.{fault-since, front-next-block}
 use Rattle.tinyvec_borsh.proofs.numbers.number.Number.write_all.Goals as goal
 
 pub loop-start-preserved : goal.loop-start-preserved
@@ -50,8 +50,8 @@ returns-in_err-write_bytes-clause-writes g c =
     rw (p.1, p.2) (record {
       ok = tt;
       err = fault-since c.loop-start.invariant.grows failed.err;
-      front = front-next-block g.Self.FixedWidth.form.Spells g.Self.FixedWidth.form.code g.Self.Bytes.Array.CAPACITY count (take start c.args.items.now) (take (start + count - start) (drop start c.args.items.now)) _ c.args.items.now _ c.encode.new.room _ _ _
-          (parts_around c.args.items.now start (start + count - start)) (ap (λ m. take (count * m) c.encode.new.room) c.CAPACITY-width.ensures) (omega (arith, many)) c.loop-start.invariant.wrote c.encode.ensures.spelled failed.front;
+      front = front-next-block g.Self.FixedWidth.form.Spells g.Self.FixedWidth.form.code g.Self.Bytes.Array.CAPACITY count (take start c.args.items.now) (take (start + count - start) (drop start c.args.items.now)) (drop (start + count - start) (drop start c.args.items.now)) c.args.items.now _ c.encode.new.room _ _ _
+          (simp take-append-drop) (ap (λ m. take (count * m) c.encode.new.room) c.CAPACITY-width.ensures) (omega (arith, many)) c.loop-start.invariant.wrote c.encode.ensures.spelled failed.front;
       grows = omega arith;
       failed = failed-since c.loop-start.invariant.failed failed.failed;
     })
