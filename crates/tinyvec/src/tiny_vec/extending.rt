@@ -91,7 +91,8 @@ impl<A: Array> TinyVec<A> {
             (R.end_bound range)))
             (tiny_view_of A.Slots self.old) (tiny_view_of A.Slots self.new) result) }
         ensures capacity { tiny_capacity A.CAPACITY self.old ≤ tiny_capacity A.CAPACITY self.new }
-        ensures same_room { KeepsRoom A.CAPACITY (tiny_len_of A.Slots self.old + length (removed (tiny_items_of A.Slots self.old) (R.start_bound range)
+        ensures same_room { KeepsRoom A.CAPACITY
+            (tiny_len_of A.Slots self.old + length (removed (tiny_items_of A.Slots self.old) (R.start_bound range)
             (R.end_bound range)))
             (tiny_view_of A.Slots self.old) (tiny_view_of A.Slots self.new) }
         ensures fits { tiny_len_of A.Slots self.new ≤ tiny_capacity A.CAPACITY self.new }
