@@ -112,7 +112,7 @@ module _ {T : Type 0} (D : T → Type 0) (slots : ℕ) where
   grows_in_room v w le h = record { items = refl; place = same_side slots (view_len w) v.place w.place le h.place; slot_rule = h.slot_rule; capacity = h.same_room le; fits = h.fits }
 
 module _ {T : Type 0} (exact : Bool) (slots need : ℕ) (old new : TinyView T) where
-  -- the capacity is no less then
+  -- a call that was granted room leaves no smaller capacity
   pub granted_no_less : RoomGranted exact slots need old new → view_capacity slots old ≤ view_capacity slots new
   granted_no_less granted = no_less exact need (view_capacity slots old) (view_capacity slots new) (cases_lt (view_capacity slots old) need) granted.1 granted.2
 
