@@ -1,4 +1,4 @@
--- What the proofs by hand share of functions that lend on a part of what `all_mut` lends, with the names that they cite.
+-- What the proofs by hand share of functions that lend on a part of what `as_slice_mut` lends, with the names that they cite.
 pub use mathlib.Core.Path.{refl, sym, ap, subst}
 pub use Prim.Native.Nat.{ℕ, ◌+◌, ◌-◌, ◌*◌, ◌^◌, ◌<◌, ◌≤◌}
 pub use native.Mathlib.Omega.{arith}
@@ -50,7 +50,7 @@ use denote.Steps.{heard, peeks, only}
 use denote.Triple.Spec.{triple_of}
 use denote.Triple.Statement.{Contract}
 use Rattle.tinyvec_array.specs.declared.storage.Slots as Storage
-use Rattle.tinyvec_array.specs.contracts.storage.Slots.all_mut as AM
+use Rattle.tinyvec_array.specs.contracts.storage.Slots.as_slice_mut as AM
 
 -- the parameter, its items and lengths, and what a statement assumes of them
 pub record Par : Type 2 where
@@ -76,7 +76,7 @@ module _ (Z : Par) where
 module _ (Z : Par) {M : Type 1} {𝓤 : Ura M} (𝓛 : Logic 𝓤) (at_mem : Memory → SProp 𝓤) (run : Routine → Fun 𝓤) where
   open 𝓛 use {H, A}
 
-  -- the contract of `all_mut`
+  -- the contract of `as_slice_mut`
   abbrev pub Con : Contract 𝓤
   Con = triple_of 𝓛 (AM.signature Z.self Z.item Z.len) (AM.spec Z.self Z.item Z.len Z.g Z.d Z.xs Z.xi Z.xl 𝓛 at_mem run)
 

@@ -64,7 +64,7 @@ impl<S: Slots> ArrayVec<S> {
         ensures parts { result ≡ len_of S.Slots self.now + length (spare_of S.Slots self.now) }
         ensures slot_count { S.Slots.Counts (slots_of S.Slots self.now) }
     {
-        self.slots.all().len()
+        self.slots.as_slice().len()
     }
 
     /// How many more items fit.
@@ -95,7 +95,7 @@ impl<S: Slots> ArrayVec<S> {
     pub fn as_slice(&self) -> &[S::Item]
         ensures { result.now ≡ items_of S.Slots self.now }
     {
-        let slots = self.slots.all();
+        let slots = self.slots.as_slice();
         // The minimum is the length. It bounds the trip count of a loop over the items.
         &slots[..self.len().min(slots.len())]
     }
@@ -105,7 +105,7 @@ impl<S: Slots> ArrayVec<S> {
         ensures { result.now ≡ spare_of S.Slots self.now }
     {
         let len = self.len();
-        &self.slots.all()[len..]
+        &self.slots.as_slice()[len..]
     }
 
     /// Moves the border between the items and the spare slots. No slot is written.
@@ -134,7 +134,7 @@ impl<S: Slots> ArrayVec<S> {
             (remove_range (items_of S.Slots self.old) start end ++ slice_range (items_of S.Slots self.old) start end) }
     {
         let len = self.len();
-        move_to_end_below(self.slots.all_mut(), start, end, len);
+        move_to_end_below(self.slots.as_slice_mut(), start, end, len);
     }
 
     /// The items, for writing.
@@ -161,7 +161,7 @@ impl<S: Slots> ArrayVec<S> {
         ensures* writes_back { sem 𝓛 (lends_inner S.row S.Len.row S.Item.row S.Slots self.entry result) }
         ensures value { result.now ≡ slots_of S.Slots self.old }
     {
-        self.slots.all_mut()
+        self.slots.as_slice_mut()
     }
 
     ghost use Rattle.tinyvec_array.specs.IterMut.{lends_iter};
@@ -203,7 +203,7 @@ where
         let len = self.len();
         let most = self.slots.most();
         let at = bounded_index(len, most) + bounded_index(i, most);
-        mem::take(&mut self.slots.all_mut()[at])
+        mem::take(&mut self.slots.as_slice_mut()[at])
     }
 
     // Writes defaults into the first `n` spare slots, or none if there are fewer.
@@ -217,7 +217,7 @@ where
         let len = self.len();
         if n <= self.capacity() - len {
             let most = self.slots.most();
-            fill_default(self.slots.all_mut(), len, len + n, most);
+            fill_default(self.slots.as_slice_mut(), len, len + n, most);
         }
     }
 }

@@ -13,7 +13,7 @@ pub(crate) fn part_of<S: Slots>(slots: &mut S, start: usize, end: usize) -> &mut
     ensures value { result.now ≡ slice_range (S.slots slots.old) start end }
 {
     // Proved by hand: the borrow checker does not follow one loan out of another.
-    &mut slots.all_mut()[start..end]
+    &mut slots.as_slice_mut()[start..end]
 }
 
 // The slot at `i`, for writing.
@@ -23,5 +23,5 @@ pub(crate) fn slot_of<S: Slots>(slots: &mut S, i: usize) -> &mut S::Item
     ensures value { result.now ≡ slice_index_or (S.slots slots.old) i result.now }
 {
     // Proved by hand, as `part_of`.
-    &mut slots.all_mut()[i]
+    &mut slots.as_slice_mut()[i]
 }

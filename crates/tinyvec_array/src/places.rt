@@ -23,7 +23,7 @@ pub(crate) fn bounded_index(i: usize, most: usize) -> usize
 pub(crate) fn prefers_shifting_in<S: Slots>(slots: &S, start: usize, end: usize) -> bool
     requires { Within start end (length (S.slots slots.now)) }
 {
-    let all = slots.all();
+    let all = slots.as_slice();
     // For a lent slice, whose number of slots is not known, the range alone decides.
     slots.most() <= 128 && prefers_shifting(all) || prefers_shifting(&all[start..end])
 }
@@ -33,5 +33,5 @@ pub(crate) fn prefers_shifting_in<S: Slots>(slots: &S, start: usize, end: usize)
 pub(crate) fn knows_slots<A: Array>(array: &A)
     ensures { length (A.Slots.slots array.now) ≡ A.CAPACITY }
 {
-    let _slots = array.all();
+    let _slots = array.as_slice();
 }

@@ -53,12 +53,12 @@ pub trait Slots: Drop {
         ensures { result.now ≡ drain_word };
 
     /// The slots.
-    fn all(&self) -> &[Self::Item]
+    fn as_slice(&self) -> &[Self::Item]
         ensures value { result.now ≡ slots self.now }
         ensures counts { Counts (slots self.now) };
 
     /// The slots, for writing.
-    fn all_mut(&mut self) -> &mut [Self::Item]
+    fn as_slice_mut(&mut self) -> &mut [Self::Item]
         ensures* writes_back { sem 𝓛 (Lends Self.row (SliceOf Self.Item.row 0) self.entry result (with_slots self.old)) }
         ensures value { result.now ≡ slots self.old };
 
@@ -112,11 +112,11 @@ impl<T: Drop, const N: usize> Slots for [T; N] {
         "ArrayVecDrain"
     }
 
-    fn all(&self) -> &[T] {
+    fn as_slice(&self) -> &[T] {
         self.as_slice()
     }
 
-    fn all_mut(&mut self) -> &mut [T] {
+    fn as_slice_mut(&mut self) -> &mut [T] {
         self.as_mut_slice()
     }
 
@@ -172,18 +172,18 @@ impl<'s, T: Drop> Slots for &'s mut [T] {
         "SliceVecDrain"
     }
 
-    fn all(&self) -> &[T] {
+    fn as_slice(&self) -> &[T] {
         &**self
     }
 
-    fn all_mut(&mut self) -> &mut [T] {
+    fn as_slice_mut(&mut self) -> &mut [T] {
         // Proved by hand: the borrow checker does not follow a loan of what is itself lent.
         &mut **self
     }
 
     #[inline(always)]
     fn used(&self, len: &usize) -> usize {
-        (*len).min(self.all().len())
+        (*len).min(self.as_slice().len())
     }
 
     #[inline(always)]

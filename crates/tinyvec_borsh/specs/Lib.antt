@@ -15,4 +15,3 @@ pub mod Tagged
 pub mod Text
 pub mod TextLaws
 pub mod Writing
-pub mod ErrorText

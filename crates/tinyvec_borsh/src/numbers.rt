@@ -30,7 +30,7 @@ impl<T: Number> BorshForm for T {
 
 impl<T: Number> BorshSerialize for T {
     fn serialize<W: Write>(&self, writer: &mut Counted<W>) -> Result<(), BorshError> {
-        write_bytes(writer, self.to_bytes().all())
+        write_bytes(writer, self.to_bytes().as_slice())
     }
 
     fn serialize_items<W: Write>(

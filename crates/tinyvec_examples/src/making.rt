@@ -20,7 +20,7 @@ pub fn full_list<A: Array>(array: A) -> ArrayVec<A>
     ensures spare { spare_of A.Slots result ≡ [] }
 {
     // How many slots the array has is known once a call says so.
-    let _slots = array.all();
+    let _slots = array.as_slice();
     converted(array)
 }
 

@@ -11,4 +11,3 @@ pub mod State
 pub mod TinyCalls
 pub mod TextCalls
 pub mod Reason
-pub mod ErrorText

@@ -1,7 +1,7 @@
 //! A script, read and answered.
 ghost use Rattle.std.specs.Prelude.{◌≡◌, ◌⊎◌, ◌≤◌, ◌^◌, ◌-◌, ◌++◌, ◌∷◌, List, ℕ, [], Some, OnOk, IsErrOf, length};
 ghost use Rattle.std.specs.Io.KnownBytes.{Appends, Consumes, IsAtEnd};
-ghost use Rattle.std.specs.declared.io.Error.{Error};
+ghost use Rattle.std.specs.declared.io.Error.{Error as IoError};
 ghost use Rattle.tinyvec_io.specs.Counted.{AppendsFront, Reported};
 ghost use Rattle.tinyvec_script.specs.Writes.{Gathers, Writes};
 ghost use Rattle.tinyvec_script.specs.State.{state_of};
@@ -15,8 +15,9 @@ use crate::gathered::Gathered;
 use crate::line::Line;
 use crate::vectors::Vectors;
 use std::alloc::Global;
+use std::io;
 use std::io::{Read, Write};
-use std::{error, fmt, io};
+use thiserror::Error;
 use tinyvec::{ArrayVec, SliceVec, Slots, TinyVec};
 use tinyvec_io::Counted;
 use tinyvec_text::InlineText;
@@ -25,31 +26,18 @@ use tinyvec_text::InlineText;
 const CHUNK: usize = 4096;
 
 /// Why a script ended before its input.
-#[derive(Debug, Drop)]
+#[derive(Debug, Error, Drop)]
 pub enum RunError {
     /// The reader failed.
+    #[error("cannot read input: {0}")]
     Read(io::Error),
     /// The writer failed.
+    #[error("cannot write output: {0}")]
     Write(io::Error),
     /// `u64::MAX` bytes were read, and the input goes on.
+    #[error("cannot read input: input too long")]
     TooLong,
 }
-
-impl fmt::Display for RunError {
-    ghost use Rattle.tinyvec_script.specs.ErrorText.{run_error_text};
-
-    ghost output = { run_error_text };
-
-    fn fmt<W: fmt::Write>(&self, f: &mut fmt::Formatter<W>) -> fmt::Result {
-        match self {
-            RunError::Read(error) => write!(f, "cannot read input: {error}"),
-            RunError::Write(error) => write!(f, "cannot write output: {error}"),
-            RunError::TooLong => f.write_str("cannot read input: input too long"),
-        }
-    }
-}
-
-impl error::Error for RunError {}
 
 /// Reads lines, and writes an answer line to each. The answers to all lines read so far are written before more is read, and
 /// the writer is flushed once, at the end of the input. Only the calls of the vectors and of the text allocate.
@@ -68,19 +56,19 @@ pub fn run<R: Read, W: Write>(
         × (writer.new.failed ≡ writer.old.failed)) }
 
     // The complete lines before the fault were answered.
-    ensures read { (error : Error) → IsErrOf result (RunError.Read error) → (input output : List ℕ)
+    ensures read { (error : IoError) → IsErrOf result (RunError.Read error) → (input output : List ℕ)
         × Consumes (R.remaining reader.old.inner) (R.remaining reader.new.inner) input
         × Appends (W.contents writer.old.inner) (W.contents writer.new.inner) output
         × CompleteLines input output }
-    ensures read_fault { (error : Error) → IsErrOf result (RunError.Read error)
+    ensures read_fault { (error : IoError) → IsErrOf result (RunError.Read error)
         → Reported reader.old.faults reader.new.faults }
 
     // What was written is a front of the output.
-    ensures write { (error : Error) → IsErrOf result (RunError.Write error) → (input output : List ℕ)
+    ensures write { (error : IoError) → IsErrOf result (RunError.Write error) → (input output : List ℕ)
         × Consumes (R.remaining reader.old.inner) (R.remaining reader.new.inner) input
         × AppendsFront (W.contents writer.old.inner) (W.contents writer.new.inner) output
         × (CompleteLines input output ⊎ Script input output) }
-    ensures write_fault { (error : Error) → IsErrOf result (RunError.Write error)
+    ensures write_fault { (error : IoError) → IsErrOf result (RunError.Write error)
         → Reported writer.old.faults writer.new.faults }
 
     // An input of this length is not read to its end.

@@ -1,19 +1,8 @@
 //! Why items found no room.
-use std::error::Error;
-use std::fmt;
+
+use thiserror::Error;
 
 /// The items don't fit the vector.
-#[derive(Debug, Clone, Copy, PartialEq, Eq)]
+#[derive(Debug, Clone, Copy, PartialEq, Eq, Error)]
+#[error("insufficient capacity")]
 pub struct CapacityError;
-
-impl fmt::Display for CapacityError {
-    ghost use Rattle.std.specs.Prelude.{Some, codes};
-
-    ghost output = { λ _. Some (codes "insufficient capacity") };
-
-    fn fmt<W: fmt::Write>(&self, f: &mut fmt::Formatter<W>) -> fmt::Result {
-        f.write_str("insufficient capacity")
-    }
-}
-
-impl Error for CapacityError {}

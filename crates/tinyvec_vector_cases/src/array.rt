@@ -12,7 +12,7 @@ pub fn array_of<T: Read + Default, A: Array<Item = T>>(slots: Slots<T>) -> Resul
     let (list, spare) = slots;
     let mut array = A::default();
     let mut left = list.into_iter().chain(spare);
-    for slot in array.all_mut() {
+    for slot in array.as_slice_mut() {
         *slot = left.next().ok_or(Wrong::Value)?;
     }
     if left.next().is_some() {

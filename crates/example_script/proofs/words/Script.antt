@@ -9,7 +9,6 @@ use Rattle.tinyvec_script.specs.Step.{ArrayStep, SlotsStep, Run}
 use Rattle.tinyvec_script.specs.TinyCalls.{TinyStep}
 use Rattle.tinyvec_script.specs.Driving.{ArraySplices, TinySplices, SpliceComputes}
 use Rattle.tinyvec_script.specs.Script.{Script, CompleteLines}
-use Rattle.tinyvec_script.specs.ErrorText.{run_error_text}
 use Rattle.tinyvec_script.specs.declared.script.RunError.TheVariants.{TooLong}
 
 -- the items are numbers, whose default is 0
@@ -50,6 +49,3 @@ example-Script = search rules
 
 pub example-CompleteLines : CompleteLines [] []
 example-CompleteLines = search rules
-
-pub example-run_error_text : run_error_text TooLong ≡ Some (codes "cannot read input: input too long")
-example-run_error_text = refl

@@ -235,7 +235,7 @@ impl<A: Array> ArrayVec<A> {
         let len = source.len();
         self.truncate(len);
         knows_slots(&self.slots);
-        clone_over_from(self.slots.all_mut(), 0, source.as_slice())?;
+        clone_over_from(self.slots.as_slice_mut(), 0, source.as_slice())?;
         self.set_len(len);
         Ok(())
     }
@@ -282,5 +282,5 @@ where
     ensures succeeds { All A.Item.is_infallible (A.Slots.slots from.now) → IsOk result }
 {
     knows_slots(to);
-    clone_each(to.all_mut(), from.all())
+    clone_each(to.as_slice_mut(), from.as_slice())
 }

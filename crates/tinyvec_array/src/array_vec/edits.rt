@@ -18,7 +18,7 @@ impl<S: Slots> ArrayVec<S> {
     {
         let len = self.len();
         let at = bounded_index(len, self.slots.most());
-        self.slots.all_mut()[at] = value;
+        self.slots.as_slice_mut()[at] = value;
         self.len = self.slots.to_len(len + 1);
     }
 
@@ -97,7 +97,7 @@ impl<S: Slots> ArrayVec<S> {
         let len = self.len();
         let are_few = prefers_shifting_in(&self.slots, index, len);
         self.len = self.slots.to_len(len + 1);
-        let slots = self.slots.all_mut();
+        let slots = self.slots.as_slice_mut();
         if are_few {
             insert_shifting(slots, index, len, element);
             return;
@@ -148,7 +148,7 @@ where
     {
         let last = self.len() - 1;
         let at = bounded_index(last, self.slots.most());
-        let item = mem::take(&mut self.slots.all_mut()[at]);
+        let item = mem::take(&mut self.slots.as_slice_mut()[at]);
         // Written last, so that LLVM knows the length in a loop of pops.
         self.len = self.slots.to_len(last);
         item
@@ -167,7 +167,7 @@ where
     {
         let len = self.len();
         if prefers_shifting_in(&self.slots, index, len) {
-            let item = remove_shifting(self.slots.all_mut(), index, len);
+            let item = remove_shifting(self.slots.as_slice_mut(), index, len);
             self.len = self.slots.to_len(len - 1);
             return item;
         }
@@ -215,7 +215,7 @@ where
         let len = self.len();
         if new_len < len {
             let most = self.slots.most();
-            fill_default(self.slots.all_mut(), new_len, len, most);
+            fill_default(self.slots.as_slice_mut(), new_len, len, most);
             self.len = self.slots.to_len(new_len);
         }
     }

@@ -22,7 +22,7 @@ impl<S: TakesClones> ArrayVec<S> {
         ensures clones { AddsClones S.Item.Clone other.now result (view_of S.Slots self.old) (view_of S.Slots self.new) }
     {
         let len = self.len();
-        S::write_clones(self.slots.all_mut(), len, other)?;
+        S::write_clones(self.slots.as_slice_mut(), len, other)?;
         self.len = self.slots.to_len(len + other.len());
         Ok(())
     }
@@ -67,7 +67,7 @@ impl<S: Slots> ArrayVec<S> {
     {
         let len = self.len();
         let end = len + other.len();
-        self.slots.all_mut()[len..end].copy_from_slice(other);
+        self.slots.as_slice_mut()[len..end].copy_from_slice(other);
         self.len = self.slots.to_len(end);
     }
 
@@ -88,7 +88,7 @@ impl<S: Slots> ArrayVec<S> {
     {
         let len = self.len();
         let part = resolve_range(range, len);
-        clone_within(self.slots.all_mut(), part.start, part.end, len)?;
+        clone_within(self.slots.as_slice_mut(), part.start, part.end, len)?;
         self.len = self.slots.to_len(len + (part.end - part.start));
         Ok(())
     }
@@ -180,7 +180,7 @@ impl<S: Slots> ArrayVec<S> {
         ensures grown { ResizesByClones S.Item.Clone n x.now result (view_of S.Slots self.old) (view_of S.Slots self.new) }
     {
         let len = self.len();
-        fill_clones(self.slots.all_mut(), len, n, x)?;
+        fill_clones(self.slots.as_slice_mut(), len, n, x)?;
         self.len = self.slots.to_len(n);
         Ok(())
     }
@@ -258,7 +258,7 @@ impl<S: Slots> ArrayVec<S> {
         ensures spare { spare_of S.Slots self.new ≡ x ∷ spare_of S.Slots self.old }
     {
         let last = self.len() - 1;
-        self.slots.all_mut()[last] = x;
+        self.slots.as_slice_mut()[last] = x;
         self.len = self.slots.to_len(last);
     }
 }

@@ -62,7 +62,7 @@ impl<'s, T: Drop> ArrayVec<&'s mut [T]> {
     pub fn as_inner(&self) -> &[T]
         ensures { result.now ≡ slots self.now }
     {
-        self.slots.all()
+        self.slots.as_slice()
     }
 
     /// Splits the slots at `at`. The vector keeps the slots before `at`, all in its list; the result has the later

@@ -65,7 +65,7 @@ where
         let count = u64::deserialize_reader(alloc, reader)?;
         let len = count.min(A::CAPACITY as u64) as usize;
         let mut array = A::default();
-        read_items(alloc, array.all_mut(), 0, len, reader)?;
+        read_items(alloc, array.as_slice_mut(), 0, len, reader)?;
         if (len as u64) < count {
             A::Item::deserialize_reader(alloc, reader)?;
             return Err(BorshError::InvalidLength);

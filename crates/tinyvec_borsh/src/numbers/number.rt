@@ -104,7 +104,7 @@ pub(super) fn from_slice<T: FixedWidth>(spelling: &[u8]) -> T
     ensures valid { T.form.Fits result }
 {
     let mut bytes = T::Bytes::default();
-    bytes.all_mut().copy_from_slice(spelling);
+    bytes.as_slice_mut().copy_from_slice(spelling);
     T::from_bytes(bytes)
 }
 
@@ -133,6 +133,6 @@ fn encode<T: FixedWidth>(items: &[T], room: &mut [u8; ROOM])
     let width = T::Bytes::CAPACITY;
     for i in 0..items.len() {
         let at = i * width;
-        room[at..at + width].copy_from_slice(items[i].to_bytes().all());
+        room[at..at + width].copy_from_slice(items[i].to_bytes().as_slice());
     }
 }

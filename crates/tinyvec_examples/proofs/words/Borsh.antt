@@ -1,7 +1,6 @@
 -- Examples of the Borsh form, of contents that are bytes: each spells itself, and an input without a byte is cut.
 use Rattle.std.proofs.Common.{◌≡◌, ℕ, ◌<◌, List, [], ◌∷◌, Option, Some, None, Ok, Err, inl, codes, refl, ap, length, length-append, rules, arith}
 use Rattle.std.specs.Prelude.{IsUtf8}
-use Rattle.tinyvec_borsh.specs.ErrorText.{borsh_error_text}
 use Rattle.tinyvec_borsh.specs.Failed.{CountsIo}
 use Rattle.tinyvec_borsh.specs.Items.{SpellsItems, SpellsList, ListFits, AfterItems, InItem, ListReason, CountsAbove}
 use Rattle.tinyvec_borsh.specs.Reading.{ReadsSpelling, FailsFor, LeavesRest}
@@ -30,9 +29,6 @@ IsNever input = ⊥
 
 pub example-TooFewBytes : TooFewBytes 1 Ended []
 example-TooFewBytes = (refl, omega arith)
-
-pub example-borsh_error_text : borsh_error_text Ended ≡ codes "unexpected end of input"
-example-borsh_error_text = refl
 
 pub example-IsCode : (spells : ℕ → List ℕ → Type 0) (bytes : List ℕ) → IsCode spells → spells 7 (1 ∷ []) → spells 7 bytes → bytes ≡ 1 ∷ []
 example-IsCode spells bytes code one other = code.one_spelling 7 bytes (1 ∷ []) other one

@@ -1,4 +1,4 @@
--- `part_of` lends a range of what `all_mut` lends. The borrow checker does not follow
+-- `part_of` lends a range of what `as_slice_mut` lends. The borrow checker does not follow
 -- a part of a call's result, so this proof walks the code by hand.
 use lib.ListN.{take, drop as drop_list}
 use types.Part.{agg}
@@ -36,7 +36,7 @@ part_of_spec 𝓤 𝓛 𝓜 𝓡 wired X Y L LX LY LL g d xs xi xl met gx gy gl 
     split ! $ learn ! (λ le. drop ! $ learn ! (λ within. drop ! $
     enter ! _ _ _ _ _ $ alloc_all ! (λ l. pass_all ! refl ((tt, tt), ((tt, record { fits = are.1.0.1 }), ((tt, record { fits = are.1.1.0.1 }), tt))) $
     sets ! (addr ! (through ! refl (stop !))) refl (tt, tt) $
-    calls_at ! (framed 𝓤 𝓛.H 𝓜 (tables 𝓤 𝓛.H 𝓜 𝓡 𝓡.env)) (Con Z 𝓛 𝓜.mem 𝓡.returns) (met.all_mut xs xi xl) (asked Z 𝓛 𝓜.mem 𝓡.returns κs qs bounds a.0) (and_then ! (get ! refl) (no_more !)) (λ v.
+    calls_at ! (framed 𝓤 𝓛.H 𝓜 (tables 𝓤 𝓛.H 𝓜 𝓡 𝓡.env)) (Con Z 𝓛 𝓜.mem 𝓡.returns) (met.as_slice_mut xs xi xl) (asked Z 𝓛 𝓜.mem 𝓡.returns κs qs bounds a.0) (and_then ! (get ! refl) (no_more !)) (λ v.
     lends_on Z 𝓛 𝓜.mem 𝓡.returns κs qs bounds a.0 (Array (R Z) 0) (with_part slots i j) (λ p δ. (MutSlice (named 0) κs.0 (R Z)).own_val (lent p δ) (slice_val (from p) n ∷ [])) v
     (λ p γ room. lends_run 𝓛 (R Z) κs.0 qs.0 p.0 p.1 γ slots i j le within room (v ∷ [])) $ await ! tt $ pick ! (λ p. learn ! (λ told. learn ! (λ room. pick ! (λ δ. split3 ! $
     -- [the part; the tokens; what it follows; the locals]

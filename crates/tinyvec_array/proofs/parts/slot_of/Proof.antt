@@ -1,4 +1,4 @@
--- `slot_of` lends one slot of what `all_mut` lends. The borrow checker does not follow
+-- `slot_of` lends one slot of what `as_slice_mut` lends. The borrow checker does not follow
 -- a part of a call's result, so this proof walks the code by hand.
 use lib.ListN.{get_or, set}
 use types.Run.{size_lit}
@@ -33,7 +33,7 @@ slot_of_spec 𝓤 𝓛 𝓜 𝓡 wired X Y L LX LY LL g d xs xi xl met gx gy gl 
     let lent : ℕ × ℕ → GName → MutBor Y.Denot = λ p δ. record { ref_ptr = (p.0, i * k + p.1); ghost_name = δ; now = item } in
     enter ! _ _ _ _ _ $ alloc_all ! (λ l. pass_all ! refl ((tt, tt), ((tt, record { fits = are.1.0.1 }), tt)) $
     sets ! (addr ! (through ! refl (stop !))) refl (tt, tt) $
-    calls_at ! (framed 𝓤 𝓛.H 𝓜 (tables 𝓤 𝓛.H 𝓜 𝓡 𝓡.env)) (Con Z 𝓛 𝓜.mem 𝓡.returns) (met.all_mut xs xi xl) (asked Z 𝓛 𝓜.mem 𝓡.returns κs qs bounds a.0) (and_then ! (get ! refl) (no_more !)) (λ v.
+    calls_at ! (framed 𝓤 𝓛.H 𝓜 (tables 𝓤 𝓛.H 𝓜 𝓡 𝓡.env)) (Con Z 𝓛 𝓜.mem 𝓡.returns) (met.as_slice_mut xs xi xl) (asked Z 𝓛 𝓜.mem 𝓡.returns κs qs bounds a.0) (and_then ! (get ! refl) (no_more !)) (λ v.
     lends_on Z 𝓛 𝓜.mem 𝓡.returns κs qs bounds a.0 (R Z) (set slots i) (λ p δ. (MutRef (named 0) κs.0 (R Z)).own_val (lent p δ) (mut_vals (lent p δ))) v
     (λ p γ room. lends_element 𝓛 (R Z) κs.0 qs.0 p.0 p.1 γ slots i within e (v ∷ [])) $ await ! tt $ pick ! (λ p. learn ! (λ told. learn ! (λ room. pick ! (λ δ. split3 ! $
     -- [the slot; the tokens; what it follows; the locals]

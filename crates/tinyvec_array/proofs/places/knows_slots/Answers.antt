@@ -1,4 +1,4 @@
 use Rattle.tinyvec_array.proofs.places.knows_slots.Goals as goal
 
 pub returns : goal.returns
-returns g c = g.met.A.Array.counted _ c.all-slots.ensures.counts
+returns g c = g.met.A.Array.counted _ c.as_slice-slots.ensures.counts

@@ -10,5 +10,5 @@ returns-then-n-capacity-clause-spare g c = λ le.
     let count : n + c.args.n - n ≡ c.args.n = omega arith in (
       after.0,
       (after.1.0 ∙ count, after.1.1),
-      rw (g.S.Slots.slots_written, after.2, c.all_mut.ensures.value) (spare-put (g.S.Slots.count v.len) (g.S.Slots.slots v.slots) n c.len-len.ensures.value after.0 c.args.n (after.1.0 ∙ count) le),
+      rw (g.S.Slots.slots_written, after.2, c.as_slice_mut.ensures.value) (spare-put (g.S.Slots.count v.len) (g.S.Slots.slots v.slots) n c.len-len.ensures.value after.0 c.args.n (after.1.0 ∙ count) le),
     )

@@ -9,9 +9,9 @@ loop-i-preserved g c =
     let width = c.CAPACITY-width.result in
     let at = c.loop-i.i * width in
     let within : at + width ≤ length c.args.items.now * width = next_within c.loop-i.i (length c.args.items.now) width (omega arith) in
-    let same = c.copy_from_slice.ensures.after ∙ c.all.ensures.value ∙ c.to_bytes.ensures.bytes in
+    let same = c.copy_from_slice.ensures.after ∙ c.as_slice.ensures.value ∙ c.to_bytes.ensures.bytes in
     let long = ap length c.copy_from_slice.ensures.after in
-    let whole = ap length c.all.ensures.value ∙ g.met.T.Bytes.Array.counted _ c.all.ensures.counts in
+    let whole = ap length c.as_slice.ensures.value ∙ g.met.T.Bytes.Array.counted _ c.as_slice.ensures.counts in
     let put = take-block at (at + width) c.loop-i.room c.copy_from_slice.new.self (omega arith) (search rules) (omega (arith, long, whole, c.CAPACITY-width.ensures)) in
     record {
       spelled = spells-put g.T.FixedWidth.form.Spells g.T.FixedWidth.form.Fits width c.args.items.now c.loop-i.i c.index-items-i.result c.loop-i.room _ c.copy_from_slice.new.self (omega arith) (search rules) put c.loop-i.invariant.spelled

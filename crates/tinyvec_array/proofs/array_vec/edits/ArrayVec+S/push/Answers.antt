@@ -9,5 +9,5 @@ returns g c =
     record {
       lender = search rules;
       items = grind (arith, common_steps);
-      spare = rw (g.S.Slots.slots_written, c.to_len.ensures.number, c.bounded_index-at.ensures, c.all_mut.ensures.value) (drop-pushed (g.S.Slots.count v.len) (g.S.Slots.slots v.slots) c.len-len.result c.len-len.ensures.value c.args.value);
+      spare = rw (g.S.Slots.slots_written, c.to_len.ensures.number, c.bounded_index-at.ensures, c.as_slice_mut.ensures.value) (drop-pushed (g.S.Slots.count v.len) (g.S.Slots.slots v.slots) c.len-len.result c.len-len.ensures.value c.args.value);
     }

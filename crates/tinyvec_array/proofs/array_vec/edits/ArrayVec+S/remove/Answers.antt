@@ -22,8 +22,8 @@ returns-then-prefers_shifting_in-clause-becomes g c =
     let in_list : c.args.index < n = search rules in
     record {
       lender = search rules;
-      items = rw (g.S.Slots.slots_written, c.to_len.ensures.number, after.2, c.all_mut.ensures.value) (take-taken (g.S.Slots.count v.len) (g.S.Slots.slots v.slots) n c.len-len.ensures.value c.args.index after.0 in_list);
-      spare = (after.0 ∷ [], (refl, one), rw (g.S.Slots.slots_written, c.to_len.ensures.number, after.2, c.all_mut.ensures.value) (drop-taken (g.S.Slots.count v.len) (g.S.Slots.slots v.slots) n c.len-len.ensures.value c.args.index after.0 in_list));
+      items = rw (g.S.Slots.slots_written, c.to_len.ensures.number, after.2, c.as_slice_mut.ensures.value) (take-taken (g.S.Slots.count v.len) (g.S.Slots.slots v.slots) n c.len-len.ensures.value c.args.index after.0 in_list);
+      spare = (after.0 ∷ [], (refl, one), rw (g.S.Slots.slots_written, c.to_len.ensures.number, after.2, c.as_slice_mut.ensures.value) (drop-taken (g.S.Slots.count v.len) (g.S.Slots.slots v.slots) n c.len-len.ensures.value c.args.index after.0 in_list));
     }
 
 pub returns-then-prefers_shifting_in-clause-value : goal.returns-then-prefers_shifting_in-clause-value

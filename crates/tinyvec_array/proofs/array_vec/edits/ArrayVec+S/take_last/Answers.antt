@@ -14,7 +14,7 @@ returns-clause-becomes g c =
     record {
       lender = search rules;
       items = grind (arith, common_steps);
-      spare = (d ∷ [], (refl, one), rw (g.S.Slots.slots_written, c.to_len.ensures.number, c.bounded_index-at.ensures, c.all_mut.ensures.value) (drop-popped (g.S.Slots.count v.len) (g.S.Slots.slots v.slots) n c.len-last.ensures.value d pos));
+      spare = (d ∷ [], (refl, one), rw (g.S.Slots.slots_written, c.to_len.ensures.number, c.bounded_index-at.ensures, c.as_slice_mut.ensures.value) (drop-popped (g.S.Slots.count v.len) (g.S.Slots.slots v.slots) n c.len-last.ensures.value d pos));
     }
 
 pub returns-clause-last : goal.returns-clause-last

@@ -18,5 +18,5 @@ returns-then-new_len-len g c =
     record {
       lender = search rules;
       items = grind (arith, common_steps);
-      spare = (made.0, (made.1.0 ∙ ap (λ k. k - m) long, made.1.1), rw (g.S.Slots.slots_written, c.to_len.ensures.number, made.2, c.all_mut.ensures.value) behind);
+      spare = (made.0, (made.1.0 ∙ ap (λ k. k - m) long, made.1.1), rw (g.S.Slots.slots_written, c.to_len.ensures.number, made.2, c.as_slice_mut.ensures.value) behind);
     }

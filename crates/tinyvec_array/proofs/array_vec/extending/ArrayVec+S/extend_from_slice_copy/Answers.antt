@@ -19,10 +19,10 @@ returns g c =
     let whole = sym (append_assoc (take n slots) copies rest) in
     record {
       lender = search rules;
-      items = rw (g.S.Slots.slots_written, c.to_len.ensures.number, c.all_mut.ensures.value)
+      items = rw (g.S.Slots.slots_written, c.to_len.ensures.number, c.as_slice_mut.ensures.value)
           (ap (take (n + length xs)) whole ∙ take_at (take n slots ++ copies) rest (n + length xs) end
           ∙ ap (λ l. l ++ copies) (list_to k slots n long) ∙ ap (λ l. take k slots ++ l) copied);
-      spare = rw (g.S.Slots.slots_written, c.to_len.ensures.number, c.all_mut.ensures.value)
+      spare = rw (g.S.Slots.slots_written, c.to_len.ensures.number, c.as_slice_mut.ensures.value)
           (ap (drop (n + length xs)) whole ∙ drop_at (take n slots ++ copies) rest (n + length xs) end
           ∙ ap (λ m. drop m (drop n slots)) count ∙ ap (drop (length xs)) (spare_from k slots n long));
     }

@@ -13,7 +13,7 @@ returns-in_err-clone_within-clause-clones g c =
     let last = g.R.RangeBounds.end_bound c.args.range in
     let range = removed_in (view_of g.S.Slots v) first last len.result part.result.start part.result.end len.ensures.value part.ensures.start part.ensures.end c.requires.in_list in
     let written = g.S.Slots.slots_written v.slots c.clone_within.new.slots in
-    let h = rw (c.all_mut.ensures.value, range.0, ← written) at c.in_err-clone_within.ensures.refused in
+    let h = rw (c.as_slice_mut.ensures.value, range.0, ← written) at c.in_err-clone_within.ensures.refused in
     clones_not_added g.S.Item.Clone (view_of g.S.Slots v) len.result len.ensures.value (removed (items_of g.S.Slots v) first last) _ c.requires.room _ (search rules) h.0 h.1 h.2
 
 pub returns : goal.returns
@@ -25,8 +25,8 @@ returns g c =
     let last = g.R.RangeBounds.end_bound c.args.range in
     let range = removed_in (view_of g.S.Slots v) first last len.result part.result.start part.result.end len.ensures.value part.ensures.start part.ensures.end c.requires.in_list in
     let written = g.S.Slots.slots_written v.slots c.clone_within.new.slots in
-    let made = rw (c.all_mut.ensures.value, range.0, ← written) at c.in_ok-clone_within.ensures.ok in
+    let made = rw (c.as_slice_mut.ensures.value, range.0, ← written) at c.in_ok-clone_within.ensures.ok in
     record {
-      lender = record { same_reference = search rules; slot_count = ap length written ∙ c.clone_within.auto.slots ∙ ap length c.all_mut.ensures.value };
+      lender = record { same_reference = search rules; slot_count = ap length written ∙ c.clone_within.auto.slots ∙ ap length c.as_slice_mut.ensures.value };
       clones = rw (c.to_len.ensures.number, range.1) (clones_added g.S.Item.Clone (view_of g.S.Slots v) len.result len.ensures.value (removed (items_of g.S.Slots v) first last) _ c.requires.room _ refl made);
     }

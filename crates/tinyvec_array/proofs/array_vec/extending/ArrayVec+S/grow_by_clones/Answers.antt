@@ -24,7 +24,7 @@ pub returns-in_err-fill_clones-clause-grown : goal.returns-in_err-fill_clones-cl
 returns-in_err-fill_clones-clause-grown g c =
     let v = c.args.self.now in
     let h = c.in_err-fill_clones.ensures.refused in
-    let made = rw (c.all_mut.ensures.value, ← g.S.Slots.slots_written v.slots c.fill_clones.new.to, same g c) at h.3 in
+    let made = rw (c.as_slice_mut.ensures.value, ← g.S.Slots.slots_written v.slots c.fill_clones.new.to, same g c) at h.3 in
     let few = rw c.len-len.ensures.value at h.1 in
     record {
       items = search rules;
@@ -44,12 +44,12 @@ returns g c =
     let long = c.len-len.ensures.value in
     let n = c.args.n in
     let sum : len + (n - len) ≡ n = omega arith in
-    let made = rw (c.all_mut.ensures.value, ← g.S.Slots.slots_written v.slots c.fill_clones.new.to) at c.in_ok-fill_clones.ensures.ok in
+    let made = rw (c.as_slice_mut.ensures.value, ← g.S.Slots.slots_written v.slots c.fill_clones.new.to) at c.in_ok-fill_clones.ensures.ok in
     let written = rw sum at (clones_written (within (g.S.Slots.count v.len) slots len long) made) in
     let list = list_to (g.S.Slots.count v.len) slots len long in
     let all : take n (take (g.S.Slots.count v.len) slots) ≡ take (g.S.Slots.count v.len) slots = take_all n (take (g.S.Slots.count v.len) slots) (omega (arith, long, c.requires.longer)) in
     record {
-      lender = record { same_reference = search rules; slot_count = ap length (g.S.Slots.slots_written v.slots c.fill_clones.new.to) ∙ c.fill_clones.auto.to ∙ ap length c.all_mut.ensures.value };
+      lender = record { same_reference = search rules; slot_count = ap length (g.S.Slots.slots_written v.slots c.fill_clones.new.to) ∙ c.fill_clones.auto.to ∙ ap length c.as_slice_mut.ensures.value };
       grown = record {
         items = rw (c.to_len.ensures.number, all, ← long, ← list) (written.0);
         len = rw c.to_len.ensures.number (written.1 ∙ ap (λ l. length l + (n - len)) list ∙ ap (λ k. k + (n - len)) (sym long) ∙ sum);

@@ -1,4 +1,4 @@
--- `all_mut` lends the slots that a `&mut [T]` behind another `&mut` points at. The borrow checker does not follow
+-- `as_slice_mut` lends the slots that a `&mut [T]` behind another `&mut` points at. The borrow checker does not follow
 -- a slice through two references, so this proof walks the code by hand.
 use mathlib.Core.Path.{◌≡◌, refl, sym}
 use mathlib.Core.List.{List, [], ◌∷◌}
@@ -40,10 +40,10 @@ use denote.Triple.Entry.{on_entry}
 use denote.Triple.Spec.{Meets, triple_of}
 use denote.Triple.Table.{entered}
 use denote.Triple.Walked.{says, Stays, stay_dropped, walk_of, ends_at, walked, Goes-spent_ref, walk_Meets}
-use Rattle.tinyvec_array.specs.contracts.storage.RefMutSliceSlots.all_mut as F
-use Rattle.tinyvec_array.specs.contracts.storage.RefMutSliceSlots.all_mut.Key.{name as #self}
-use Rattle.tinyvec_array.proofs.storage.RefMutSliceSlots.all_mut.Statement.{statement}
-use Rattle.tinyvec_array.proofs.storage.RefMutSliceSlots.all_mut.Code as code
+use Rattle.tinyvec_array.specs.contracts.storage.RefMutSliceSlots.as_slice_mut as F
+use Rattle.tinyvec_array.specs.contracts.storage.RefMutSliceSlots.as_slice_mut.Key.{name as #self}
+use Rattle.tinyvec_array.proofs.storage.RefMutSliceSlots.as_slice_mut.Statement.{statement}
+use Rattle.tinyvec_array.proofs.storage.RefMutSliceSlots.as_slice_mut.Code as code
 
 module _ (X : RattleType) (d : Dict) where
   abbrev T : RattleType
@@ -127,9 +127,9 @@ module _ (X : RattleType) (d : Dict) {M : Type 1} {𝓤 : Ura M} (𝓛 : Logic �
       (walked 𝓛 (ended X d) (stayed X d) clauses (WpFn 𝓤 H 𝓣.C 𝓣.Λ (function X d)) (λ κs. (mut_vals, tt)) (λ κs. (mut_Tells (named 0) κs.0 (MutSlice (named 1) κs.1.0 R), tt))
       (λ κs qs bounds a g _. via 𝓤 _ (fst∗ 𝓤 _ ((clauses κs a).requires g)) (walk 𝓣 κs.0 κs.1.0 κs.1.1.0 qs.0 qs.1.0 qs.1.1.0 bounds a.0)))
 
-pub all_mut_spec : {M : Type 1} → statement M
+pub as_slice_mut_spec : {M : Type 1} → statement M
 unfolding tables_of
-all_mut_spec 𝓤 𝓛 𝓜 𝓡 wired X LX d met =
+as_slice_mut_spec 𝓤 𝓛 𝓜 𝓡 wired X LX d met =
     let 𝓣 : Tables 𝓤 𝓛.H = tables_of 𝓤 𝓛.H 𝓜 (tables 𝓤 𝓛.H 𝓜 𝓡 𝓡.env) in
     entered 𝓤 𝓛.H (triple_of 𝓛 (ended X d).signature (F.spec X d 𝓛 𝓜.mem 𝓡.returns)) 𝓣.C 𝓣.Λ (#self (args X d)) (function X d) (code.unfolded 𝓤 𝓛.H 𝓜 𝓡 wired (X, tt) d)
     (meets X d 𝓛 𝓜.mem 𝓡.returns 𝓣)
