@@ -12,7 +12,7 @@ ghost use Rattle.tinyvec_slots.specs.Texts.{list_in_radix};
 ghost use Rattle.std.specs.Hash as fed;
 
 use crate::parts::slot_of;
-use crate::{ArrayVec, Slots, TakesClones};
+use crate::{ArrayVec, Slots};
 use std::cmp::Ordering;
 use std::fmt::HasDigits;
 use std::hash::{Hash, Hasher};
@@ -212,7 +212,7 @@ where
 }
 
 /// `write_str` appends the whole text. If it does not fit, it fails and changes nothing.
-impl<S: TakesClones<Item = u8>> fmt::Write for ArrayVec<S> {
+impl<S: Slots<Item = u8>> fmt::Write for ArrayVec<S> {
     ghost write_str_gives = { λ v bytes w. (items_of S.Slots w ≡ items_of S.Slots v ++ bytes)
         × (spare_of S.Slots w ≡ drop (length bytes) (spare_of S.Slots v))
         × (name_of S.Slots w ≡ name_of S.Slots v) };
@@ -231,10 +231,8 @@ impl<S: TakesClones<Item = u8>> fmt::Write for ArrayVec<S> {
         if bytes.len() > self.capacity() - self.len() {
             return Err(fmt::Error);
         }
-        match self.extend_from_slice(bytes) {
-            Ok(()) => Ok(()),
-            Err(_) => Err(fmt::Error),
-        }
+        self.extend_from_slice_copy(bytes);
+        Ok(())
     }
 }
 
