@@ -33,6 +33,13 @@ pub enum TinyVec<A: Drop, T: Drop = <A as Slots>::Item, L: Drop = <A as Slots>::
 
 // What asks for no default, so that it goes for an item that holds such a vector too.
 impl<A: Slots> TinyVec<A> {
+    /// The list of an `ArrayVec`, inline, with its spare slots.
+    pub fn from_array_vec(alloc: Global, vec: ArrayVec<A>) -> Self
+        ensures { HoldsInline (items_of A.Slots vec) (spare_of A.Slots vec) (tiny_view_of A.Slots result) }
+    {
+        TinyVec::Inline(vec, alloc)
+    }
+
     /// Whether the list has no items.
     pub fn is_empty(&self) -> bool
         ensures { result ≡ (tiny_len_of A.Slots self.now == 0) }
@@ -221,13 +228,6 @@ impl<A: Array> TinyVec<A> {
         ensures { HoldsInline (A.Slots.slots array) [] (tiny_view_of A.Slots result) }
     {
         TinyVec::Inline(ArrayVec::from_array(array), alloc)
-    }
-
-    /// The list of an `ArrayVec`, inline, with its spare slots.
-    pub fn from_array_vec(alloc: Global, vec: ArrayVec<A>) -> Self
-        ensures { HoldsInline (items_of A.Slots vec) (spare_of A.Slots vec) (tiny_view_of A.Slots result) }
-    {
-        TinyVec::Inline(vec, alloc)
     }
 
     /// The list of a `Vec`, on the heap, with its allocation. Allocates nothing and moves no item.

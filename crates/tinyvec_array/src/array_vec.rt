@@ -164,6 +164,17 @@ impl<S: Slots> ArrayVec<S> {
         self.slots.as_slice_mut()
     }
 
+    ghost use Rattle.tinyvec_array.specs.Lends.{lends_array_of};
+
+    /// The array, or the lent slice, spare slots too, for writing. The owner of a lent slice learns more from
+    /// `as_mut_slots`.
+    pub fn as_mut_inner(&mut self) -> &mut S
+        ensures* writes_back { sem 𝓛 (lends_array_of S.row S.Len.row self.entry result) }
+        ensures slots { S.Slots.slots result.now ≡ slots_of S.Slots self.old }
+    {
+        &mut self.slots
+    }
+
     ghost use Rattle.tinyvec_array.specs.IterMut.{lends_iter};
     ghost use Rattle.tinyvec_array.specs.Lends.{with_items_of};
 

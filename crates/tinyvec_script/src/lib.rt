@@ -21,5 +21,5 @@ mod vectors;
 pub use call::{Answer, Call, End};
 pub use command::Name;
 pub use driving::{Driven, drive_array_splice, drive_tiny_splice};
-pub use runs::{run_array, run_tiny};
+pub use runs::{run_array, run_array as run_slice, run_tiny};
 pub use script::{RunError, run};

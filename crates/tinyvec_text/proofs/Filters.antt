@@ -4,7 +4,8 @@ use Rattle.std.specs.Fn.{Called}
 use Rattle.std.specs.Str.{all_scalars, encode_utf8_all}
 use Rattle.std.specs.Char.{IsScalar}
 use Rattle.std.specs.String.{RetainsChars}
-use Rattle.std.specs.List.Retain.{IsFiltered}
+use Rattle.tinyvec_slots.specs.Filters.{IsFilteredTo}
+use Rattle.tinyvec_text.specs.InlineText.{RetainsCharsTo}
 use Rattle.std.proofs.lemmas.Grind.{drop_more_same}
 use Rattle.tinyvec_slots.proofs.Lists.{same_at}
 use Rattle.std.proofs.lemmas.List.{take_more, drop-drop, drop-set-lt, drop_all, get_or-drop}
@@ -44,24 +45,24 @@ module _ {F : Type 0} (g : Mut F (ℕ × Unit {0}) Bool) (first : F) (xs : List 
   -- Of the first `read` bytes of xs, the kept characters are the first `kept` bytes of bs: whatever is kept of the others, both
   -- together are what is kept of xs.
   pub record Retaining (f : F) (bs : List ℕ) (read kept : ℕ) : Type 0 where
-    pub so_far : (all ks : List ℕ) → all_scalars all ≡ true → encode_utf8_all all ≡ drop read xs → IsFiltered RunsWord f all ks
-        → RetainsChars g first xs (take kept bs ++ encode_utf8_all ks)
+    pub so_far : (all ks : List ℕ) (last : F) → all_scalars all ≡ true → encode_utf8_all all ≡ drop read xs
+        → IsFilteredTo RunsWord f all ks last → RetainsCharsTo g first xs (take kept bs ++ encode_utf8_all ks) last
     pub front : IsUtf8 (take kept bs)
     pub same : drop read bs ≡ drop read xs
     pub rest : IsUtf8 (drop read bs)
 
   pub retain_none : IsUtf8 xs → Retaining first xs 0 0
   retain_none u = record {
-    so_far = λ all ks are spell chosen. record { all = all; kept = ks; are = are; spell = spell; chosen = chosen; stay = refl };
+    so_far = λ all ks last are spell chosen. record { all = all; kept = ks; are = are; spell = spell; chosen = chosen; stay = refl };
     front = IsUtf8-nil;
     same = refl;
     rest = u;
   }
 
-  chosen_more : (f p : F) (c : ℕ) (b : Bool) (all ks : List ℕ) → RunsWord f c b p → IsFiltered RunsWord p all ks
-      → IsFiltered RunsWord f (c ∷ all) (cond b (c ∷ ks) ks)
-  chosen_more f p c true all ks r (bs, q, len, turn, is) = (true ∷ bs, q, ap suc len, (p, r, turn), ap (λ l. c ∷ l) is)
-  chosen_more f p c false all ks r (bs, q, len, turn, is) = (false ∷ bs, q, ap suc len, (p, r, turn), is)
+  chosen_more : (f p last : F) (c : ℕ) (b : Bool) (all ks : List ℕ) → RunsWord f c b p → IsFilteredTo RunsWord p all ks last
+      → IsFilteredTo RunsWord f (c ∷ all) (cond b (c ∷ ks) ks) last
+  chosen_more f p last c true all ks r (bs, len, turn, is) = (true ∷ bs, ap suc len, (p, r, turn), ap (λ l. c ∷ l) is)
+  chosen_more f p last c false all ks r (bs, len, turn, is) = (false ∷ bs, ap suc len, (p, r, turn), is)
 
   spelled : (b : Bool) (c : ℕ) (ks : List ℕ) → cond b (encode_utf8 c) [] ++ encode_utf8_all ks ≡ encode_utf8_all (cond b (c ∷ ks) ks)
   spelled true c ks = refl
@@ -77,19 +78,23 @@ module _ {F : Type 0} (g : Mut F (ℕ × Unit {0}) Bool) (first : F) (xs : List 
   retain_more f p bs ds read kept to n c b s r own after scalar put left =
       let same : drop (read + n) ds ≡ drop (read + n) xs = left ∙ sym (drop-drop n read bs) ∙ ap (drop n) s.same ∙ drop-drop n read xs in
       record {
-        so_far = λ all ks are spell chosen.
+        so_far = λ all ks last are spell chosen.
             let whole : encode_utf8_all (c ∷ all) ≡ drop read xs =
             (λ i. sym own i ++ (spell ∙ sym (drop-drop n read xs) ∙ ap (drop n) (sym s.same)) i) ∙ take-append-drop n (drop read bs) ∙ s.same in
             let joined : take kept bs ++ encode_utf8_all (cond b (c ∷ ks) ks) ≡ take to ds ++ encode_utf8_all ks =
             ap (λ l. take kept bs ++ l) (sym (spelled b c ks)) ∙ sym (append_assoc (take kept bs) (cond b (encode_utf8 c) []) (encode_utf8_all ks))
             ∙ ap (λ l. l ++ encode_utf8_all ks) (sym put) in
-            subst (RetainsChars g first xs) joined
-            (s.so_far (c ∷ all) (cond b (c ∷ ks) ks) (ap (λ k. k && all_scalars all) scalar ∙ are) whole (chosen_more f p c b all ks r chosen));
+            subst (λ out. RetainsCharsTo g first xs out last) joined
+            (s.so_far (c ∷ all) (cond b (c ∷ ks) ks) last (ap (λ k. k && all_scalars all) scalar ∙ are) whole (chosen_more f p last c b all ks r chosen));
         front = subst IsUtf8 (sym put) (IsUtf8-append (take kept bs) (cond b (encode_utf8 c) []) s.front (utf8_kept b c scalar));
         same = same;
         rest = subst IsUtf8 (sym left) after;
       }
 
-  pub retain_all : (f : F) (bs : List ℕ) (read kept : ℕ) → length xs ≤ read → Retaining f bs read kept → RetainsChars g first xs (take kept bs)
+  pub retain_all : (f : F) (bs : List ℕ) (read kept : ℕ) → length xs ≤ read → Retaining f bs read kept
+      → RetainsCharsTo g first xs (take kept bs) f
   retain_all f bs read kept all s =
-      subst (RetainsChars g first xs) (append-nil (take kept bs)) (s.so_far [] [] refl (sym (drop_all read xs all)) ([], f, refl, refl, refl))
+      subst (λ out. RetainsCharsTo g first xs out f) (append-nil (take kept bs)) (s.so_far [] [] f refl (sym (drop_all read xs all)) ([], refl, refl, refl))
+
+  pub retains_chars : (out : List ℕ) (last : F) → RetainsCharsTo g first xs out last → RetainsChars g first xs out
+  retains_chars out last r = record { all = r.all; kept = r.kept; are = r.are; spell = r.spell; chosen = (r.chosen.0, last, r.chosen.1, r.chosen.2, r.chosen.3); stay = r.stay }

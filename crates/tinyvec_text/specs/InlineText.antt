@@ -1,6 +1,10 @@
 -- What a contract sees of an `InlineText`: its bytes, and where they are.
-use Rattle.std.specs.Prelude.{◌≡◌, ℕ, ◌+◌, ◌*◌, ◌<◌, ◌≤◌, ◌↔◌, ◌&&◌, nat_le, if◌then◌else◌, max, List, [], ◌∷◌, ◌++◌, length, take, drop, All, Bool, false, IsTrue, Result, OnOk, chars, encode_utf8, encode_utf8_all, IsUtf8}
+use Rattle.std.specs.Prelude.{◌≡◌, ℕ, ◌+◌, ◌*◌, ◌<◌, ◌≤◌, ◌↔◌, ◌&&◌, nat_le, if◌then◌else◌, max, List, [], ◌∷◌, ◌++◌, length, take, drop, All, Bool, true, false, IsTrue, Result, OnOk, chars, encode_utf8, encode_utf8_all, IsUtf8}
 use Rattle.std.specs.Char.{IsScalar}
+use Rattle.std.specs.Fn.{Called}
+use Rattle.std.specs.Str.{all_scalars}
+use Rattle.tinyvec_slots.specs.Filters.{IsFilteredTo}
+use denote.Param.Members.{Mut}
 use Rattle.tinyvec_array.specs.declared.bound.UpTo.{UpTo}
 use Rattle.tinyvec.specs.View.{Place, in_array, on_heap, lies_inline, capacity_in, TinyView, PlaceRule}
 use Rattle.tinyvec.specs.Room.{KeepsRoom, GrowsInSteps, MakesRoom}
@@ -123,6 +127,20 @@ pub record IsTextTail (slots i : ℕ) (old t : Text) : Type 0 where
   pub place : lies_inline t.place ≡ lies_inline old.place
   pub capacity : lies_inline t.place ≡ false → capacity_in slots t.place ≡ text_len t
   pub fits : text_len t ≤ capacity_in slots t.place
+
+-- a clone of the text: all its bytes, in the same kind of place; on the heap its room is its length
+abbrev pub IsTextClone : (slots : ℕ) → Text → Text → Type 0
+IsTextClone slots = IsTextTail slots 0
+
+-- out has the characters of bs at which f returned `true`. Each was asked about once, in turn, and the last call left `last`:
+-- `RetainsChars`, with the last state.
+pub record RetainsCharsTo {F : Type 0} (g : Mut F (ℕ × Unit {0}) Bool) (f : F) (bs out : List ℕ) (last : F) : Type 0 where
+  pub all : List ℕ
+  pub kept : List ℕ
+  pub are : all_scalars all ≡ true
+  pub spell : encode_utf8_all all ≡ bs
+  pub chosen : IsFilteredTo (λ p c b q. Called g p (c, tt) b q) f all kept last
+  pub stay : out ≡ encode_utf8_all kept
 
 -- the bytes begin with those of c, which are n, and UTF-8 follows
 pub record IsFirstChar (bytes : List ℕ) (c n : ℕ) : Type 0 where

@@ -2,7 +2,7 @@
 ghost use Rattle.std.specs.Prelude.{◌≡◌, ◌<◌, ◌≤◌, slice_index_or, List, length, true, false, ◌+◌, ◌++◌, Some, IfOk, IfErr, IsOk, OnErr, ⊤};
 ghost use Rattle.std.specs.Borrow.{sem};
 ghost use Rattle.tinyvec.specs.TinyVec.{tiny_items_of, tiny_len_of, tiny_capacity, is_inline, tiny_view_of};
-ghost use Rattle.tinyvec.specs.View.{IsNew};
+ghost use Rattle.tinyvec.specs.View.{IsNew, TinyView, view_capacity};
 ghost use Rattle.std.specs.Iterator.{IsFinite, HoldsAlong, DrainsIf, YieldsThen, ExtendsWithItems};
 ghost use Rattle.tinyvec_slots.specs.Filling.{Iterates, IteratesMut, IntoIterYields};
 ghost use Rattle.tinyvec_array.specs.IntoIter.{IteratesOver};
@@ -162,9 +162,11 @@ impl<A: Array> FromIterator<A::Item> for TinyVec<A> {
             × DrainsIf I.IntoIter.next_gives ⊤ it xs × Collects A.Item.is_default A.CAPACITY xs
             (tiny_view_of A.Slots v)) }
 
-        // It fails only at an item that neither the array nor the room on the heap has a place for.
+        // It fails only at an item for which the vector made of those before it has no room, in the array or on the heap.
         ensures full { OnErr result ((it : I.IntoIter) × (xs : List A.Item) × (x : A.Item) × (rest : I.IntoIter)
-            × I.into_iter_gives iter it × YieldsThen I.IntoIter.next_gives it xs (Some x) rest × (A.CAPACITY ≤ length xs)) }
+            × (made : TinyView A.Item) × I.into_iter_gives iter it × YieldsThen I.IntoIter.next_gives it xs (Some x) rest
+            × (A.CAPACITY ≤ length xs) × Collects A.Item.is_default A.CAPACITY xs made
+            × (length xs ≡ view_capacity A.CAPACITY made)) }
 
         // If known items fit the array, it allocates nothing.
         ensures known { (xs : List A.Item) → IntoIterYields I.into_iter_gives I.IntoIter.next_gives iter xs

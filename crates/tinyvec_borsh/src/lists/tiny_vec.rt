@@ -14,7 +14,7 @@ use crate::{BorshDeserialize, BorshError, BorshForm, BorshSerialize};
 use std::alloc::Global;
 use std::io::{Read, Write};
 use std::mem;
-use tinyvec::{Array, TinyVec};
+use tinyvec::{Array, Slots, TinyVec};
 use tinyvec_io::Counted;
 
 /// The most bytes that defaults take before the items are read into them, each with the tag of an `Option`.
@@ -36,7 +36,7 @@ fn items_in_bytes_ahead(size: usize) -> usize
     BYTES_AHEAD / size.clamp(1, BYTES_AHEAD)
 }
 
-impl<A: Array> BorshForm for TinyVec<A>
+impl<A: Slots> BorshForm for TinyVec<A>
 where
     A::Item: BorshForm,
 {
@@ -54,12 +54,13 @@ where
     ghost spelled = { list_spelled A.Item.Spells A.Item.Fits A.Item.spelled (2 ^ 64 - 1) };
 }
 
-impl<A: Array> BorshSerialize for TinyVec<A>
+impl<A: Slots> BorshSerialize for TinyVec<A>
 where
     A::Item: BorshSerialize,
 {
     fn serialize<W: Write>(&self, writer: &mut Counted<W>) -> Result<(), BorshError> {
-        write_list(self.len(), self.as_slice(), writer)
+        let items = self.as_slice();
+        write_list(items.len(), items, writer)
     }
 }
 
@@ -87,6 +88,7 @@ where
         ensures spare { IfOk result (λ v. IsInline v
             → AreDefaults A.Item.is_default (A.CAPACITY - tiny_len_of A.Slots v) (tiny_spare_of A.Slots v)) }
         ensures capacity { IfOk result (λ v. tiny_capacity A.CAPACITY v ≤ max A.CAPACITY (2 * tiny_len_of A.Slots v)) }
+        ensures fits { IfOk result (λ v. tiny_len_of A.Slots v ≤ tiny_capacity A.CAPACITY v) }
     {
         let count = u64::deserialize_reader(alloc, reader)?;
         let ahead = count.min(items_ahead::<A::Item>() as u64) as usize;

@@ -1,7 +1,7 @@
 //! Keeping some of the characters.
 ghost use Rattle.std.specs.Prelude.{◌≡◌, ◌+◌, ◌≤◌, ◌++◌, length, take, drop, IsUtf8};
 ghost use Rattle.std.specs.String.{RetainsChars};
-ghost use Rattle.tinyvec_text.specs.InlineText.{TextStaysInPlace};
+ghost use Rattle.tinyvec_text.specs.InlineText.{RetainsCharsTo, TextStaysInPlace};
 
 use super::InlineText;
 use super::edits::first_char;
@@ -9,21 +9,22 @@ use super::edits::first_char;
 impl<const N: usize> InlineText<N> {
     /// Calls `f` on each character in turn, and keeps those for which it returns `true`. Does not allocate, and the text
     /// stays in its place.
-    pub fn retain<F: FnMut(char) -> bool>(&mut self, f: F)
+    pub fn retain<F: FnMut(char) -> bool>(&mut self, mut f: F)
         requires { F.IsAlwaysCallable f }
         ensures filtered { RetainsChars F.FnMut f self.old.bytes self.new.bytes }
         ensures frame { TextStaysInPlace N self.old self.new }
     {
-        let kept = move_kept_to_front(self.list.as_mut_slice(), f);
+        let kept = move_kept_to_front(self.list.as_mut_slice(), &mut f);
         self.list.truncate(kept);
     }
 }
 
 // Moves the kept characters to the front, and returns how many bytes they take.
-fn move_kept_to_front<F: FnMut(char) -> bool>(bytes: &mut [u8], mut keep: F) -> usize
+fn move_kept_to_front<F: FnMut(char) -> bool>(bytes: &mut [u8], keep: &mut F) -> usize
     requires utf8 { IsUtf8 bytes.old }
-    requires callable { F.IsAlwaysCallable keep }
-    ensures filtered { RetainsChars F.FnMut keep bytes.old (take result bytes.new) }
+    requires callable { F.IsAlwaysCallable keep.old }
+    ensures filtered { RetainsChars F.FnMut keep.old bytes.old (take result bytes.new) }
+    ensures asked { RetainsCharsTo F.FnMut keep.old bytes.old (take result bytes.new) keep.new }
     ensures bound { result ≤ length bytes.old }
     ensures utf8 { IsUtf8 (take result bytes.new) }
 {

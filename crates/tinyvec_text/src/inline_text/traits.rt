@@ -1,8 +1,8 @@
 //! Empty texts, clones, comparisons, hashes, printing and writing.
-ghost use Rattle.std.specs.Prelude.{◌≡◌, [], false, IsTrue, IsOk, IfOk, MatchResult, Some, nat_eq, refl, ◌+◌, ◌++◌, length, OnOk, chars};
+ghost use Rattle.std.specs.Prelude.{◌≡◌, ◌⊎◌, [], false, IsTrue, IsOk, IfOk, MatchResult, Some, nat_eq, refl, ◌+◌, ◌++◌, length, OnOk, chars};
 ghost use Rattle.tinyvec.specs.View.{lies_inline, capacity_in};
 ghost use Rattle.tinyvec.specs.Room.{MakesRoom};
-ghost use Rattle.tinyvec_text.specs.InlineText.{text_chars, text_len, text_view};
+ghost use Rattle.tinyvec_text.specs.InlineText.{IsTextClone, text_chars, text_len, text_view};
 ghost use Rattle.std.specs.Ordering.{nat_cmp};
 ghost use Rattle.std.specs.Cmp.{on_equiv, on_total, on_po, on_per, partial_equiv_from_equiv};
 ghost use Rattle.std.specs.Cmp.Lexicographic.{pointwise, slice_cmp, nat_list_eq_equiv, nat_list_cmp_total, texts_po, texts_ties};
@@ -42,13 +42,15 @@ impl<const N: usize> Emptied for InlineText<N> {
 }
 
 impl<const N: usize> Clone for InlineText<N> {
-    ghost is_clone = { λ t u. u.bytes ≡ t.bytes };
+    ghost is_clone = { IsTextClone N };
 
-    ghost is_infallible = { λ t. IsTrue (lies_inline t.place) };
+    // The array is copied, and an empty text on the heap allocates nothing.
+    ghost is_infallible = { λ t. IsTrue (lies_inline t.place) ⊎ (text_len t ≡ 0) };
 
     /// The same text, inline exactly if this one is. A text on the heap is copied into an allocation of its length.
     fn clone(&self) -> Result<Self, AllocError>
-        ensures cases { MatchResult result (λ t. t.bytes ≡ self.now.bytes) (λ _. ¬ (IsTrue (lies_inline self.now.place))) }
+        ensures cases { MatchResult result (IsTextClone N self.now)
+            (λ _. ¬ (IsTrue (lies_inline self.now.place) ⊎ (text_len self.now ≡ 0))) }
         ensures place { IfOk result (λ t. lies_inline t.place ≡ lies_inline self.now.place) }
         ensures capacity { IfOk result (λ t. lies_inline t.place ≡ false → capacity_in N t.place ≡ text_len self.now) }
         ensures succeeds_empty { lies_inline self.now.place ≡ false → text_len self.now ≡ 0 → IsOk result }

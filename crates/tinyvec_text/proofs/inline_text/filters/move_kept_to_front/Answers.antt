@@ -1,7 +1,7 @@
 use Rattle.std.proofs.Common.{◌≡◌, ◌+◌, ◌-◌, ◌++◌, true, false, refl, sym, ap, subst, ◌∙◌, IsUtf8, encode_utf8, length, take, drop, take_all, le_of_eq, length-drop, append-nil, arith, of_calls}
 use Rattle.std.proofs.lemmas.List.{drop-drop}
 use Rattle.std.proofs.lemmas.Fn.{called}
-use Rattle.tinyvec_text.proofs.Filters.{retain_none, retain_more, retain_all}
+use Rattle.tinyvec_text.proofs.Filters.{retain_none, retain_more, retain_all, retains_chars}
 use Rattle.tinyvec_text.proofs.inline_text.filters.move_kept_to_front.Goals as goal
 
 pub loop-read-init : goal.loop-read-init
@@ -10,7 +10,7 @@ loop-read-init g c = record {
   order = omega arith;
   within = omega arith;
   callable = c.requires.callable;
-  retained = retain_none g.F.FnMut c.args.keep c.args.bytes.now c.requires.utf8;
+  retained = retain_none g.F.FnMut c.args.keep.now c.args.bytes.now c.requires.utf8;
 }
 
 pub first_char-c-requires-clause-utf8 : goal.first_char-c-requires-clause-utf8
@@ -39,7 +39,7 @@ loop-read-preserved g c =
         order = omega (arith, order, kept);
         within = omega (arith, fits, size, len, within);
         callable = search of_calls;
-        retained = retain_more g.F.FnMut c.args.keep c.args.bytes.now at.keep _ at.bytes c.if-keep.bytes at.read at.kept c.if-keep.kept n x true inv.retained (called g.F.FnMut c.keep.ensures w.if-keep.true) own after seen.scalar
+        retained = retain_more g.F.FnMut c.args.keep.now c.args.bytes.now at.keep _ at.bytes c.if-keep.bytes at.read at.kept c.if-keep.kept n x true inv.retained (called g.F.FnMut c.keep.ensures w.if-keep.true) own after seen.scalar
             ((λ i. take (kept i) (w.bytes-is i)) ∙ w.copy_down.ensures.front ∙ ap (λ l. take at.kept at.bytes ++ l) own) (ap (drop (at.read + n)) w.bytes-is ∙ w.copy_down.ensures.rest);
       }
       | goal.else-keep w ↦ let long = ap length w.bytes-is in let kept = w.kept-is in record {
@@ -47,7 +47,7 @@ loop-read-preserved g c =
         order = omega (arith, order, kept);
         within = omega (arith, fits, size, len, within);
         callable = search of_calls;
-        retained = retain_more g.F.FnMut c.args.keep c.args.bytes.now at.keep _ at.bytes c.if-keep.bytes at.read at.kept c.if-keep.kept n x false inv.retained (called g.F.FnMut c.keep.ensures w.if-keep.false) own after seen.scalar
+        retained = retain_more g.F.FnMut c.args.keep.now c.args.bytes.now at.keep _ at.bytes c.if-keep.bytes at.read at.kept c.if-keep.kept n x false inv.retained (called g.F.FnMut c.keep.ensures w.if-keep.false) own after seen.scalar
             ((λ i. take (kept i) (w.bytes-is i)) ∙ sym (append-nil _)) (ap (drop (at.read + n)) w.bytes-is);
       }
     ]
@@ -60,8 +60,10 @@ returns g c =
     let len = inv.len in
     let order = inv.order in
     let within = inv.within in
+    let asked = retain_all g.F.FnMut c.args.keep.now c.args.bytes.now at.keep at.bytes at.read at.kept (omega (arith, past, len)) inv.retained in
     record {
-      filtered = retain_all g.F.FnMut c.args.keep c.args.bytes.now at.keep at.bytes at.read at.kept (omega (arith, past, len)) inv.retained;
+      filtered = retains_chars g.F.FnMut c.args.keep.now c.args.bytes.now _ _ asked;
+      asked = asked;
       bound = omega (arith, order, within);
       utf8 = inv.retained.front;
     }
