@@ -1,0 +1,132 @@
+#!/usr/bin/env -S python3 -B
+"""Holds what a caller can name to tests/surface.txt, which no change shortens unseen.
+
+usage: scripts/surface.py
+
+The list has a line for each type, call, impl, derived trait, macro, variant, public field and feature of the Rust crate, and for
+each that only these crates have:
+
+    NAME in CRATE             it is here
+    NAME is OTHER in CRATE    it is here, by another name
+    NAME not TEXT             it is not here: a line of docs/DIFFERENCES.md, without its bar, begins with this text, or its last
+                              column names this call
+
+and, for a crate of the toolchain that a library uses, `CRATE of the kit in CRATE`. What `pub use` passes on is there as of the
+crate that passes it on. `tests/docs` names each line that no longer holds, each name that the list lacks, which this adds, and
+a part that has fewer lines than its heading says. Nothing here takes a line away or lowers a heading.
+"""
+import functools
+import re
+
+import crates
+import exports
+import reference
+
+TOP = exports.TOP
+LIST = TOP / "tests/surface.txt"
+NAME = LIST.relative_to(TOP)
+
+LINE = re.compile(r"(?P<name>.+?) (?:(?:is (?P<other>.+) )?in (?P<crate>\w+)|not (?P<why>.+))$")
+KIT = re.compile(r"(?P<name>\w+) of the kit in (?P<crate>\w+)$")
+HEADING = re.compile(r"# (.*): (\d+) names$")
+OWN = "Of these crates alone"
+
+
+def main():
+    lines = LIST.read_text(encoding="utf-8").splitlines()
+    at = next(at for at, it in enumerate(lines) if it.startswith(f"# {OWN}: "))
+    own = sorted({*lines[at + 1 :], *lacking(lines)})
+    count = max(len(own), int(HEADING.match(lines[at])[2]))
+    LIST.write_text("\n".join([*lines[:at], f"# {OWN}: {count} names", *own]) + "\n", encoding="utf-8")
+
+
+def faults():
+    lines = LIST.read_text(encoding="utf-8").splitlines()
+    yield from short_parts(lines)
+    yield from (f"{NAME}: {it}" for it in gone(lines))
+    yield from (f"{NAME}: run tests/docs --write: it lacks {it}" for it in lacking(lines))
+
+
+def short_parts(lines):
+    """Headings that tell of more lines than there are, and of fewer."""
+    parts = "\n".join(lines).split("\n# ")[1:]
+    for heading, *inside in (f"# {it}".splitlines() for it in parts):
+        found, count = HEADING.match(heading), sum(bool(it) for it in inside)
+        if not found or int(found[2]) != count:
+            yield f"{NAME}: {count} lines stand below this heading: {heading}"
+
+
+def gone(lines):
+    """Lines that hold no longer."""
+    known, used, told = here(), of_the_kit(), differences()
+    for line in (it for it in lines if it and not it.startswith("#")):
+        if found := KIT.match(line):
+            if (found["name"], found["crate"]) not in used:
+                yield f"{found['crate']} uses {found['name']} of the kit no longer"
+        elif not (found := LINE.match(line)):
+            yield f"this line says neither where a name is nor why it is not here: {line}"
+        elif found["why"]:
+            if not any(is_told(it, found) for it in told) and found["why"] not in reference.notes():
+                yield f"docs/DIFFERENCES.md no longer says why {found['name']} is not here: {found['why']}"
+        elif (found["crate"], found["other"] or found["name"]) not in known:
+            yield f"{found['other'] or found['name']} is gone from {found['crate']}" + f", by which {found['name']} was here" * bool(found["other"])
+
+
+def lacking(lines):
+    """The lines that are to be added."""
+    found = [LINE.match(it) for it in lines]
+    listed = {(it["crate"], it["other"] or it["name"]) for it in found if it}
+    kit = {(it["name"], it["crate"]) for it in map(KIT.match, lines) if it}
+    yield from (f"{name} in {crate}" for crate, name in sorted(here() - listed))
+    yield from (f"{name} of the kit in {crate}" for name, crate in sorted(of_the_kit() - kit))
+
+
+@functools.cache
+def here():
+    """What a caller can name, each with its crate."""
+    library = reference.Library()
+    found = {(crate.name, f"{name} of {of}") for crate in library.crates for of, name in crate.passed_on}
+    for it in (it for page in library.pages.values() for it in page if not it.is_part):
+        forms = [it.of, *(re.sub(r"\w+$", alias, it.of) for alias in it.also)] if it.of else [None]
+        for of in forms:
+            names = [exports.Export(it.source, it.item, it.name, of, it.trait).key(), *inside(it)]
+            found |= {(it.source.crate, name) for name in names}
+    return found
+
+
+def inside(export):
+    """What a type or a trait has by names of its own, and the traits that it derives."""
+    item, name = export.item, export.name
+    if export.kind in ("struct", "enum"):
+        code = "\n".join(exports.OPAQUE.sub("", it) for it in item.lines)
+        fields = re.findall(r"^    pub (\w+):" if export.kind == "struct" else r"^    (\w+)", code, re.M)
+        unnamed = re.match(r"pub struct \w+(?:<.*>)?\((.*)\);", code)
+        fields += [at for at, it in enumerate(unnamed[1].split(", ")) if it.startswith("pub ")] if unnamed else []
+        yield from (f"{name}::{it}" for it in fields)
+        derived = re.findall(r"#\[derive\((.*?)\)\]", " ".join(item.attributes))
+        yield from (f"{name}: {it}" for one in derived for it in re.findall(r"\w+", one))
+    if export.kind == "trait":
+        yield from (f"{name}::{it.name}" for it in item.members() if it.kind in ("fn", "type", "const"))
+
+
+@functools.cache
+def of_the_kit():
+    """The crates of the toolchain that the libraries use, each with its user."""
+    known = crates.read_crates()
+    users = {name: known[name].row.partition(":")[2].split() for name in exports.LIBRARIES}
+    kit = {(it, name) for name, used in users.items() for it in used if it not in known}
+    return {(it, name) for it, name in kit if any(re.search(rf"^use {it}\b".encode(), text, re.M) for text in known[name].sources.values())}
+
+
+def is_told(line, found):
+    """Whether a line of docs/DIFFERENCES.md is the one that tells of a name. A feature is named there."""
+    feature = found["name"].removeprefix("feature ")
+    return line.startswith(found["why"]) and (feature == found["name"] or f"`{feature}`" in line)
+
+
+def differences():
+    return [it.removeprefix("| ") for it in (TOP / "docs/DIFFERENCES.md").read_text(encoding="utf-8").splitlines()]
+
+
+if __name__ == "__main__":
+    main()
