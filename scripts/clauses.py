@@ -1,25 +1,30 @@
 #!/usr/bin/env -S python3 -B
-"""Writes tests/clauses.txt, the lock: each public call with the names of its clauses, and each function with its edits.
+"""Writes tests/clauses.txt, the lock: what each public call states, and each function with its edits.
 
 usage: scripts/clauses.py
 
-A clause that cites a relation has the fields of that too, as proofs cite them: `room.place`. The fields of a clause without a
-name stand alone. An impl and a trait have the names of their methods' clauses and of their ghost items. What each `ArrayVec` has
-stands there once more as of a `SliceVec`.
+A line `clauses CALL: SUM NAMES` has the names of the call's clauses and a sum of what they state. A clause that cites a relation
+has the fields of that too, as proofs cite them: `room.place` is in `room(place)`. The fields of a clause without a name stand
+alone. An impl and a trait have the names of their methods' clauses and of their ghost items. What each `ArrayVec` states, and a
+`SliceVec` as well, is in a line of both: `clauses ArrayVec::pop, of SliceVec: ..`. The sum is of the clauses and ghost items, and
+of the definitions in `specs/` that these cite, and those that those cite, without comments and white space; std's words count by
+their names.
 
-`tests/docs` compares the lock with the sources. It names what the lock lacks, which this writes. It also names each clause that
-the sources lack, unless a line of the first part of CHANGELOG.md has it and its call in backticks (of a call that is gone, the
-call alone), and each edit that is gone while its function is there. This keeps the names of both: where an edit is replaced, its
-name is removed by hand.
+`tests/docs` compares the lock with the sources. It names what the lock lacks and each sum that differs, which this writes, so that
+the list's diff has each call that states something else. It also names each clause that the sources lack, unless a line of the
+first part of CHANGELOG.md has it and its call in backticks (of a call that is gone, the call alone), and each edit that is gone
+while its function is there. This keeps the names of both: where an edit is replaced, its name is removed by hand.
 """
 import copy
 import functools
+import hashlib
 import re
 import sys
 
 import contracts
 import exports
 import reference
+import sources
 
 TOP = exports.TOP
 LOCK = TOP / "tests/clauses.txt"
@@ -28,35 +33,36 @@ EDITS = TOP / "tests/mutations"
 sys.path.insert(0, str(TOP / "tests"))
 from planting import edits, functions
 
+SUM = re.compile(r"([0-9a-f]{8})(?: |$)")
 CLAUSE = re.compile(r"ensures\*?(?: (\w+))? \{(.*)\}", re.S)
 GHOST = re.compile(r"ghost (\w+)")
 WORD = re.compile(r"(?<![\w.'-])[A-Za-z][\w'-]*")
 RECORD = re.compile(r"^( *)(?:pub )?record ([\w'-]+)\b[^=]*?\bwhere\n((?:\1 +.*\n|\n)*)", re.M)
 FIELD = re.compile(r"^ *pub ([\w'-]+) : (.*(?:\n *[→×(].*)*)", re.M)
+# The forms of a type that have lines of their own, and what stands between a call and its form in a line of both.
+FORMS = {"SliceVec": "ArrayVec", "SliceVecDrain": "ArrayVecDrain"}
+ALIAS = ", of "
 ABBREVIATED = re.compile(r"^( *)abbrev pub ([\w'-]+) :.*\n((?:\1(?: +|\2\b).*\n)*)", re.M)
 
 
 def main():
-    LOCK.write_text(written(merged()), encoding="utf-8")
+    names, sums = read()
+    current, stated = found()
+    for line, its in kept(names, current).items():
+        current[line] = sorted({*current.get(line, ()), *its})
+    LOCK.write_text(written(current, {**sums, **stated}), encoding="utf-8")
 
 
 def faults():
-    locked, current = read(), found()
+    (locked, sums), (current, stated) = read(), found()
     name = LOCK.relative_to(TOP)
-    for line in current:
-        lacking = [it for it in current[line] if it not in locked.get(line, ())]
-        yield from [f"{name}: run tests/docs --write: {line} lacks {', '.join(lacking)}"] * bool(lacking)
+    lacking = {line: [it for it in names if it not in locked.get(line, ())] for line, names in current.items()}
+    yield from (f"{name}: run tests/docs --write: {line} lacks {', '.join(its)}" for line, its in lacking.items() if its)
+    others = [line.removeprefix("clauses ") for line, it in stated.items() if sums.get(line) != it and not lacking[line]]
+    yield from [f"{name}: run tests/docs --write: these state something else than it was written for: {', '.join(others)}"] * bool(others)
     for line, names in kept(locked, current).items():
         why = "no line of CHANGELOG.md says so" if line.startswith("clauses ") else "its function is there"
         yield from (f"{name}: {line}: {it} is gone, and {why}" for it in names)
-
-
-def merged():
-    """What the sources have, and what the lock keeps, though it is gone."""
-    current = found()
-    for line, names in kept(read(), current).items():
-        current[line] = sorted({*current.get(line, ()), *names})
-    return current
 
 
 def kept(locked, current):
@@ -83,55 +89,111 @@ def call_of(line):
 
 
 def read():
-    lines = LOCK.read_text(encoding="utf-8").splitlines() if LOCK.is_file() else []
-    return {line: names.split() for line, _, names in (it.rpartition(": ") for it in lines)}
+    """The names of each line of the lock, and the sums."""
+    names, sums = {}, {}
+    for line, _, text in (it.rpartition(": ") for it in LOCK.read_text(encoding="utf-8").splitlines()):
+        line, _, alias = line.partition(ALIAS)
+        summed = SUM.match(text) if line.startswith("clauses ") else None
+        for one in [line, form_of(line, alias)] if alias else [line]:
+            names[one] = list(unfolded(text[summed.end() :] if summed else text))
+            sums.update({one: summed[1]} if summed else {})
+    return names, sums
 
 
-def written(names):
-    return "".join(f"{line}: {' '.join(names[line])}\n" for line in sorted(names) if names[line])
+def written(names, sums):
+    lines = {line: f"{sums[line]} {folded(names[line])}".rstrip() if line in sums else " ".join(names[line]) for line in names}
+    lines = {line: text for line, text in lines.items() if text}
+    for line, text in sorted(lines.items()):
+        for alias in (it for it in FORMS if text == lines.get(form_of(line, it)) and form_of(line, it) != line):
+            del lines[form_of(line, alias)]
+            lines[line + ALIAS + alias] = lines.pop(line)
+    return "".join(f"{line}: {lines[line]}\n" for line in sorted(lines))
+
+
+def form_of(line, alias):
+    """The line of a form of a type: of `SliceVec` that of `ArrayVec`."""
+    return re.sub(rf"\b{FORMS[alias]}(?=::|: )", alias, line, count=1)
+
+
+def folded(names):
+    """Names with their fields, as `room(place spare)`."""
+    inside = {}
+    for it in names:
+        first, _, rest = it.partition(".")
+        inside.setdefault(first, []).extend([rest] * bool(rest))
+    return " ".join(f"{it}({folded(fields)})" if fields else it for it, fields in inside.items())
+
+
+def unfolded(text):
+    """The names that `folded` wrote."""
+    above = []
+    for opens, closes, name in re.findall(r"(\()|(\))|([\w'.-]+)", text):
+        if opens:
+            above.append(last)
+        elif closes:
+            above.pop()
+        else:
+            last = name
+            yield ".".join([*above, name])
 
 
 def found():
-    """The names by call, as the sources have them, and the edits by function."""
-    names = {f"clauses {key}": sorted(set(it)) for crate in exports.LIBRARIES for key, it in stated(crate)}
+    """The names by call, as the sources have them, and the edits by function; and the sums of the calls."""
+    calls = [(f"clauses {key}", sorted(set(names)), text) for crate in exports.LIBRARIES for key, names, text in stated(crate)]
+    names = {line: its for line, its, _ in calls}
     for line, edit in edited():
         names.setdefault(line, [])
         names[line] += [edit.name] if edit else []
-    return names
+    return names, {line: sum_of(text) for line, _, text in calls if text}
 
 
 def stated(crate):
-    """The public calls of a crate, each with the names of its clauses."""
+    """The public calls of a crate, each with the names of its clauses, and with what these state."""
     for export in exports.Crate(crate).exports():
-        found = [(key, list(names)) for key, names in stated_by(export)]
+        found = list(stated_by(export))
         yield from found
         for alias in export.also:
             it = copy.copy(export)
             it.of = re.sub(r"\w+$", alias, export.of)
-            yield from ((key.replace(export.key(), it.key(), 1), names) for key, names in found)
+            yield from ((key.replace(export.key(), it.key(), 1), names, text) for key, names, text in found)
 
 
 def stated_by(export):
-    """The calls of one export, each with the names of its clauses."""
+    """The calls of one export, each with the names of its clauses, and with what these state."""
     scope = Scope.of(export.source.file)
     if export.item.kind == "fn":
-        yield export.key(), clauses_of(export.item, scope)
+        yield export.key(), *clauses_of(export.item, scope)
     members = list(exports.item_members(export.item))
     for it in (it for it in members if it.kind == "fn"):
-        yield f"{export.key()}::{it.name}", clauses_of(it, scope)
+        yield f"{export.key()}::{it.name}", *clauses_of(it, scope)
     # The laws of a trait are promises, and those of an impl proofs.
     is_proof = lambda line: line.startswith("ghost use") or export.kind == "impl" and reference.PROOFS.match(line)
-    ghosts = [GHOST.match(it.lines[0])[1] for it in members if it.kind == "ghost" and not is_proof(it.lines[0])]
-    yield from [(f"{export.key()}::ghost", ghosts)] * bool(ghosts)
+    ghosts = [it for it in members if it.kind == "ghost" and not is_proof(it.lines[0])]
+    if ghosts:
+        texts = [contracts.without_comments("\n".join(it.lines) + "\n") for it in ghosts]
+        yield f"{export.key()}::ghost", [GHOST.match(it.lines[0])[1] for it in ghosts], scope.whole(texts)
 
 
 def clauses_of(item, scope):
+    """The names of a function's clauses, and what these state."""
     _, clauses, _, _ = contracts.function(contracts.without_comments("\n".join(item.head()) + "\n"))
+    return list(names_of(clauses, scope)), scope.whole(clauses.values())
+
+
+def names_of(clauses, scope):
     for name, text in (it.groups() for it in map(CLAUSE.match, clauses.values()) if it):
         fields = list(scope.fields(text))
         yield from [name] * bool(name)
         yield from (f"{name}.{it}" if name else it for it in fields)
         yield from ["ensures"] * (not name and not fields)
+
+
+def squeezed(text):
+    return " ".join(text.split())
+
+
+def sum_of(text):
+    return hashlib.sha256(text.encode()).hexdigest()[:8]
 
 
 class Scope:
@@ -142,17 +204,19 @@ class Scope:
     @classmethod
     def of(cls, file):
         if file not in cls.known:
-            cls.known[file] = cls(file.read_text(encoding="utf-8"))
+            cls.known[file] = cls(file)
         return cls.known[file]
 
-    def __init__(self, text):
+    def __init__(self, file):
+        text = file.read_text(encoding="utf-8")
         self.imported = exports.imported(text)
         self.records = {it[2]: FIELD.findall(it[3]) for it in RECORD.finditer(text)}
         self.abbreviated = {it[2]: it[3] for it in ABBREVIATED.finditer(text)}
+        self.definitions = dict(definitions(sources.Source("", str(file), text))) if file.suffix == ".antt" else {}
 
     def home(self, name):
         """The file that defines a relation, and its name there."""
-        if name in self.records or name in self.abbreviated:
+        if name in self.definitions:
             return self, name
         path, original = self.imported.get(name, ("", name))
         crate, _, module = path.partition(".specs.")
@@ -170,6 +234,38 @@ class Scope:
                 yield field
                 yield from (f"{field}.{it}" for it in scope.fields(type_, inside))
             yield from scope.fields(scope.abbreviated.get(own, "").partition("=")[2], inside)
+
+
+    def whole(self, texts):
+        """Texts, and the definitions that they cite, and those that these cite."""
+        reached, left = {}, list({it for text in texts for it in self.cited(text)})
+        while left:
+            scope, name = left.pop()
+            if (scope, name) not in reached:
+                reached[scope, name] = scope.definitions[name]
+                left += scope.cited(scope.definitions[name])
+        return "\n".join([*map(squeezed, texts), *sorted(set(map(squeezed, reached.values())))])
+
+    def cited(self, text):
+        """What a text cites of this repository: where it is defined, and its name there."""
+        found = (self.home(it) for it in set(sources.SPACE.split(text)))
+        return [(scope, name) for scope, name in found if scope and name in scope.definitions]
+
+
+def definitions(source):
+    """The definitions of a file by name, each after the heads of its modules. A variant is its type's."""
+    for it in sources.definitions(source):
+        text = re.sub(r"^ *(?:pub )?module .*\Z", "", it.text(), flags=re.M | re.S)
+        above = source.code[: it.start].splitlines()
+        heads, depth = [], len(text) - len(text.lstrip(" "))
+        for line in reversed(above):
+            indent = len(line) - len(line.lstrip())
+            if line.strip() and indent < depth:
+                heads, depth = [line.strip(), *heads], indent
+        whole = "\n".join([*heads, text])
+        yield it.name, whole
+        if re.match(r" *(?:pub )?data ", text):
+            yield from ((name, whole) for name in re.findall(r"^ +([^\s:]+) : ", text, re.M))
 
 
 @functools.cache
