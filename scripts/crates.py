@@ -317,10 +317,9 @@ class Run:
         for crate in crates:
             # One state of all sources is proved, and not of each crate when its turn comes.
             _ = crate.files
-        self.places = {crate: f"{crate.name} ({at} of {len(crates)})" for at, crate in enumerate(crates, 1)}
-        self.is_told, self.is_terminal, self.expected = is_told, sys.stderr.isatty(), expected
+        self.number, self.is_told, self.is_terminal, self.expected = len(crates), is_told, sys.stderr.isatty(), expected
         self.begun, self.begun_at, self.states = time.monotonic(), {}, {}
-        self.started, self.is_stopped = [], False
+        self.started, self.is_stopped, self.ended = [], False, set()
         self.guard = threading.RLock()
 
     def build(self, crate, jobs):
@@ -417,13 +416,14 @@ class Run:
             self.begun_at[crate], self.states[crate] = time.monotonic(), "begins"
         if self.is_told and not self.is_terminal:
             took = crate.took_last()
-            self.print(f"{self.places[crate]}: begun{f', {duration(took)} last time' if took else ''}", sys.stderr)
+            self.print(f"{crate.name}: begun{f', {duration(took)} last time' if took else ''}", sys.stderr)
 
     def ends(self, crate, how):
         with self.guard:
             taken = duration(time.monotonic() - self.begun_at.pop(crate))
+            self.ended.add(crate)
         if self.is_told and not self.is_terminal:
-            self.print(f"{self.places[crate]}: {how} in {taken}, {self.so_far()}", sys.stderr)
+            self.print(f"{crate.name}: {how} in {taken}; {self.so_far()}", sys.stderr)
 
     def tell(self):
         """Writes the line of a terminal over: how far the whole is, and each crate that is at work."""
@@ -431,9 +431,9 @@ class Run:
             return
         with self.guard:
             at_work = [
-                f"{self.places[it]} {self.states[it]}, {clock(began, it.took_last())}" for it, began in self.begun_at.items()
+                f"{it.name} {self.states[it]}, {clock(began, it.took_last())}" for it, began in self.begun_at.items()
             ]
-            line = f"{clock(self.begun, self.expected)}: {'; '.join(at_work)}"
+            line = f"{len(self.ended)} of {self.number}, {clock(self.begun, self.expected)}: {'; '.join(at_work)}"
             width = os.get_terminal_size(sys.stderr.fileno()).columns or 80
             print(CLEAR + line[: width - 1], end="", file=sys.stderr, flush=True)
 
@@ -449,7 +449,8 @@ class Run:
                 print(CLEAR, end="", file=sys.stderr, flush=True)
 
     def so_far(self):
-        return f"{duration(time.monotonic() - self.begun)} so far"
+        expected = f" of some {minutes(self.expected)}" if self.expected else ""
+        return f"{len(self.ended)} of {self.number} crates, {minutes(time.monotonic() - self.begun)} so far{expected}"
 
 
 class Step:
@@ -471,6 +472,10 @@ def jobs_of(step, beside):
 def duration(seconds):
     minutes, seconds = divmod(round(seconds), 60)
     return f"{minutes} min {seconds} s" if minutes else f"{seconds} s"
+
+
+def minutes(seconds):
+    return f"{round(seconds / 60)} min" if seconds >= 60 else f"{round(seconds)} s"
 
 
 def clock(began, expected):
