@@ -8,7 +8,7 @@ import functools
 import re
 import sys
 
-import crates
+from building import crates
 
 NAME = "tinyvec_bench"
 CPU = "x86-64-v3"

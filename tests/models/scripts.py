@@ -8,7 +8,7 @@ import copy
 import math
 import re
 
-from commands import COMMANDS, INDEX, NUMBER, bad
+from rows.commands import COMMANDS, INDEX, NUMBER, bad
 from models.iterators import Splice, removed
 from models.texts import Text
 from models.vector_calls import move_to_the_heap, put, shrink_to_fit, swap_remove, take, with_len

@@ -1,6 +1,5 @@
 """Values of the Borsh form, read and written one after the other, over readers and writers that move a few bytes or fail."""
-import borsh_form
-import swept
+from rows import borsh_form, swept
 from models.texts import LETTERS, hexed
 
 NUMBERS = ("u8", "i8", "u16", "i16", "u32", "i32", "u64", "i64", "u128", "i128")

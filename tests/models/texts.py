@@ -1,5 +1,5 @@
 """A text as its contracts have it: the bytes of its characters, inline or on the heap; and what calls answer and leave."""
-import swept
+from rows import swept
 from models.calls import Calls, listed, spelled
 from models.vector_calls import into_vec, shrink_to_fit
 from models.vectors import DOUBLES, FOR, Vector, word

@@ -7,7 +7,7 @@ import signal
 import subprocess
 import tempfile
 
-import crates
+from building import crates
 
 KEPT = "out/incremental"
 VERDICT = re.compile(r"^fn (\S+): (.*)$", re.M)

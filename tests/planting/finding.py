@@ -4,7 +4,7 @@ import os
 import shutil
 import time
 
-import crates
+from building import crates
 from . import checking, edits, functions
 
 # Of a hundred edits so many are to be found.

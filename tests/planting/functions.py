@@ -4,7 +4,7 @@ import itertools
 import pathlib
 import re
 
-import exports
+from reading import exports
 
 # A type one of whose parameters has a default.
 WITH_DEFAULT = re.compile(r"^(?:pub )?(?:struct|enum) (\w+)<.*=", re.M)

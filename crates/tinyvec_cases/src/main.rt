@@ -34,7 +34,7 @@ fn answer(line: &str, out: &mut String) -> Said {
     let kind = words.word()?;
     let (name, held) = kind.split_once('<').unwrap_or((kind, ""));
     let calls = &mut Calls { text, out };
-    // An arm takes one line, so that scripts/rows.py can leave some out.
+    // An arm takes one line, so that scripts/rows/rows.py can leave some out.
     match name {
         "streams" => streams::answer(&mut words, calls),
         "script" => streams::answer_lines(&mut words, calls),

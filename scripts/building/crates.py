@@ -21,7 +21,7 @@ import sys
 import threading
 import time
 
-TOP = pathlib.Path(__file__).resolve().parent.parent
+TOP = pathlib.Path(__file__).resolve().parent.parent.parent
 
 # What a library or program is made from. A crate's other files only judge it.
 PARTS = ("src", "specs", "proofs")

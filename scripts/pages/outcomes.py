@@ -1,9 +1,7 @@
 """What the clauses of a function tell: what it requires, when it fails, what holds then, and when it cannot fail."""
 import re
 
-import contracts
-import definitions
-import exports
+from reading import contracts, definitions, exports
 
 CLAUSE = re.compile(r"(requires|ensures\*?) ?(\w*) ?\{ (.*) \}$")
 BINDER = re.compile(r"\((?:\w+ )+: .*\)")

@@ -2,8 +2,7 @@
 import functools
 import re
 
-import contracts
-import exports
+from reading import contracts, exports
 
 COMMENT = re.compile(r" *-- (.*)")
 WORD = re.compile(r"(?P<indent> *)(?:(?:abbrev|unfoldable) )?pub (?:(?P<kind>record|data) )?(?P<name>[^\s:]+)(?P<rest>.*)")

@@ -3,8 +3,8 @@
 The rows themselves are run, and their requests counted, by `tests/answers`."""
 import re
 
-import exports
-import rows
+from reading import exports
+from rows import rows
 
 TABLE = exports.TOP / "tests/requests.txt"
 # The types of these hold no allocator, so only a call that is passed one may request memory.

@@ -2,7 +2,7 @@
 """Writes docs/reference/WORDS.md: each word that a contract of the reference cites, what it means, and an example. A word that
 the definition of such a word cites, or a caller in the reference, is told too, if it has an example.
 
-usage: scripts/words.py
+usage: scripts/pages/words.py
 
 A meaning is the comment above the definition in crates/*/specs, after that of its module. An example is the statement of a
 lemma `example-WORD` in crates/*/proofs/words, in a file that imports the word. What precedes the line MARK of the
@@ -10,14 +10,13 @@ page is written by hand, and stays: there std's words have a line each. `tests/d
 """
 import re
 
-import contracts
-import exports
-import reference
-from definitions import COMMENT, code, source_of, words_of
+from pages import reference
+from reading import contracts, exports
+from reading.definitions import COMMENT, code, source_of, words_of
 
 TOP = exports.TOP
 PAGE = TOP / "docs/reference/WORDS.md"
-MARK = "<!-- scripts/words.py writes what follows -->"
+MARK = "<!-- scripts/pages/words.py writes what follows -->"
 EXAMPLES = "crates/*/proofs/words"
 
 # A comment above a lemma is shown before it: of what is lent, say, whose word is no part of a fact. It may begin with
@@ -33,7 +32,7 @@ def faults():
     words = Words()
     page = PAGE.relative_to(TOP)
     if PAGE.read_text(encoding="utf-8") != words.page():
-        yield f"{page}: not as scripts/words.py writes it: run tests/docs --write"
+        yield f"{page}: not as scripts/pages/words.py writes it: run tests/docs --write"
     for path, name in words.cited:
         if path.startswith("std."):
             yield from [f"{page}: std's `{name}` has no line"] * (f'<a id="std-{name}">' not in words.above)

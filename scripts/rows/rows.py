@@ -1,13 +1,11 @@
 """Rows of calls: how they are read, given to the program that does them, and written as it writes what it answers."""
 import os
-import pathlib
 import re
 import subprocess
 
-import crates
-import trying
+from building import crates, trying
 
-TOP = pathlib.Path(__file__).resolve().parent.parent
+TOP = crates.TOP
 PROGRAM = "tinyvec_cases"
 
 # The first words of the lines that each part of the program answers. From its main the arms of others are left out, so that

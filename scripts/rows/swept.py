@@ -2,8 +2,7 @@
 
 Where the input of a script fails, its complete lines are answered; where the output fails, its first bytes are written. A value
 of the Borsh form that is cut is told as the end of the input, and any failure but an interruption as a fault."""
-import commands
-import rows
+from rows import commands, rows
 
 MARK, CUT = "each byte", " cut"
 # In what is wanted: whatever the calls of the reader and the writer were.

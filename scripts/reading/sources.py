@@ -16,7 +16,7 @@ import pathlib
 import re
 import sys
 
-import crates
+from building import crates
 
 sys.path.append(str(crates.TOP / "tests"))
 from planting import edits

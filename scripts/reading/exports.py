@@ -1,8 +1,8 @@
 """What the library crates export, read off their sources: each function, impl, macro, type and trait, with its contract."""
-import pathlib
 import re
 
-TOP = pathlib.Path(__file__).resolve().parent.parent
+from building.crates import TOP
+
 LIBRARIES = (
     "tinyvec_slots",
     "tinyvec_array",
@@ -207,15 +207,15 @@ class Crate:
         """What the sources export as far as a look at single lines tells, and what this did not find."""
         found = {(it.source, it.item.at) for it in self.exports()}
         for source in self.sources.values():
-            yield from (f"{source.path}:{at}: scripts/exports.py does not read what begins here" for at in source.unread())
+            yield from (f"{source.path}:{at}: scripts/reading/exports.py does not read what begins here" for at in source.unread())
             for item in source.items:
                 named = set(re.findall(r"\w+", re.sub(r"\bwhere\b.*", "", item.signature()))) & self.declared.keys()
                 members = [it for it in item_members(item) if it.is_public] if item.kind == "impl" else []
                 is_shown = (source, item.at) in found or members and all((source, it.at) in found for it in members)
                 if item.kind == "impl" and not is_shown and named <= self.names.keys() and (members or " for " in item.signature()):
-                    yield f"{source.path}:{item.at}: an impl of what is exported, and scripts/exports.py gives it to no page"
+                    yield f"{source.path}:{item.at}: an impl of what is exported, and scripts/reading/exports.py gives it to no page"
                 if item.kind == "macro_rules!" and "#[macro_export]" in item.attributes and (source, item.at) not in found:
-                    yield f"{source.path}:{item.at}: a macro that scripts/exports.py gives to no page"
+                    yield f"{source.path}:{item.at}: a macro that scripts/reading/exports.py gives to no page"
         text = (TOP / "crates" / self.name / "src/lib.rt").read_text(encoding="utf-8")
         listed = {name for path, names in USED.findall(text) for name in re.findall(r"\w+", names)}
         yield from (f"crates/{self.name}/src/lib.rt: {it} is exported, and not found" for it in listed - self.names.keys() - {it for _, it in self.passed_on})

@@ -1,5 +1,5 @@
 """What the public calls cost, as docs/reference/costs.txt says."""
-import exports
+from reading import exports
 
 FILE = exports.TOP / "docs/reference/costs.txt"
 

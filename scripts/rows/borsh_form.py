@@ -1,7 +1,7 @@
 """The bytes of values in the Borsh form, by the form's definition."""
 import re
 
-import rows
+from rows import rows
 
 LIST = re.compile(r"(?:ArrayVec|TinyVec)<\[(.*);(\d+)\]>")
 TEXT = re.compile(r"InlineText<(\d+)>")

@@ -2,23 +2,21 @@
 """Writes the reference, docs/reference/*.md: all that the library crates export, with contracts, callers and what differs in Rust.
 
 An entry has a signature, the `///`, what it requires, when it fails, when it cannot and what holds then (read off the clauses
-by scripts/outcomes.py), what it costs (docs/reference/costs.txt), a caller, and the contract.
+by scripts/pages/outcomes.py), what it costs (docs/reference/costs.txt), a caller, and the contract.
 
-usage: scripts/reference.py
+usage: scripts/pages/reference.py
 
 `tests/docs` names the pages that differ from what this would write, exports that are on no page or on two, comments that are
 missing, and calls without a caller. What precedes the line MARK of a page is written by hand, and stays.
 """
 import re
 
-import callers
-import costs
-import exports
-import outcomes
+from pages import costs, outcomes
+from reading import callers, exports
 
 TOP = exports.TOP
 FOLDER = TOP / "docs/reference"
-MARK = "<!-- scripts/reference.py writes what follows -->"
+MARK = "<!-- scripts/pages/reference.py writes what follows -->"
 
 # The crate of each page, and the type whose methods are named without it. Of a crate of two pages the first has what is of no other's.
 PAGES = {
@@ -96,12 +94,12 @@ def faults():
     for file, _, below, text in pages():
         name = file.relative_to(TOP)
         written[file.stem] = file.read_text(encoding="utf-8")
-        yield from [f"{name}: not as scripts/reference.py writes it: run tests/docs --write"] * (below != text)
+        yield from [f"{name}: not as scripts/pages/reference.py writes it: run tests/docs --write"] * (below != text)
     library = Library()
     for crate in library.crates:
         yield from crate.lost()
     unlisted = (it.parent.name for it in TOP.glob("crates/*/CALLING.md") if it.parent.name not in exports.LIBRARIES)
-    yield from (f"crates/{it}: a library that scripts/exports.py does not list" for it in unlisted)
+    yield from (f"crates/{it}: a library that scripts/reading/exports.py does not list" for it in unlisted)
     for page, found in library.pages.items():
         shown = " ".join(written[page].split())
         for it in found:
@@ -116,7 +114,7 @@ def faults():
                 yield f"docs/reference/{page}.md: no caller of {it.key()}: write one in crates/tinyvec_examples/src"
     yield from costs.faults(library.calls)
     sections = {it.section(main_of(page)) for page, found in library.pages.items() for it in found}
-    yield from (f"scripts/reference.py: in which place is the section {it}?" for it in sorted(sections - set(SECTIONS)))
+    yield from (f"scripts/pages/reference.py: in which place is the section {it}?" for it in sorted(sections - set(SECTIONS)))
     for page, found in library.pages.items():
         for it in (it for it in found if it.key() in library.calls - library.uncalled):
             entry = written[page].partition(it.mark(main_of(page)))[2].partition("\n##")[0]

@@ -1,7 +1,7 @@
 #!/usr/bin/env -S python3 -B
 """Writes tests/clauses.txt, the lock: what each public call states, and each function with its edits.
 
-usage: scripts/clauses.py
+usage: scripts/lists/clauses.py
 
 A line `clauses CALL: SUM NAMES` has the names of the call's clauses and a sum of what they state. A clause that cites a relation
 has the fields of that too, as proofs cite them: `room.place` is in `room(place)`. The fields of a clause without a name stand
@@ -21,10 +21,8 @@ import hashlib
 import re
 import sys
 
-import contracts
-import exports
-import reference
-import sources
+from pages import reference
+from reading import contracts, exports, sources
 
 TOP = exports.TOP
 LOCK = TOP / "tests/clauses.txt"

@@ -6,7 +6,7 @@ import shutil
 import subprocess
 import tempfile
 
-import crates
+from building import crates
 
 # A linker that also leaves the program in a file, and then fails, so that `rt try` does not run it. It gets no environment.
 LINKER = """#!/bin/sh

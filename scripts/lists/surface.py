@@ -1,7 +1,7 @@
 #!/usr/bin/env -S python3 -B
 """Holds what a caller can name to tests/surface.txt, which no change shortens unseen.
 
-usage: scripts/surface.py
+usage: scripts/lists/surface.py
 
 The list has a line for each type, call, impl, derived trait, macro, variant, public field and feature of the Rust crate, and for
 each that only these crates have:
@@ -18,9 +18,9 @@ a part that has fewer lines than its heading says. Nothing here takes a line awa
 import functools
 import re
 
-import crates
-import exports
-import reference
+from building import crates
+from pages import reference
+from reading import exports
 
 TOP = exports.TOP
 LIST = TOP / "tests/surface.txt"

@@ -3,8 +3,7 @@ import itertools
 import re
 import textwrap
 
-import contracts
-import exports
+from reading import contracts, exports
 
 # Whose functions are shown as callers, the shortest first.
 CRATES = (

@@ -1,0 +1,1 @@
+"""Reads and runs the rows of tests/cases, and refuses requests for memory."""
