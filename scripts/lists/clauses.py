@@ -22,7 +22,7 @@ import re
 import sys
 
 from pages import reference
-from reading import contracts, exports, sources
+from reading import contracts, definitions, exports, sources
 
 TOP = exports.TOP
 LOCK = TOP / "tests/clauses.txt"
@@ -35,12 +35,9 @@ SUM = re.compile(r"([0-9a-f]{8})(?: |$)")
 CLAUSE = re.compile(r"ensures\*?(?: (\w+))? \{(.*)\}", re.S)
 GHOST = re.compile(r"ghost (\w+)")
 WORD = re.compile(r"(?<![\w.'-])[A-Za-z][\w'-]*")
-RECORD = re.compile(r"^( *)(?:pub )?record ([\w'-]+)\b[^=]*?\bwhere\n((?:\1 +.*\n|\n)*)", re.M)
-FIELD = re.compile(r"^ *pub ([\w'-]+) : (.*(?:\n *[→×(].*)*)", re.M)
 # The forms of a type that have lines of their own, and what stands between a call and its form in a line of both.
 FORMS = {"SliceVec": "ArrayVec", "SliceVecDrain": "ArrayVecDrain"}
 ALIAS = ", of "
-ABBREVIATED = re.compile(r"^( *)abbrev pub ([\w'-]+) :.*\n((?:\1(?: +|\2\b).*\n)*)", re.M)
 
 
 def main():
@@ -206,11 +203,10 @@ class Scope:
         return cls.known[file]
 
     def __init__(self, file):
-        text = file.read_text(encoding="utf-8")
-        self.imported = exports.imported(text)
-        self.records = {it[2]: FIELD.findall(it[3]) for it in RECORD.finditer(text)}
-        self.abbreviated = {it[2]: it[3] for it in ABBREVIATED.finditer(text)}
-        self.definitions = dict(definitions(sources.Source("", str(file), text))) if file.suffix == ".antt" else {}
+        self.imported = exports.imported(file.read_text(encoding="utf-8"))
+        words = definitions.words_of(file) if file.suffix == ".antt" else []
+        # A variant is its type's.
+        self.definitions = {name: word for word in words for name in (word.name, *word.variants)}
 
     def home(self, name):
         """The file that defines a relation, and its name there."""
@@ -225,14 +221,14 @@ class Scope:
         """The fields of the relations that a text cites, and of those that these cite."""
         for name in dict.fromkeys(WORD.findall(text)):
             scope, own = self.home(name)
-            if scope is None or (scope, own) in above:
+            if scope is None or (scope, own) in above or own not in scope.definitions:
                 continue
-            inside = (*above, (scope, own))
-            for field, type_ in scope.records.get(own, ()):
+            word, inside = scope.definitions[own], (*above, (scope, own))
+            for field, type_ in word.fields:
                 yield field
                 yield from (f"{field}.{it}" for it in scope.fields(type_, inside))
-            yield from scope.fields(scope.abbreviated.get(own, "").partition("=")[2], inside)
-
+            if not word.kind:
+                yield from scope.fields(word.text.partition("=")[2], inside)
 
     def whole(self, texts):
         """Texts, and the definitions that they cite, and those that these cite."""
@@ -240,30 +236,14 @@ class Scope:
         while left:
             scope, name = left.pop()
             if (scope, name) not in reached:
-                reached[scope, name] = scope.definitions[name]
-                left += scope.cited(scope.definitions[name])
+                reached[scope, name] = whole = scope.definitions[name].whole
+                left += scope.cited(whole)
         return "\n".join([*map(squeezed, texts), *sorted(set(map(squeezed, reached.values())))])
 
     def cited(self, text):
         """What a text cites of this repository: where it is defined, and its name there."""
         found = (self.home(it) for it in set(sources.SPACE.split(text)))
         return [(scope, name) for scope, name in found if scope and name in scope.definitions]
-
-
-def definitions(source):
-    """The definitions of a file by name, each after the heads of its modules. A variant is its type's."""
-    for it in sources.definitions(source):
-        text = re.sub(r"^ *(?:pub )?module .*\Z", "", it.text(), flags=re.M | re.S)
-        above = source.code[: it.start].splitlines()
-        heads, depth = [], len(text) - len(text.lstrip(" "))
-        for line in reversed(above):
-            indent = len(line) - len(line.lstrip())
-            if line.strip() and indent < depth:
-                heads, depth = [line.strip(), *heads], indent
-        whole = "\n".join([*heads, text])
-        yield it.name, whole
-        if re.match(r" *(?:pub )?data ", text):
-            yield from ((name, whole) for name in re.findall(r"^ +([^\s:]+) : ", text, re.M))
 
 
 @functools.cache

@@ -9,6 +9,7 @@ usage: scripts/pages/reference.py
 `tests/docs` names the pages that differ from what this would write, exports that are on no page or on two, comments that are
 missing, and calls without a caller. What precedes the line MARK of a page is written by hand, and stays.
 """
+import functools
 import re
 
 from pages import costs, outcomes
@@ -175,6 +176,7 @@ def pages():
         yield file, above, below, text
 
 
+@functools.cache
 class Library:
     """All exports by page, who calls them, and what is said of them beside Rust's crate."""
 

@@ -2,7 +2,7 @@
 import functools
 import re
 
-from reading import contracts, exports
+from reading import contracts, exports, sources
 
 COMMENT = re.compile(r" *-- (.*)")
 WORD = re.compile(r"(?P<indent> *)(?:(?:abbrev|unfoldable) )?pub (?:(?P<kind>record|data) )?(?P<name>[^\s:]+)(?P<rest>.*)")
@@ -17,9 +17,12 @@ def source_of(path):
 
 
 class Word:
-    def __init__(self, found, comment, given, lines):
-        """`given` is what its module is given, and `lines` are those after the word's first, up to the next word."""
+    def __init__(self, found, comment, given, heads, lines):
+        """`given` is what its modules are given, `heads` are their first lines, and `lines` are those after the word's first, up to
+        the next word."""
         self.name, self.kind = found["name"], found["kind"]
+        own = (it for it in lines if not it.lstrip().startswith("module"))
+        self.whole = sources.COMMENT[".antt"].sub("", "\n".join([*heads, found[0], *own]))
         self.text = "\n".join([found["rest"], *lines])
         self.comment = comment.strip().rstrip(".")
         body = [it for it in lines if len(it) - len(it.lstrip()) > len(found["indent"])]
@@ -34,6 +37,7 @@ class Word:
         self.shown = code(" ".join([self.name, *self.given]))
         found = self.read_parts(body) if self.kind else []
         self.fields = [(name, text) for name, text, _ in found] if self.kind == "record" else []
+        self.variants = [name for name, _, _ in found] if self.kind == "data" else []
         shown = [(code(f"{name} : {text}" if self.kind == "record" else name), said) for name, text, said in found]
         parts = "; ".join(part + f" ({said})" * bool(said) for part, said in shown)
         self.meaning = self.comment + f". {'It has' if self.kind == 'record' else 'One of'} {parts}" * bool(parts)
@@ -77,15 +81,15 @@ def read_words(lines):
             # A module is over where a line is no deeper than its own.
             modules = [it for it in modules if it[0] < indent]
             if line.lstrip().startswith("module"):
-                modules.append((indent, comment, given_by(line)))
+                modules.append((indent, comment, given_by(line), line))
             found = WORD.match(line)
             if found and depth is None and not re.match(r" *pub (?:mod|use) ", line):
-                said = sentences(*(it for _, it, _ in modules), comment)
-                starts.append((at, found, said, [name for _, _, names in modules for name in names]))
+                said = sentences(*(it[1] for it in modules), comment)
+                starts.append((at, found, said, [name for it in modules for name in it[2]], [it[3] for it in modules]))
                 depth = indent if found["kind"] else None
             comment = []
-    for (at, found, said, given), (end, *_) in zip(starts, [*starts[1:], (len(lines),)]):
-        yield Word(found, said, given, lines[at + 1 : end])
+    for (at, found, said, given, heads), (end, *_) in zip(starts, [*starts[1:], (len(lines),)]):
+        yield Word(found, said, given, heads, lines[at + 1 : end])
 
 
 def given_by(head):

@@ -1,4 +1,5 @@
 """What the library crates export, read off their sources: each function, impl, macro, type and trait, with its contract."""
+import functools
 import re
 
 from building.crates import TOP
@@ -131,6 +132,7 @@ class Export:
         return bool(re.search(r"\(\s*(?:&(?:'\w+ )?)?(?:mut )?self\b", self.item.signature()))
 
 
+@functools.cache
 class Crate:
     def __init__(self, name):
         self.name = name
