@@ -2,10 +2,10 @@
 ghost use Rattle.std.specs.Prelude.{◌≡◌, ◌⊎◌, ◌≤◌, ◌-◌, ◌^◌, ◌++◌, ◌∷◌, List, ℕ, length, IfSome, IfNone, OnOk, IsErrOf, map};
 ghost use Rattle.std.specs.Io.KnownBytes.{Appends, Consumes, IsAtEnd, Keeps};
 ghost use Rattle.std.specs.Str.Lines.{strip_carriage_return};
-ghost use Rattle.tinyvec_io.specs.Counted.{AppendsFront, Reported};
+ghost use Rattle.tinyvec_io.specs.Counted.{AppendsFront, CountsEnds, Reported};
 ghost use Rattle.tinyvec_io.specs.Lines.{IsLine, last_line};
 ghost use Rattle.example_lines.specs.Answers.{Advances, AdvancesSome, AnsweredSome, AnswersEach, AnswersUpTo, AppendsAnswer, IsAnswered};
-ghost use Rattle.example_lines.specs.Stops.{Reports};
+ghost use Rattle.example_lines.specs.Stops.{Reports, is_input, is_output};
 ghost use Rattle.std.specs.declared.io.Error.{Error as IoError};
 
 use crate::failure::{Failure, Stop};
@@ -39,8 +39,8 @@ pub fn answer_lines<A: Answer, R: Read, W: Write>(
         × IsAtEnd (R.remaining reader.new.inner)
         × Appends (W.contents writer.old.inner) (W.contents writer.new.inner) output
         × IsAnswered A.IsAnswer program.old input output program.new) }
-    ensures none_failed { OnOk result ((reader.new.failed ≡ reader.old.failed)
-        × (writer.new.failed ≡ writer.old.failed)) }
+    // One call of the reader failed exactly if the input did, one of the writer exactly if the output did.
+    ensures failed { CountsEnds is_input is_output reader.old reader.new writer.old writer.new result }
 
     // Each line that came whole before the fault was answered.
     ensures input { (error : IoError) → IsErrOf result (Failure.Input error) → (input output line : List ℕ)

@@ -20,6 +20,21 @@ pub record CountsFault (is_fault : Bool) (old new : ℕ) : Type 0 where
   pub exact : new ≡ (if is_fault then one_more_fault old else old)
   pub grows : old ≤ new
 
+-- the result is an error that passes the test
+abbrev pub is_err_of : {T E : Type 0} → (E → Bool) → Result T E → Bool
+is_err_of test (Ok value) = false
+is_err_of test (Err error) = test error
+
+-- A call with this result took the number of failed calls from `old` to `new`: one more if its error passes the test, else none.
+abbrev pub CountsFailed : {T E : Type 0} → (E → Bool) → ℕ → ℕ → Result T E → Type 0
+CountsFailed test old new result = CountsFault (is_err_of test result) old new
+
+-- The same of both ends of a program. Which of them failed, if one did, the error says.
+pub record CountsEnds {R W T E : Type 0} (of_reader of_writer : E → Bool) (reader new_reader : CountedView R)
+    (writer new_writer : CountedView W) (result : Result T E) : Type 0 where
+  pub read : CountsFailed of_reader reader.failed new_reader.failed result
+  pub write : CountsFailed of_writer writer.failed new_writer.failed result
+
 -- a write of these bytes with this result is a fault
 abbrev pub is_write_fault : {E : Type 0} → Result ℕ E → List ℕ → Bool
 is_write_fault (Ok zero) (byte ∷ bytes) = true

@@ -54,7 +54,7 @@ loop-front-preserved g c =
         advances_then g.A.Answer.IsAnswer c.args.program.now c.loop-front.program c.answer_line.new.program c.args.line.now.items before next s.0 (front ++ 10 ∷ []) s.1 f.0 s.4 line,
       );
       grows = omega (arith, c.loop-front.invariant.grows, c.in_ok-answer_line.ensures.faults.grows);
-      none_failed = c.in_ok-answer_line.ensures.faults.none_failed ∙ c.loop-front.invariant.none_failed;
+      none_failed = c.in_ok-answer_line.ensures.faults.failed.exact ∙ c.loop-front.invariant.none_failed;
     }
 
 pub returns-in_err-flush-clause-output : goal.returns-in_err-flush-clause-output
