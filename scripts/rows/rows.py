@@ -10,7 +10,7 @@ PROGRAM = "tinyvec_cases"
 
 # The first words of the lines that each part of the program answers. From its main the arms of others are left out, so that
 # `rt try` takes about as long for one part as for another.
-PARTS = ("streams", "script", "InlineText", "Run"), ("TinyVec",), ("ArrayVec", "SliceVec")
+PARTS = ("streams", "script", "errors", "InlineText", "Run"), ("TinyVec",), ("ArrayVec", "SliceVec")
 ARM = re.compile(r'^        "(\w+)" => .*,\n', re.M)
 MODULE = re.compile(r"^mod (\w+);\n", re.M)
 WORD = re.compile(r"\w*")

@@ -37,6 +37,8 @@ class Edit:
     changes: tuple[Change, ...]
     # Whether it is one of the wrong bodies that a reader would think of first, which the gate tries.
     is_named: bool
+    # Whether no clause says what it changes, as a text that is derived, so that a test has to find it.
+    is_tested: bool
     # The file that has it, below tests/mutations.
     place: str
 
@@ -61,7 +63,7 @@ def read_all(folder, crates):
 
 
 def read(crate, file, path):
-    """The edits of a file. Each is a line `edit: NAME` or `named: NAME`, and then pairs of `old: TEXT` and `new: TEXT`.
+    """The edits of a file. Each is a line `edit: NAME`, `named: NAME` or `tested: NAME`, and then pairs of `old: TEXT` and `new: TEXT`.
 
     A line `file: PATH` says that the pairs after it are of another file. A line `in: TEXT`, which the file has once, says
     that the old text of the next pair is the first after it. A line `# TEXT` says why an edit is as it is.
@@ -72,8 +74,8 @@ def read(crate, file, path):
     for block in path.read_text(encoding="utf-8").split("\n\n"):
         first, *lines = [it for it in block.strip("\n").split("\n") if not it.startswith("# ")] or [""]
         kind, _, name = first.partition(": ")
-        if kind not in ("edit", "named"):
-            raise BadEdit(f"an edit begins with `edit: NAME` or `named: NAME`, and not so: {first}")
+        if kind not in ("edit", "named", "tested"):
+            raise BadEdit(f"an edit begins with `edit: NAME`, `named: NAME` or `tested: NAME`, and not so: {first}")
         given, changes = {"file": file}, []
         for line in lines:
             word, _, text = line.partition(":")
@@ -84,7 +86,7 @@ def read(crate, file, path):
                 changes.append(Change(given["file"], given.pop("old"), given["new"], given.pop("in", "")))
         if not changes or "old" in given:
             raise BadEdit(f"{name} has no pair of old and new, or half of one")
-        found.append(Edit(crate, name, tuple(changes), kind == "named", place))
+        found.append(Edit(crate, name, tuple(changes), kind == "named", kind == "tested", place))
     return found
 
 

@@ -1,4 +1,5 @@
-"""Which tests find an edit, with no proof. Many edits are compiled into one program, and the variable PLANTED chooses one."""
+"""Which tests find an edit, with no proof. Many edits are compiled into one program, and the variable PLANTED chooses one. One that
+only tests can find, and that changes no body, has a copy of its own."""
 import concurrent.futures
 import os
 import shutil
@@ -39,20 +40,22 @@ def find(found, room, jobs):
     numbered, others = bodies(found, known)
     lay(room, numbered)
     left = dict(enumerate((edit for edit, *_ in numbered), 1))
+    for it in (it for it in others if it.is_tested):
+        left[lay_alone(room / f"alone-{len(left)}", it)] = it
+    count = len(left)
     with concurrent.futures.ThreadPoolExecutor(jobs) as pool:
         for name, tested, words in tests_of(room, known):
             fit = [it for it in left if left[it].crate in tested]
-            faults = pool.map(finder(name, words), fit) if fit else ()
-            for number, fault in zip(fit, faults):
+            faults = pool.map(finder(name, words, room), fit) if fit else ()
+            for key, fault in zip(fit, faults):
                 if fault is not None:
-                    print(f"{left.pop(number)}: found by {name}: {fault}", flush=True)
+                    print(f"{left.pop(key)}: found by {name}: {fault}", flush=True)
     for it in left.values():
         print(f"not found: {it}")
-    for it in others:
+    for it in (it for it in others if not it.is_tested):
         print(f"left out, since it changes more than the body of one function: {it}")
-    count = len(numbered) - len(left)
-    print(f"mutants: tests find {count} of {len(numbered)} edits")
-    return 1 if 100 * count < FLOOR * len(numbered) or not numbered else 0
+    print(f"mutants: tests find {count - len(left)} of {count} edits")
+    return 1 if 100 * (count - len(left)) < FLOOR * count or not count else 0
 
 
 def bodies(found, known):
@@ -100,6 +103,15 @@ def lay(top, numbered):
         crates.write_files(folder, {"src/planted.rt": CHOICE.encode(), "c/planted.c": CHOICE_IN_C.encode()})
 
 
+def lay_alone(top, edit):
+    """Copies the repository with an edit, and returns where."""
+    lay(top, [])
+    folder = top / "crates" / edit.crate
+    for file, text in edits.applied(edit, edits.reader(folder))[1].items():
+        (folder / file).write_text(text, encoding="utf-8")
+    return top
+
+
 def tests_of(top, known):
     """The tests, those first that find most in least time: the name of each, the crates whose code it runs, and its command."""
     below = {it: {one.name for one in (*it.below, it)} for it in known.values()}
@@ -111,8 +123,8 @@ def tests_of(top, known):
             yield it.name, below[it], [top / "tests/quick", it.name]
 
 
-def finder(name, words):
-    """What a test finds of the edit of a number. It compiles what it needs at first, and has some times as long as it takes
+def finder(name, words, room):
+    """What a test finds of the edit of a number, or of that in a copy. It compiles what it needs at first, and has some times as long as it takes
     where no edit counts."""
     run(words, 0, None)
     began = time.monotonic()
@@ -120,7 +132,13 @@ def finder(name, words):
     if fault is not None:
         raise SystemExit(f"mutants: {name} fails where no edit counts: {fault}")
     limit = MORE + SLOWER * (time.monotonic() - began)
-    return lambda number: run(words, number, limit)
+
+    def fault_of(key):
+        if isinstance(key, int):
+            return run(words, key, limit)
+        return run([key / words[0].relative_to(room), *words[1:]], 0, limit)
+
+    return fault_of
 
 
 def run(words, number, limit):

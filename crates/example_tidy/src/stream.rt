@@ -3,8 +3,9 @@ ghost use Rattle.std.specs.Prelude.{◌≡◌, ◌≤◌, ◌↔◌, ◌^◌, �
 ghost use Rattle.std.specs.IoError.{error_kind};
 ghost use Rattle.std.specs.Io.KnownBytes.{Appends, Consumes, IsAtEnd, Keeps};
 ghost use Rattle.tinyvec.specs.TinyVec.{tiny_items, tiny_capacity};
-ghost use Rattle.tinyvec_io.specs.Counted.{Reported};
+ghost use Rattle.tinyvec_io.specs.Counted.{CountsEnds, CountsFailed, Reported};
 ghost use Rattle.std.specs.declared.io.Error.{Error as IoError};
+ghost use Rattle.example_tidy.specs.Failed.{is_read, is_write};
 ghost use Rattle.example_tidy.specs.Tidy.{Advances, AllShort, Ends, EndsBeforeLong, EndsSome, IsBegun, IsShort, Tidied, TidiedBeforeLong, TidiedUpTo};
 
 use crate::line::LineText;
@@ -61,8 +62,8 @@ pub fn tidy<R: Read, W: Write>(
         × IsAtEnd (R.remaining reader.new.inner)
         × Appends (W.contents writer.old.inner) (W.contents writer.new.inner) output
         × Tidied input output × Tidied output output) }
-    ensures none_failed { OnOk result ((reader.new.failed ≡ reader.old.failed)
-        × (writer.new.failed ≡ writer.old.failed)) }
+    // One call of the reader failed exactly at `Read`, one of the writer exactly at `Write`.
+    ensures failed { CountsEnds is_read is_write reader.old reader.new writer.old writer.new result }
 
     // What came before the fault was read, and the normal forms of its complete lines were written.
     ensures read { (error : IoError) → IsErrOf result (TidyError.Read error) → (input output line : List ℕ)
@@ -130,7 +131,7 @@ fn tidy_chunk<W: Write>(
     ensures no_read { (error : IoError) → IsErrOf result (TidyError.Read error) → ⊥ }
     ensures not_long { IsErrOf result TidyError.TooLong → ⊥ }
     ensures faults_grow { writer.old.faults ≤ writer.new.faults }
-    ensures none_failed { OnOk result (writer.new.failed ≡ writer.old.failed) }
+    ensures failed { CountsFailed is_write writer.old.failed writer.new.failed result }
     ensures write_fault { (error : IoError) → IsErrOf result (TidyError.Write error)
         → Reported writer.old.faults writer.new.faults }
 {
@@ -163,7 +164,7 @@ fn finish<W: Write>(alloc: Global, line: &[u8], writer: &mut Counted<W>) -> Resu
     ensures no_read { (error : IoError) → IsErrOf result (TidyError.Read error) → ⊥ }
     ensures not_long { IsErrOf result TidyError.TooLong → ⊥ }
     ensures faults_grow { writer.old.faults ≤ writer.new.faults }
-    ensures none_failed { OnOk result (writer.new.failed ≡ writer.old.failed) }
+    ensures failed { CountsFailed is_write writer.old.failed writer.new.failed result }
     ensures write_fault { (error : IoError) → IsErrOf result (TidyError.Write error)
         → Reported writer.old.faults writer.new.faults }
 {

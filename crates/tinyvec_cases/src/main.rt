@@ -2,6 +2,7 @@
 #![tactic(auto)]
 
 mod borsh;
+mod errors;
 mod plan;
 mod runs;
 mod streams;
@@ -38,6 +39,7 @@ fn answer(line: &str, out: &mut String) -> Said {
     match name {
         "streams" => streams::answer(&mut words, calls),
         "script" => streams::answer_lines(&mut words, calls),
+        "errors" => errors::answer(&mut words, calls),
         "InlineText" => text::answer(kind, &mut words, calls),
         "Run" => runs::answer(kind, &mut words, calls),
         "ArrayVec" => starts::answer_array(held, &mut words, calls),

@@ -4,6 +4,7 @@ pub mod Text
 pub mod Script
 pub mod History
 pub mod Writes
+pub mod Failed
 pub mod Driving
 pub mod Words
 pub mod Spelled

@@ -2,7 +2,8 @@
 ghost use Rattle.std.specs.Prelude.{◌≡◌, ◌⊎◌, ◌≤◌, ◌^◌, ◌-◌, ◌++◌, ◌∷◌, List, ℕ, [], Some, OnOk, IsErrOf, length};
 ghost use Rattle.std.specs.Io.KnownBytes.{Appends, Consumes, IsAtEnd};
 ghost use Rattle.std.specs.declared.io.Error.{Error as IoError};
-ghost use Rattle.tinyvec_io.specs.Counted.{AppendsFront, Reported};
+ghost use Rattle.tinyvec_io.specs.Counted.{AppendsFront, CountsEnds, Reported};
+ghost use Rattle.tinyvec_script.specs.Failed.{is_read, is_write};
 ghost use Rattle.tinyvec_script.specs.Writes.{Gathers, Writes};
 ghost use Rattle.tinyvec_script.specs.State.{state_of};
 ghost use Rattle.tinyvec_script.specs.Script.{Answered, Script, CompleteLines};
@@ -52,8 +53,8 @@ pub fn run<R: Read, W: Write>(
         × IsAtEnd (R.remaining reader.new.inner)
         × Appends (W.contents writer.old.inner) (W.contents writer.new.inner) output
         × Script input output) }
-    ensures none_failed { OnOk result ((reader.new.failed ≡ reader.old.failed)
-        × (writer.new.failed ≡ writer.old.failed)) }
+    // One call of the reader failed exactly at `Read`, one of the writer exactly at `Write`.
+    ensures failed { CountsEnds is_read is_write reader.old reader.new writer.old writer.new result }
 
     // The complete lines before the fault were answered.
     ensures read { (error : IoError) → IsErrOf result (RunError.Read error) → (input output : List ℕ)

@@ -8,7 +8,6 @@ use std::io::Write;
 use std::mem;
 use std::test::Fail;
 use tinyvec::{ArrayVec, TinyVec};
-use tinyvec_script::RunError;
 use tinyvec_text::InlineText;
 
 type Three = TinyVec<[i32; 3]>;
@@ -190,13 +189,4 @@ fn texts_of_bytes(rt: HostRuntime) -> Result<(), Fail> {
     let broken = InlineText::from_utf8_or_none(TinyVec::from_array(rt.alloc(), [b'o', 255]));
     let same = fine.is_some_and(|text| text.starts_with("ok")) & broken.is_none();
     all_steps(&[is_text, is_refused, same])
-}
-
-// Only an input of `u64::MAX` bytes would meet it.
-#[test]
-fn an_input_too_long(rt: HostRuntime) -> Result<(), Fail> {
-    all_steps(&[
-        is_shown(&RunError::TooLong, "cannot read input: input too long"),
-        is_debugged(&RunError::TooLong, "TooLong"),
-    ])
 }

@@ -1,5 +1,5 @@
 -- Examples of calls as values, of runs and of scripts.
-use Rattle.std.proofs.Common.{◌≡◌, ℕ, List, [], ◌∷◌, ◌++◌, Some, codes, length, refl, rules, arith}
+use Rattle.std.proofs.Common.{◌≡◌, ℕ, true, false, List, [], ◌∷◌, ◌++◌, length, refl, rules, arith}
 use Rattle.tinyvec_slots.specs.Slots.{Slots, split_at}
 use Rattle.tinyvec.specs.View.{TinyView, in_array, view_len, PlaceRule}
 use Rattle.tinyvec_script.specs.declared.call.Call.TheVariants.{Push, Pop}
@@ -8,8 +8,9 @@ use Rattle.tinyvec_script.specs.declared.call.End.TheVariants.{Front}
 use Rattle.tinyvec_script.specs.Step.{ArrayStep, SlotsStep, Run}
 use Rattle.tinyvec_script.specs.TinyCalls.{TinyStep}
 use Rattle.tinyvec_script.specs.Driving.{ArraySplices, TinySplices, SpliceComputes}
+use Rattle.tinyvec_script.specs.Failed.{is_read, is_write}
 use Rattle.tinyvec_script.specs.Script.{Script, CompleteLines}
-use Rattle.tinyvec_script.specs.declared.script.RunError.TheVariants.{TooLong}
+use Rattle.tinyvec_script.specs.declared.script.RunError.TheVariants.{TooLong, Write}
 
 -- the items are numbers, whose default is 0
 abbrev pub D : ℕ → Type 0
@@ -49,3 +50,10 @@ example-Script = search rules
 
 pub example-CompleteLines : CompleteLines [] []
 example-CompleteLines = search rules
+
+pub example-is_read : is_read TooLong ≡ false
+example-is_read = refl
+
+-- a write that failed by this error
+pub example-is_write : (error : _) → is_write (Write error) ≡ true
+example-is_write error = refl

@@ -1,6 +1,6 @@
 -- Examples of counted faults.
-use Rattle.std.proofs.Common.{◌≡◌, ℕ, true, [], ◌∷◌, Some, Ok, Result, refl, rules, arith}
-use Rattle.tinyvec_io.specs.Counted.{CountedView, CountsFault, Reported, Retries, is_write_fault, AppendsFront, ConsumesFront}
+use Rattle.std.proofs.Common.{◌≡◌, ℕ, ◌==◌, true, [], ◌∷◌, Some, Ok, Err, Result, refl, rules, arith}
+use Rattle.tinyvec_io.specs.Counted.{CountedView, CountsFault, CountsFailed, CountsEnds, Reported, Retries, is_write_fault, AppendsFront, ConsumesFront}
 
 abbrev pub wrote : ℕ → Result ℕ Unit
 wrote count = Ok count
@@ -18,6 +18,18 @@ example-Reported = search rules
 
 pub example-CountsFault : CountsFault true 2 3
 example-CountsFault = record { exact = refl; grows = omega arith }
+
+-- a result that is the error 4
+abbrev pub fails : Result Unit ℕ
+fails = Err 4
+
+pub example-CountsFailed : CountsFailed (λ error. error == 4) 2 3 fails
+example-CountsFailed = record { exact = refl; grows = omega arith }
+
+-- the error 4 comes of the reader, the error 5 of the writer
+pub example-CountsEnds : {E : Type 0} (reader writer : E) → CountsEnds (λ error. error == 4) (λ error. error == 5)
+    (seen reader) (record { inner = reader; faults = 3; failed = 2 }) (seen writer) (seen writer) fails
+example-CountsEnds reader writer = record { read = record { exact = refl; grows = omega arith }; write = record { exact = refl; grows = omega arith } }
 
 pub example-is_write_fault : is_write_fault (wrote 0) (7 ∷ []) ≡ true
 example-is_write_fault = refl

@@ -76,12 +76,6 @@ returns-in-Ok-finish-clause-ok g c =
     let last = rw none at c.in-Ok.ensures.bytes in
     (s.0, s.1 ++ f.0, rw append-nil at (Consumes-trans _ _ _ s.0 [] s.2 last), c.in-Ok.ensures.end none, Appends-trans _ _ _ s.1 f.0 s.3 f.1.ok, whole_script s.4 f.2)
 
-pub returns-in-Ok-finish-clause-none_failed : goal.returns-in-Ok-finish-clause-none_failed
-returns-in-Ok-finish-clause-none_failed g c = (
-  c.in-Ok.ensures.failed.exact ∙ c.loop-piece.invariant.read_none_failed,
-  c.in-Ok-finish.ensures.1.none_failed ∙ c.loop-piece.invariant.write_none_failed,
-)
-
 pub loop-piece-preserved : goal.loop-piece-preserved
 loop-piece-preserved g c =
     let s = c.loop-piece.invariant.so_far in
@@ -101,7 +95,7 @@ loop-piece-preserved g c =
       read_grows = le_trans c.loop-piece.invariant.read_grows c.in-Ok.ensures.faults.grows;
       write_grows = le_trans c.loop-piece.invariant.write_grows c.in-Ok-answer_chunk.ensures.writes.1.grows;
       read_none_failed = c.in-Ok.ensures.failed.exact ∙ c.loop-piece.invariant.read_none_failed;
-      write_none_failed = f.1.none_failed ∙ c.loop-piece.invariant.write_none_failed;
+      write_none_failed = f.1.failed.exact ∙ c.loop-piece.invariant.write_none_failed;
     }
 
 pub returns-clause-too_long : goal.returns-clause-too_long

@@ -12,7 +12,7 @@ pub returns-in-Err-write_all : goal.returns-in-Err-write_all
 returns-in-Err-write_all g c =
     let wrote = rw c.in-Err-write_all.is at c.write_all.ensures in
     let empty = rw c.in_default.is at c.send.ensures.empty in
-    gathers_then (gathers_sent c.in_default.is c.send.ensures) (rw empty (gathers_failed wrote.err wrote.faults.grows wrote.faults.fault))
+    gathers_then (gathers_sent c.in_default.is c.send.ensures) (rw empty (gathers_failed wrote.err wrote.faults.grows wrote.faults.fault wrote.failed))
 
 pub returns-in_default-write_all : goal.returns-in_default-write_all
 returns-in_default-write_all g c =
