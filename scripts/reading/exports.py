@@ -21,6 +21,7 @@ DECLARED = re.compile(
     r"(?P<kind>macro_rules!|(?:fn|struct|enum|trait|type|impl|mod|use|ghost|const|static)\b) ?(?P<name>\w+)?"
 )
 USED = re.compile(r"pub use ([\w:]+?)(?:::(\{[^}]*\}|\w+|\*))?;", re.S)
+NAMED = re.compile(r"(\w+)(?: as (\w+))?")
 
 # A line that begins something that may be exported. Each has to be one that `Source` reads, so no layout escapes it.
 BEGINS = re.compile(r"^(?:    )?(?:pub (?:const )?(?:fn|trait|struct|enum|type)\b|macro_rules!|impl\b)")
@@ -140,6 +141,8 @@ class Crate:
         self.sources = {it.module: it for it in (Source(name, file) for file in files)}
         # Each exported name, with its file and declaration, and those that another crate declares.
         self.names, self.passed_on = {}, []
+        # Other names under which something of these is exported: `pub use runs::{run_array as run_slice}`.
+        self.renamed = {}
         self.export(())
         self.declared = {it.name: it for source in self.sources.values() for it in source.items if it.kind in TYPES}
         named = {it.name: re.search(r"= (.*);", it.signature())[1] for it in self.declared.values() if it.kind == "type"}
@@ -153,8 +156,9 @@ class Crate:
         for item in source.items:
             if item.kind == "use" and item.is_public:
                 found = USED.match("\n".join(item.lines))
-                for name in re.findall(r"\w+", found[2] or ""):
+                for name, other in NAMED.findall(found[2] or ""):
                     self.resolve(module, found[1].split("::"), name)
+                    self.renamed |= {other: name} if other else {}
             elif item.kind == "mod" and item.is_public:
                 self.export((*module, item.name))
             elif item.is_public and item.kind in (*TYPES, "fn"):
@@ -219,7 +223,7 @@ class Crate:
                 if item.kind == "macro_rules!" and "#[macro_export]" in item.attributes and (source, item.at) not in found:
                     yield f"{source.path}:{item.at}: a macro that scripts/reading/exports.py gives to no page"
         text = (TOP / "crates" / self.name / "src/lib.rt").read_text(encoding="utf-8")
-        listed = {name for path, names in USED.findall(text) for name in re.findall(r"\w+", names)}
+        listed = {name for path, names in USED.findall(text) for name, _ in NAMED.findall(names)}
         yield from (f"crates/{self.name}/src/lib.rt: {it} is exported, and not found" for it in listed - self.names.keys() - {it for _, it in self.passed_on})
 
 

@@ -54,7 +54,7 @@ impl<A: Array> AnswersCalls for TinyVec<A> {
 }
 
 /// Makes the calls in order, and returns one answer to each. Allocates room for all answers first; if that fails, makes no
-/// call and returns the calls.
+/// call and returns the calls. Also exported as `run_slice`, since a `SliceVec` is an `ArrayVec` over a lent slice.
 pub fn run_array<S: Slots>(
     alloc: Global,
     vec: &mut ArrayVec<S>,
