@@ -12,6 +12,7 @@ from . import checking, edits, functions
 FLOOR = 90
 # How many times as long as without an edit a test may run, and how many seconds more: it may compile again to name a fault.
 SLOWER, MORE = 5, 300
+RANDOM = "random calls"
 
 CHOICE = """//! Which edit counts.
 
@@ -45,7 +46,8 @@ def find(found, room, jobs):
     count = len(left)
     with concurrent.futures.ThreadPoolExecutor(jobs) as pool:
         for name, tested, words in tests_of(room, known):
-            fit = [it for it in left if left[it].crate in tested]
+            # What only a test finds is a text, and random calls look at none.
+            fit = [it for it in left if left[it].crate in tested and (name != RANDOM or isinstance(it, int))]
             faults = pool.map(finder(name, words, room), fit) if fit else ()
             for key, fault in zip(fit, faults):
                 if fault is not None:
@@ -116,7 +118,7 @@ def tests_of(top, known):
     """The tests, those first that find most in least time: the name of each, the crates whose code it runs, and its command."""
     below = {it: {one.name for one in (*it.below, it)} for it in known.values()}
     answering = set().union(*(below[it] for it in below if it.name.endswith("_cases")))
-    yield "random calls", answering | {"tv", "example_dns_query"}, [top / "tests/random", "--try"]
+    yield RANDOM, answering | {"tv", "example_dns_query"}, [top / "tests/random", "--try"]
     yield "rows", answering, [top / "tests/answers", "--try"]
     for it in sorted(below, key=crates.Crate.has_tests):
         if it.has_tests() or it.files.get("stdout"):
