@@ -36,7 +36,8 @@ WAITING = re.compile(r"^rt: .*\bwaiting for ")
 # Goes to the start of a terminal's line, and removes what stands there.
 CLEAR = "\r\033[K"
 
-# What a built library has that no proof above can cite: its code, the proofs of single functions, sums over all of it, and
+# By this an edit of a body has `./check` leave the crates above alone, which saves minutes each time. What a built library has
+# that no proof above can cite: its code, the proofs of single functions, sums over all of it, and
 # what differs between a library of `rt ci` and one of `rt lib`.
 UNCITED = re.compile(r"toolchain/|lang/antt/made\.json$|lang/antt/proofs/.*/(?:Answers|Invariants|Proof)\.antt$")
 SUMS = re.compile(rb"^(?:(?:checked|sum|carries|needs|over|free|free-alone) .*|lists-free|incremental)\n", re.M)

@@ -1,7 +1,4 @@
-#!/usr/bin/env -S python3 -B
 """Writes tests/clauses.txt, the lock: what each public call states, and each function with its edits.
-
-usage: scripts/lists/clauses.py
 
 A line `clauses CALL: SUM NAMES` has the names of the call's clauses and a sum of what they state. A clause that cites a relation
 has the fields of that too, as proofs cite them: `room.place` is in `room(place)`. The fields of a clause without a name stand
@@ -19,17 +16,13 @@ import copy
 import functools
 import hashlib
 import re
-import sys
 
 from pages import reference
+from planting import edits, functions
 from reading import contracts, definitions, exports, sources
 
 TOP = exports.TOP
 LOCK = TOP / "tests/clauses.txt"
-EDITS = TOP / "tests/mutations"
-
-sys.path.insert(0, str(TOP / "tests"))
-from planting import edits, functions
 
 SUM = re.compile(r"([0-9a-f]{8})(?: |$)")
 CLAUSE = re.compile(r"ensures\*?(?: (\w+))? \{(.*)\}", re.S)
@@ -40,7 +33,7 @@ FORMS = {"SliceVec": "ArrayVec", "SliceVecDrain": "ArrayVecDrain"}
 ALIAS = ", of "
 
 
-def main():
+def write():
     names, sums = read()
     current, stated = found()
     for line, its in kept(names, current).items():
@@ -253,15 +246,11 @@ def edited():
 
 def edits_by_function():
     """Each function that edits may change, with one of its edits, or with none."""
-    folders = sorted(it for it in EDITS.iterdir() if it.is_dir())
-    all_edits, _ = edits.read_all(EDITS, [it.name for it in folders])
+    folders = sorted(it for it in edits.FOLDER.iterdir() if it.is_dir())
+    all_edits, _ = edits.read_all([it.name for it in folders])
     for crate in (it.name for it in folders):
         known = functions.of_crate(TOP / "crates" / crate)
         texts = edits.reader(TOP / "crates" / crate)
         yield from ((f"edits {crate} {it.path()}", None) for it in known)
         for edit in (it for it in all_edits if it.crate == crate and not edits.misfit(it, texts)):
             yield from ((f"edits {crate} {it}", edit) for it in {one.path() for one in edits.owners(edit, known, texts)})
-
-
-if __name__ == "__main__":
-    main()

@@ -1,7 +1,4 @@
-#!/usr/bin/env -S python3 -B
 """Holds what a caller can name to tests/surface.txt, which no change shortens unseen.
-
-usage: scripts/lists/surface.py
 
 The list has a line for each type, call, impl, derived trait, macro, variant, public field and feature of the Rust crate, and for
 each that only these crates have:
@@ -32,7 +29,7 @@ HEADING = re.compile(r"# (.*): (\d+) names$")
 OWN = "Of these crates alone"
 
 
-def main():
+def write():
     lines = LIST.read_text(encoding="utf-8").splitlines()
     at = next(at for at, it in enumerate(lines) if it.startswith(f"# {OWN}: "))
     own = sorted({*lines[at + 1 :], *lacking(lines)})
@@ -104,8 +101,7 @@ def inside(export):
         unnamed = re.match(r"pub struct \w+(?:<.*>)?\((.*)\);", code)
         fields += [at for at, it in enumerate(unnamed[1].split(", ")) if it.startswith("pub ")] if unnamed else []
         yield from (f"{name}::{it}" for it in fields)
-        derived = re.findall(r"#\[derive\((.*?)\)\]", " ".join(item.attributes))
-        yield from (f"{name}: {it}" for one in derived for it in re.findall(r"\w+", one))
+        yield from (f"{name}: {it}" for it in item.derives())
     if export.kind == "trait":
         yield from (f"{name}::{it.name}" for it in item.members() if it.kind in ("fn", "type", "const"))
 
@@ -127,7 +123,3 @@ def is_told(line, found):
 
 def differences():
     return [it.removeprefix("| ") for it in (TOP / "docs/DIFFERENCES.md").read_text(encoding="utf-8").splitlines()]
-
-
-if __name__ == "__main__":
-    main()

@@ -1,10 +1,7 @@
-#!/usr/bin/env -S python3 -B
 """Writes the reference, docs/reference/*.md: all that the library crates export, with contracts, callers and what differs in Rust.
 
 An entry has a signature, the `///`, what it requires, when it fails, when it cannot and what holds then (read off the clauses
 by scripts/pages/outcomes.py), what it costs (docs/reference/costs.txt), a caller, and the contract.
-
-usage: scripts/pages/reference.py
 
 `tests/docs` names the pages that differ from what this would write, exports that are on no page or on two, comments that are
 missing, and calls without a caller. What precedes the line MARK of a page is written by hand, and stays.
@@ -85,7 +82,7 @@ NO_WORDS = re.compile(r"\.declared\.|\.proofs\.|^std\.specs\.Prelude$")
 NAMES = re.compile(r"(\w+)(::|: )(\{[^}]*\}|\w+!?)")
 
 
-def main():
+def write():
     for file, above, _, text in pages():
         file.write_text(above + MARK + text, encoding="utf-8")
 
@@ -546,7 +543,3 @@ def difference(old, new):
     found = [it for it in dict.fromkeys(pairs) if it[0] != it[1]]
     is_small = len(old.split()) == len(new.split()) and len(found) <= 2 and all(re.fullmatch(r"\d+|true|false", part) for it in found for part in it)
     return found if is_small else None
-
-
-if __name__ == "__main__":
-    main()

@@ -1,8 +1,5 @@
-#!/usr/bin/env -S python3 -B
 """Writes docs/reference/WORDS.md: each word that a contract of the reference cites, what it means, and an example. A word that
 the definition of such a word cites, or a caller in the reference, is told too, if it has an example.
-
-usage: scripts/pages/words.py
 
 A meaning is the comment above the definition in crates/*/specs, after that of its module. An example is the statement of a
 lemma `example-WORD` in crates/*/proofs/words, in a file that imports the word. What precedes the line MARK of the
@@ -24,7 +21,7 @@ EXAMPLES = "crates/*/proofs/words"
 EXAMPLE = re.compile(r"^(?: *-- (?:of (\S+): )?(.*)\n)?( *)pub example-(\S+) : (.*(?:\n\3 +.*)*)$", re.M)
 
 
-def main():
+def write():
     PAGE.write_text(Words().page(), encoding="utf-8")
 
 
@@ -134,7 +131,3 @@ def plain(statement):
     statement = re.sub(r"\((\[[^]]*\])\)", r"\1", statement)
     statement = re.sub(r"\(nums (\[[^]]*\])\)|\bnums (\[[^]]*\])", lambda it: it[1] or it[2], statement)
     return re.sub(r"\(over (\[[^]]*\]) (\[[^]]*\])\)|\bover (\[[^]]*\]) (\[[^]]*\])", lambda it: f"({it[1] or it[3]} {it[2] or it[4]})", statement)
-
-
-if __name__ == "__main__":
-    main()

@@ -49,6 +49,9 @@ class Item:
             return self.lines
         return [*self.lines[:ends], re.sub(r" ?\{\}?$", "", self.lines[ends])]
 
+    def derives(self):
+        return re.findall(r"\w+", " ".join(re.findall(r"#\[derive\((.*?)\)\]", " ".join(self.attributes))))
+
     def members(self):
         """What stands in an impl or a trait."""
         above = len(self.head()) + (len(self.head()) < len(self.lines) and self.lines[len(self.head())] == "{")

@@ -14,14 +14,10 @@ import collections
 import functools
 import pathlib
 import re
-import sys
 
 from building import crates
-
-sys.path.append(str(crates.TOP / "tests"))
 from planting import edits
 
-EDITS = crates.TOP / "tests" / "mutations"
 DOCUMENTS = ("*.md", "docs/**/*.md", "crates/*/*.md")
 
 COMMENT = {".antt": re.compile(r"(?:^|(?<=\s))--(?=\s|$)[^\n]*", re.M), ".rt": re.compile(r"//[^\n]*")}
@@ -82,7 +78,7 @@ def faults(asked=()):
     sources = [Source(it.name, path, text.decode()) for it in known.values() for path, text in it.sources.items()]
     found = (it for it in Workspace(sources, documents()).faults() if it[0].crate in asked)
     yield from sorted(f"crates/{source.crate}/{source.path}: {what}" for source, what in found)
-    yield from sorted(misfits([it for it in asked if (EDITS / it).is_dir()], known))
+    yield from sorted(misfits([it for it in asked if (edits.FOLDER / it).is_dir()], known))
 
 
 def untold():
@@ -266,7 +262,7 @@ def stems(word):
 
 def misfits(names, known):
     """The edits of these crates that cannot be read or applied."""
-    found, broken = edits.read_all(EDITS, names)
+    found, broken = edits.read_all(names)
     texts = {name: edits.reader(known[name].folder) for name in names}
     broken += [(str(it), why) for it in found for why in [edits.misfit(it, texts[it.crate])] if why]
     return [f"tests/mutations: {name}: {why}" for name, why in broken]

@@ -3,6 +3,10 @@ import dataclasses
 import os
 import pathlib
 
+from building.crates import TOP
+
+FOLDER = TOP / "tests/mutations"
+
 
 class BadEdit(Exception):
     """An edit that cannot be applied, with the reason."""
@@ -49,12 +53,12 @@ class Edit:
         return {change.file for change in self.changes}
 
 
-def read_all(folder, crates):
+def read_all(crates):
     """The edits of the crates, file by file, and what is wrong with those that cannot be read."""
     edits, broken = [], []
     for crate in crates:
-        for path in sorted(it for it in (folder / crate).rglob("*") if it.is_file()):
-            name = path.relative_to(folder / crate)
+        for path in sorted(it for it in (FOLDER / crate).rglob("*") if it.is_file()):
+            name = path.relative_to(FOLDER / crate)
             try:
                 edits += read(crate, f"src/{name.with_suffix('.rt')}", path)
             except BadEdit as why:
