@@ -148,7 +148,7 @@ def stated(crate):
 
 def stated_by(export):
     """The calls of one export, each with the names of its clauses, and with what these state."""
-    scope = Scope.of(export.source.file)
+    scope = Scope(export.source.file)
     if export.item.kind == "fn":
         yield export.key(), *clauses_of(export.item, scope)
     members = list(exports.item_members(export.item))
@@ -184,59 +184,52 @@ def sum_of(text):
     return hashlib.sha256(text.encode()).hexdigest()[:8]
 
 
+@functools.cache
 class Scope:
-    """A file, with the relations that it defines and those that it imports."""
-
-    known = {}
-
-    @classmethod
-    def of(cls, file):
-        if file not in cls.known:
-            cls.known[file] = cls(file)
-        return cls.known[file]
+    """A file, with the words that it defines and those that it imports from specs/ of this repository."""
 
     def __init__(self, file):
-        self.imported = exports.imported(file.read_text(encoding="utf-8"))
+        known = exports.imported(file.read_text(encoding="utf-8"))
+        self.imported = {name: (source, own) for name, (path, own) in known.items() if (source := file_of(path))}
         words = definitions.words_of(file) if file.suffix == ".antt" else []
         # A variant is its type's.
         self.definitions = {name: word for word in words for name in (word.name, *word.variants)}
 
-    def home(self, name):
-        """The file that defines a relation, and its name there."""
-        if name in self.definitions:
-            return self, name
-        path, original = self.imported.get(name, ("", name))
-        crate, _, module = path.partition(".specs.")
-        file = TOP / "crates" / crate / "specs" / f"{module.replace('.', '/')}.antt"
-        return (Scope.of(file), original) if module and file.is_file() else (None, name)
+    def cited(self, names):
+        """Which of these names are words: the scope that defines each, and its definition."""
+        for name in dict.fromkeys(names):
+            if name in self.definitions:
+                yield self, self.definitions[name]
+            elif name in self.imported:
+                source, own = self.imported[name]
+                yield from ((Scope(source), it) for it in [Scope(source).definitions.get(own)] if it)
 
     def fields(self, text, above=()):
         """The fields of the relations that a text cites, and of those that these cite."""
-        for name in dict.fromkeys(WORD.findall(text)):
-            scope, own = self.home(name)
-            if scope is None or (scope, own) in above or own not in scope.definitions:
-                continue
-            word, inside = scope.definitions[own], (*above, (scope, own))
-            for field, type_ in word.fields:
-                yield field
-                yield from (f"{field}.{it}" for it in scope.fields(type_, inside))
-            if not word.kind:
-                yield from scope.fields(word.text.partition("=")[2], inside)
+        for scope, word in self.cited(WORD.findall(text)):
+            if word not in above:
+                for field, type_ in word.fields:
+                    yield field
+                    yield from (f"{field}.{it}" for it in scope.fields(type_, (*above, word)))
+                if not word.kind:
+                    yield from scope.fields(word.text.partition("=")[2], (*above, word))
 
     def whole(self, texts):
         """Texts, and the definitions that they cite, and those that these cite."""
-        reached, left = {}, list({it for text in texts for it in self.cited(text)})
+        reached, left = {}, [(self, text) for text in texts]
         while left:
-            scope, name = left.pop()
-            if (scope, name) not in reached:
-                reached[scope, name] = whole = scope.definitions[name].whole
-                left += scope.cited(whole)
-        return "\n".join([*map(squeezed, texts), *sorted(set(map(squeezed, reached.values())))])
+            scope, text = left.pop()
+            new = [it for it in scope.cited(sources.SPACE.split(text)) if it[1] not in reached]
+            reached |= {word: squeezed(word.whole) for _, word in new}
+            left += [(home, word.whole) for home, word in new]
+        return "\n".join([*map(squeezed, texts), *sorted(set(reached.values()))])
 
-    def cited(self, text):
-        """What a text cites of this repository: where it is defined, and its name there."""
-        found = (self.home(it) for it in set(sources.SPACE.split(text)))
-        return [(scope, name) for scope, name in found if scope and name in scope.definitions]
+
+@functools.cache
+def file_of(path):
+    """The file of specs/ that the words of a path stand in, if it is here."""
+    file = definitions.source_of(path)
+    return file if ".specs." in path and file.is_file() else None
 
 
 @functools.cache

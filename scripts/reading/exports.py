@@ -303,6 +303,7 @@ GHOST_USE = re.compile(r"(?:ghost )?use Rattle\.([\w.]+)\.\{([^}]*)\}")
 PASSED_ON = re.compile(r"^pub use Rattle\.([\w.]+)$", re.M)
 
 
+@functools.cache
 def imported(text):
     """The words that a source or a proof imports, each with its path and the name that it has there."""
     found = {}
@@ -312,6 +313,7 @@ def imported(text):
     return found
 
 
+@functools.cache
 def home(path):
     """The crate and the file that define the words of a path: a crate passes some on that are defined below it."""
     crate, _, rest = path.partition(".specs.")
