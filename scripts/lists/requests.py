@@ -48,8 +48,6 @@ class Table:
 def calls_of(crate):
     """The public calls that may hold or be passed an allocator, each with its type, or its crate if it is a function."""
     for it in exports.Crate(crate).exports():
-        # The text of an error that derives it.
-        yield from [(it.name, "fmt")] * (crate not in WITHOUT_ALLOCATOR and "Error" in it.item.derives())
         members = [it.item] if it.item.kind == "fn" else exports.item_members(it.item)
         for one in members:
             if one.kind == "fn" and (crate not in WITHOUT_ALLOCATOR or "alloc: " in one.signature()):
