@@ -1,8 +1,8 @@
 -- What is written for a line.
-use Rattle.std.specs.Prelude.{◌≡◌, ◌⊎◌, ℕ, ◌+◌, ◌^◌, ◌-◌, min, nat_eq, List, [], ◌∷◌, ◌++◌, Bool, if◌then◌else◌, codes}
-use Rattle.std.specs.List.{starts_with}
+use Rattle.std.specs.Prelude.{◌≡◌, ◌⊎◌, ℕ, ◌+◌, ◌^◌, ◌-◌, min, nat_eq, List, [], ◌∷◌, ◌++◌, take, length, Bool, if◌then◌else◌, codes}
+use Rattle.std.specs.List.{starts_with, ends_with}
 use Rattle.std.specs.Fmt.{decimal}
-use Rattle.example_nodes.specs.Words.{Word, beginnings, spelled}
+use Rattle.example_nodes.specs.Words.{Word, beginnings, leaves, spelled}
 use Rattle.example_nodes.specs.Machine.{Outcome, right, wrong}
 use Rattle.example_nodes.specs.Outcome.{outcome}
 use Rattle.example_nodes.specs.Squares.{squares_in, squares_outcome}
@@ -38,9 +38,22 @@ said_of f (wrong column fault) = wrong column fault
 abbrev pub begins_squares : List ℕ → Bool
 begins_squares line = starts_with nat_eq line (codes "[")
 
--- what a line has, or what is wrong with it, and how it is written
+-- the nodes of a sum end with a plus
+abbrev pub ends_sum : List ℕ → Bool
+ends_sum line = ends_with nat_eq line (codes "+")
+
+-- the numbers of a sum, and how many they are
+abbrev pub sum_said : List Word → List ℕ
+sum_said ws = nodes_said (leaves ws)
+
+-- what a line of nodes has, or what is wrong with it, and how it is written
+abbrev pub written_outcome : List ℕ → Outcome (List ℕ)
+written_outcome line =
+    if ends_sum line then said_of sum_said (outcome (take (length line - 1) line)) else said_of nodes_said (outcome line)
+
+-- what any line has
 abbrev pub line_outcome : List ℕ → Outcome (List ℕ)
-line_outcome line = if begins_squares line then said_of squares_said (squares_outcome line) else said_of nodes_said (outcome line)
+line_outcome line = if begins_squares line then said_of squares_said (squares_outcome line) else written_outcome line
 
 abbrev pub said : ℕ → Outcome (List ℕ) → List ℕ
 said number (right text) = text

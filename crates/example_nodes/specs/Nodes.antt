@@ -1,5 +1,5 @@
 -- The tree of a node.
-use Rattle.std.specs.Prelude.{List, map}
+use Rattle.std.specs.Prelude.{◌≡◌, ℕ, List, map}
 use Rattle.tinyvec.specs.TinyVec.{tiny_items}
 use Rattle.example_nodes.specs.Tree.{Tree, leaf, list, Trees, trees_of}
 use Rattle.example_nodes.specs.declared.node.Node.{Node, fold-Node}
@@ -15,3 +15,6 @@ view = fold-Node Tree view_step
 
 abbrev pub views : List Node → Trees
 views ns = trees_of (map view ns)
+
+abbrev pub IsNumber : Node → Type 0
+IsNumber node = (n : ℕ) × (view node ≡ leaf n)

@@ -14,6 +14,13 @@ beginnings (opening ∷ ws) = 1 + beginnings ws
 beginnings (closing ∷ ws) = beginnings ws
 beginnings (number n ∷ ws) = 1 + beginnings ws
 
+-- the leaves, in order: the words without the brackets
+abbrev pub leaves : List Word → List Word
+leaves [] = []
+leaves (opening ∷ ws) = leaves ws
+leaves (closing ∷ ws) = leaves ws
+leaves (number n ∷ ws) = number n ∷ leaves ws
+
 abbrev pub blank_if : Bool → List ℕ
 blank_if wanted = if wanted then 32 ∷ [] else []
 

@@ -4,6 +4,7 @@
 
 mod answer;
 mod count;
+mod flatten;
 mod node;
 mod parse;
 mod parse_error;
