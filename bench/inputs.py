@@ -2,7 +2,6 @@
 import random
 import string
 
-NAMES = ["x", "y", "total", "rate2", "a", "weighted", "remainderOfTheSums"]
 TYPES = ["A", "NS", "CNAME", "SOA", "PTR", "MX", "TXT", "AAAA"]
 WORDS = ["the", "The", "the", "cat", "CAT", "sat", "on", "a", "mat", "again", "AGAIN", "normalisation"]
 
@@ -36,22 +35,6 @@ def text(chance):
     return "".join(chance.choice(["", " ", " ", " \t"]) + chance.choice(WORDS) + " " for _ in range(count))
 
 
-def expression(chance):
-    """A sum or a product."""
-    return joined(chance, 0) + chance.choice([""] * 19 + [" +"])
-
-
-def joined(chance, depth):
-    operands = [operand(chance, depth + 1) for _ in range(chance.randint(2, 4))]
-    return chance.choice([" + ", " + ", " * ", "*"]).join(operands)
-
-
-def operand(chance, depth):
-    if depth < 4 and chance.random() < 0.4:
-        return f"({joined(chance, depth)})"
-    return chance.choice([str(chance.randrange(10 ** chance.randint(1, 12))), chance.choice(NAMES)])
-
-
 def question(chance):
     """A DNS query's number, name and type. A number in eleven is too large, a type in nine unknown."""
     labels = ["".join(chance.choices(string.ascii_lowercase, k=chance.randint(1, 12))) for _ in range(chance.randint(1, 5))]
@@ -59,4 +42,4 @@ def question(chance):
 
 
 # By the program that reads them.
-MAKERS = {"tv": command, "example_tidy": text, "example_tree": expression, "example_dns_query": question}
+MAKERS = {"tv": command, "example_tidy": text, "example_dns_query": question}

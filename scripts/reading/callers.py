@@ -12,7 +12,6 @@ CRATES = (
     "example_tidy",
     "example_lines",
     "example_dns_query",
-    "example_tree",
     "example_nodes",
     "example_records",
     "example_script",

@@ -1,4 +1,4 @@
-//! The benchmarks of `crates/tinyvec_bench` over the crates that users would pick instead, and four programs over
+//! The benchmarks of `crates/tinyvec_bench` over the crates that users would pick instead, and three programs over
 //! `tinyvec`. The first argument is `tinyvec`, `smallvec`, `arrayvec` or `vec`, or the name of a program. The benchmarks
 //! print checksums, with `rows ROUNDS` times too, and with `growth` in the place of `rows` those of the same calls at many
 //! lengths. A program reads standard input and writes standard output.
@@ -22,7 +22,6 @@ mod sources;
 mod spilling;
 mod texts;
 mod tidy;
-mod tree;
 mod tv;
 mod unbuffered;
 mod vector;
@@ -39,7 +38,6 @@ fn program(name: &str) -> Option<fn() -> io::Result<()>> {
     match name {
         "tv" => Some(tv::run),
         "example_tidy" => Some(tidy::run),
-        "example_tree" => Some(tree::run),
         "example_dns_query" => Some(dns_query::run),
         _ => None,
     }

@@ -10,3 +10,4 @@ pub mod Answered
 pub mod Texts
 pub mod Filled
 pub mod Spells
+pub mod Flattened

@@ -38,7 +38,7 @@ said_of f (wrong column fault) = wrong column fault
 abbrev pub begins_squares : List ℕ → Bool
 begins_squares line = starts_with nat_eq line (codes "[")
 
--- the nodes of a sum end with a plus
+-- a sum ends with a plus
 abbrev pub ends_sum : List ℕ → Bool
 ends_sum line = ends_with nat_eq line (codes "+")
 
@@ -46,14 +46,12 @@ ends_sum line = ends_with nat_eq line (codes "+")
 abbrev pub sum_said : List Word → List ℕ
 sum_said ws = nodes_said (leaves ws)
 
--- what a line of nodes has, or what is wrong with it, and how it is written
-abbrev pub written_outcome : List ℕ → Outcome (List ℕ)
-written_outcome line =
-    if ends_sum line then said_of sum_said (outcome (take (length line - 1) line)) else said_of nodes_said (outcome line)
-
--- what any line has
+-- what a line has, or what is wrong with it, and how it is written
 abbrev pub line_outcome : List ℕ → Outcome (List ℕ)
-line_outcome line = if begins_squares line then said_of squares_said (squares_outcome line) else written_outcome line
+line_outcome line =
+    if begins_squares line then said_of squares_said (squares_outcome line)
+    else (if ends_sum line then said_of sum_said (outcome (take (length line - 1) line))
+    else said_of nodes_said (outcome line))
 
 abbrev pub said : ℕ → Outcome (List ℕ) → List ℕ
 said number (right text) = text

@@ -1,5 +1,0 @@
-use Rattle.std.proofs.Common.{string_bytes, rules}
-use Rattle.example_tree.proofs.answer.RewriterAnswer.answer.Goals as goal
-
-pub returns : goal.returns
-returns c = (string_bytes c.in_ok-said.said, search rules, c.in_ok-said.ensures)
