@@ -24,7 +24,7 @@ Nodes = TinyVec (List Node) Node (UpTo 2)
 abbrev outer_words : List Nodes → List Word
 outer_words vs = followed_by opening (map nodes_words vs)
 
-words_push : (ns : List Node) (n : Node) → words_of (views (ns ++ n ∷ [])) ≡ words_of (views ns) ++ tree_words (view n)
+pub words_push : (ns : List Node) (n : Node) → words_of (views (ns ++ n ∷ [])) ≡ words_of (views ns) ++ tree_words (view n)
 words_push [] n = append-nil (tree_words (view n))
 words_push (m ∷ ns) n = ap (λ ws. tree_words (view m) ++ ws) (words_push ns n) ∙ sym (append_assoc (tree_words (view m)) (words_of (views ns)) (tree_words (view n)))
 

@@ -30,28 +30,22 @@ nodes_said ws = decimal (beginnings ws) ++ (codes ": " ++ (spelled ws ++ 10 ∷ 
 abbrev pub squares_said : List ℕ → List ℕ
 squares_said text = decimal (squares_in text) ++ (codes ": " ++ (text ++ 10 ∷ []))
 
-abbrev pub said_of : {A : Type 0} → (A → List ℕ) → Outcome A → Outcome (List ℕ)
+abbrev pub said_of : {A B : Type 0} → (A → B) → Outcome A → Outcome B
 said_of f (right read) = right (f read)
 said_of f (wrong column fault) = wrong column fault
+
+-- the words of a line of nodes; of one that ends with a plus, their leaves
+abbrev pub nodes_outcome : List ℕ → Outcome (List Word)
+nodes_outcome line =
+    if ends_with nat_eq line (codes "+") then said_of leaves (outcome (take (length line - 1) line)) else outcome line
 
 -- a line of squares begins with a bracket of theirs
 abbrev pub begins_squares : List ℕ → Bool
 begins_squares line = starts_with nat_eq line (codes "[")
 
--- a sum ends with a plus
-abbrev pub ends_sum : List ℕ → Bool
-ends_sum line = ends_with nat_eq line (codes "+")
-
--- the numbers of a sum, and how many they are
-abbrev pub sum_said : List Word → List ℕ
-sum_said ws = nodes_said (leaves ws)
-
 -- what a line has, or what is wrong with it, and how it is written
 abbrev pub line_outcome : List ℕ → Outcome (List ℕ)
-line_outcome line =
-    if begins_squares line then said_of squares_said (squares_outcome line)
-    else (if ends_sum line then said_of sum_said (outcome (take (length line - 1) line))
-    else said_of nodes_said (outcome line))
+line_outcome line = if begins_squares line then said_of squares_said (squares_outcome line) else said_of nodes_said (nodes_outcome line)
 
 abbrev pub said : ℕ → Outcome (List ℕ) → List ℕ
 said number (right text) = text

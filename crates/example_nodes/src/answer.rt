@@ -1,17 +1,12 @@
 //! The answer to a line.
-ghost use Rattle.std.specs.Prelude.{◌≡◌, ◌<◌, ◌^◌, IfOk, IfErr, string_bytes};
-ghost use Rattle.example_nodes.specs.Nodes.{views};
-ghost use Rattle.example_nodes.specs.Tree.{all_nodes, words_of};
+ghost use Rattle.std.specs.Prelude.{◌≡◌, IfOk, IfErr, string_bytes};
 ghost use Rattle.example_nodes.specs.Machine.{right};
-ghost use Rattle.example_nodes.specs.Outcome.{outcome};
 ghost use Rattle.example_nodes.specs.Squares.{squares_outcome};
 ghost use Rattle.example_nodes.specs.Faults.{IsSaid};
-ghost use Rattle.example_nodes.specs.Answer.{AnswersLine, later, line_outcome, said_of, nodes_said, sum_said, squares_said};
+ghost use Rattle.example_nodes.specs.Answer.{AnswersLine, later, line_outcome, nodes_outcome, said_of, nodes_said, squares_said};
 
 use crate::count::count;
-use crate::flatten::flatten;
-use crate::node::Node;
-use crate::parse::parse;
+use crate::flatten::parse_nodes;
 use crate::parse_error::ParseError;
 use crate::print::push_trees;
 use crate::squares::{count_squares, parse_squares, push_squares};
@@ -56,39 +51,18 @@ fn written(alloc: Global, line: &[u8]) -> Result<String, ParseError>
     if line.starts_with(b"[") {
         return written_squares(alloc, line);
     }
-    if line.ends_with(b"+") {
-        return written_sum(alloc, &line[..line.len() - 1]);
-    }
     written_nodes(alloc, line)
 }
 
 // The number of nodes and the trees of a line.
 fn written_nodes(alloc: Global, line: &[u8]) -> Result<String, ParseError>
-    ensures right { IfOk result (λ text. said_of nodes_said (outcome line.now) ≡ right (string_bytes text)) }
-    ensures wrong { IfErr result (IsSaid (outcome line.now)) }
+    ensures right { IfOk result (λ text. said_of nodes_said (nodes_outcome line.now) ≡ right (string_bytes text)) }
+    ensures wrong { IfErr result (IsSaid (nodes_outcome line.now)) }
 {
-    let nodes = parse(alloc, line)?;
-    Ok(told(alloc, nodes.as_slice())?)
-}
-
-// The number of leaves of a line that is a sum, and the leaves.
-fn written_sum(alloc: Global, line: &[u8]) -> Result<String, ParseError>
-    ensures right { IfOk result (λ text. said_of sum_said (outcome line.now) ≡ right (string_bytes text)) }
-    ensures wrong { IfErr result (IsSaid (outcome line.now)) }
-{
-    let mut nodes = parse(alloc, line)?;
-    flatten(alloc, &mut nodes)?;
-    Ok(told(alloc, nodes.as_slice())?)
-}
-
-// How many nodes some trees have, and the trees.
-fn told(alloc: Global, trees: &[Node]) -> Result<String, AllocError>
-    requires fits { all_nodes (views trees.now) < 2 ^ 64 }
-    ensures { IfOk result (λ text. string_bytes text ≡ nodes_said (words_of (views trees.now))) }
-{
-    let count = count(trees);
+    let trees = parse_nodes(alloc, line)?;
+    let count = count(trees.as_slice());
     let mut text = format!(in alloc; "{count}: ")?;
-    push_trees(&mut text, trees)?;
+    push_trees(&mut text, trees.as_slice())?;
     text.push('\n')?;
     Ok(text)
 }
