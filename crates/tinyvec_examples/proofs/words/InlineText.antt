@@ -4,7 +4,7 @@ use Rattle.std.proofs.lemmas.Str.{chars-nil}
 use Rattle.std.specs.Prelude.{All, chars}
 use Rattle.tinyvec.specs.View.{in_array, on_heap, lies_inline, capacity_in}
 use Rattle.tinyvec.specs.TinyVec.{tiny_items, tiny_spare}
-use Rattle.tinyvec_text.specs.InlineText.{Text, Bytes, text_of, text_view, text_chars, text_len, IsText, TextStaysInPlace, TextBecomes, TextKeepsFront, TextReserves, TextShrinks, TextExtends, TextMadeFor, TextCollects, IsTextTail, IsBoundary, empty_text, place_after, place_after_chars, place_after_texts}
+use Rattle.tinyvec_text.specs.InlineText.{Text, Bytes, text_of, text_view, text_chars, text_len, IsText, TextStaysInPlace, TextBecomes, TextKeepsFront, TextReserves, TextShrinks, TextExtends, TextMadeFor, TextCollects, IsTextTail, IsTextClone, IsBoundary, empty_text, place_after, place_after_chars, place_after_texts}
 
 -- these bytes, in the value
 abbrev pub inline : List ℕ → Text
@@ -64,6 +64,9 @@ example-TextCollects = search rules
 
 pub example-IsTextTail : IsTextTail 4 1 (inline (97 ∷ 98 ∷ [])) (inline (98 ∷ []))
 example-IsTextTail = search rules
+
+pub example-IsTextClone : IsTextClone 4 (inline (97 ∷ 98 ∷ [])) (inline (97 ∷ 98 ∷ []))
+example-IsTextClone = search rules
 
 pub example-TextExtends : TextExtends 4 (inline (97 ∷ [])) (inline (97 ∷ 98 ∷ []))
 example-TextExtends = search rules

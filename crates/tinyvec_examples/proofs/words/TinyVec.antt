@@ -1,5 +1,5 @@
 -- Examples of a `TinyVec` whose array has four slots. `inline xs ys` has the list xs in the array, and the spare slots ys.
-use Rattle.std.proofs.Common.{◌≡◌, ℕ, List, [], ◌∷◌, ◌++◌, length, Ok, Option, Result, true, false, refl, rules, arith}
+use Rattle.std.proofs.Common.{◌≡◌, ℕ, List, [], ◌∷◌, ◌++◌, length, Ok, Option, Result, true, false, ap, refl, rules, arith}
 use Rattle.std.specs.Global.{Global}
 use Rattle.tinyvec_array.specs.declared.bound.UpTo.{UpTo}
 use Rattle.tinyvec_array.specs.UpTo.{up_to}
@@ -8,7 +8,7 @@ use Rattle.tinyvec_array.proofs.Named.{array_slots}
 use Rattle.tinyvec.specs.declared.tiny_vec.TinyVec.{TinyVec}
 use Rattle.tinyvec.specs.declared.tiny_vec.TinyVec.TheVariants.{Inline}
 use Rattle.tinyvec.specs.TinyVec.{tiny_items, tiny_items_of, tiny_len_of, tiny_spare, tiny_spare_of, is_inline, IsInline, tiny_capacity, tiny_allocator, tiny_view, tiny_view_of}
-use Rattle.tinyvec.specs.View.{HoldsInline, IsNew, SameFrame, Becomes, StaysInPlace, ShortensInPlace, IsTail, Unchanged, IsTinyClone, IsTinyInfallible, PlaceRule, TinySlotRule, in_array}
+use Rattle.tinyvec.specs.View.{TinyView, view_capacity, HoldsInline, IsNew, SameFrame, Becomes, StaysInPlace, ShortensInPlace, IsTail, Unchanged, IsTinyClone, IsTinyInfallible, PlaceRule, TinySlotRule, in_array}
 use Rattle.tinyvec.specs.Room.{Collects, KeepsRoom, GrowsTo, Grows, MadeFor, MakesRoom, MovesToHeap}
 use Rattle.tinyvec.specs.Refused.{RefusedFor, ClonesBehind, ClonesRefused}
 use Rattle.tinyvec.specs.Following.{PushesItems}
@@ -37,6 +37,12 @@ module _ (alloc : Global) where
 
   pub example-tiny_view_of : tiny_view_of G (inline (1 ∷ []) (0 ∷ 0 ∷ 0 ∷ [])) ≡ record { items = 1 ∷ []; spare = 0 ∷ 0 ∷ 0 ∷ []; place = in_array }
   example-tiny_view_of = refl
+
+  pub example-TinyView : (v : TinyView ℕ) → v.items ++ v.spare ≡ 1 ∷ 0 ∷ [] → length (v.items ++ v.spare) ≡ 2
+  example-TinyView v slots = ap length slots
+
+  pub example-view_capacity : view_capacity 4 (tiny_view (inline (1 ∷ []) (0 ∷ 0 ∷ 0 ∷ []))) ≡ 4
+  example-view_capacity = refl
 
   pub example-tiny_len_of : tiny_len_of G (inline (1 ∷ 2 ∷ []) (0 ∷ 0 ∷ [])) ≡ 2
   example-tiny_len_of = refl
