@@ -38,6 +38,7 @@ module _ (alloc : Global) where
   pub example-tiny_view_of : tiny_view_of G (inline (1 ∷ []) (0 ∷ 0 ∷ 0 ∷ [])) ≡ record { items = 1 ∷ []; spare = 0 ∷ 0 ∷ 0 ∷ []; place = in_array }
   example-tiny_view_of = refl
 
+  -- v is a `TinyView ℕ`
   pub example-TinyView : (v : TinyView ℕ) → v.items ++ v.spare ≡ 1 ∷ 0 ∷ [] → length (v.items ++ v.spare) ≡ 2
   example-TinyView v slots = ap length slots
 
