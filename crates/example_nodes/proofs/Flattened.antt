@@ -8,14 +8,10 @@ use Rattle.example_nodes.specs.Nodes.{view, views, IsNumber}
 use Rattle.example_nodes.specs.declared.node.Node.{Node}
 use Rattle.example_nodes.specs.declared.node.Node.TheVariants.{Number}
 use Rattle.example_nodes.proofs.Views.{view_number}
-use Rattle.example_nodes.proofs.States.{words_push}
+use Rattle.example_nodes.proofs.States.{words_both, words_push}
 
 abbrev pub words_in : List Node → List Word
 words_in ns = words_of (views ns)
-
-words_both : (ms ns : List Node) → words_in (ms ++ ns) ≡ words_in ms ++ words_in ns
-words_both [] ns = refl
-words_both (m ∷ ms) ns = ap (λ ws. tree_words (view m) ++ ws) (words_both ms ns) ∙ sym (append_assoc (tree_words (view m)) (words_in ms) (words_in ns))
 
 leaves_both : (ws vs : List Word) → leaves (ws ++ vs) ≡ leaves ws ++ leaves vs
 leaves_both [] vs = refl

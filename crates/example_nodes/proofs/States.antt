@@ -1,5 +1,5 @@
 -- What a step of the parser does to its state.
-use Rattle.std.proofs.Common.{◌≡◌, ◌∙◌, ℕ, zero, suc, ◌+◌, ◌-◌, ◌<◌, ◌==◌, List, [], ◌∷◌, ◌++◌, map, length, vec_len, if◌then◌else◌, None, Some, sym, ap, arith, append_assoc}
+use Rattle.std.proofs.Common.{◌≡◌, ◌∙◌, ℕ, zero, suc, ◌+◌, ◌-◌, ◌<◌, ◌==◌, List, [], ◌∷◌, ◌++◌, map, length, vec_len, if◌then◌else◌, None, Some, refl, sym, ap, arith, append_assoc}
 use Rattle.std.proofs.lemmas.List.{append-nil}
 use Rattle.std.proofs.Math.Dec.{eqb-suc-zero}
 use Rattle.tinyvec.specs.TinyVec.{tiny_items}
@@ -24,9 +24,12 @@ Nodes = TinyVec (List Node) Node (UpTo 2)
 abbrev outer_words : List Nodes → List Word
 outer_words vs = followed_by opening (map nodes_words vs)
 
+pub words_both : (ms ns : List Node) → words_of (views (ms ++ ns)) ≡ words_of (views ms) ++ words_of (views ns)
+words_both [] ns = refl
+words_both (m ∷ ms) ns = ap (λ ws. tree_words (view m) ++ ws) (words_both ms ns) ∙ sym (append_assoc (tree_words (view m)) (words_of (views ms)) (words_of (views ns)))
+
 pub words_push : (ns : List Node) (n : Node) → words_of (views (ns ++ n ∷ [])) ≡ words_of (views ns) ++ tree_words (view n)
-words_push [] n = append-nil (tree_words (view n))
-words_push (m ∷ ns) n = ap (λ ws. tree_words (view m) ++ ws) (words_push ns n) ∙ sym (append_assoc (tree_words (view m)) (words_of (views ns)) (tree_words (view n)))
+words_push ns n = words_both ns (n ∷ []) ∙ ap (λ ws. words_of (views ns) ++ ws) (append-nil (tree_words (view n)))
 
 -- one node more
 pub nodes_push : (old new : Nodes) (n : Node) (t : Tree) → tiny_items new ≡ tiny_items old ++ n ∷ [] → view n ≡ t → nodes_words new ≡ nodes_words old ++ tree_words t

@@ -1,4 +1,4 @@
-use Rattle.std.proofs.Common.{◌≡◌, ◌∙◌, suc, length, reverse, All, sym, ap, subst, arith}
+use Rattle.std.proofs.Common.{rules, ◌≡◌, ◌∙◌, suc, length, reverse, All, sym, ap, subst, arith}
 use Rattle.tinyvec_array.proofs.Named.{array_slots}
 use Rattle.tinyvec.specs.TinyVec.{tiny_items}
 use Rattle.tinyvec.proofs.TinyLemmas.{tiny_items-with, tiny_items-with_item}
@@ -15,7 +15,7 @@ way c =
     let items = tiny_items c.into_inner.result in
     let holds = view_items c.index_mut.result.now c.in-List.items items (sym c.take.ensures.value ∙ c.in-List.is) (ap tiny_items c.into_inner.ensures) in
     way_given xs _ (tiny_items c.loop-last.flat) (tiny_items c.splice_all.new.self) c.in-Some.last c.index_mut.result.now c.take.new.dest len c.index_mut.ensures.value
-    (tiny_items-with_item (array_slots 2) c.loop-last.nodes c.in-Some.last c.take.new.dest (omega (arith, len))) items put.0 holds put.1.rest put.3
+    (tiny_items-with_item (array_slots 2) c.loop-last.nodes c.in-Some.last c.take.new.dest (omega (arith, len))) items put.0 holds put.1.rest (search (rules, put.3))
 
 pub loop-last-smaller-in-Continue-1 : goal.loop-last-smaller-in-Continue-1
 loop-last-smaller-in-Continue-1 c = (way c).2
@@ -29,7 +29,7 @@ moved c =
     let len : suc c.in-Some.last ≡ length xs = omega (arith, c.in-Some.ensures, c.len.ensures.value) in
     number_pushed xs _ (tiny_items c.loop-last.flat) (tiny_items c.truncate.new.self) c.in-Some.last c.index_mut.result.now c.take.new.dest len c.index_mut.ensures.value
     (tiny_items-with_item (array_slots 2) c.loop-last.nodes c.in-Some.last c.take.new.dest (omega (arith, len)))
-    c.in-Number.number (tiny_items c.push.new.self) (sym c.take.ensures.value ∙ c.in-Number.is) c.truncate.ensures.items c.in_ok-push-in-Number.ensures.items
+    c.in-Number.number (tiny_items c.push.new.self) (search rules) (search rules) (search rules)
 
 pub loop-last-smaller : goal.loop-last-smaller
 loop-last-smaller c = (moved c).2
