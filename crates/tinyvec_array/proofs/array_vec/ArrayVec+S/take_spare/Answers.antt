@@ -1,5 +1,20 @@
-use Rattle.tinyvec_slots.proofs.BorderLemmas.{spare-set}
+use Rattle.std.proofs.Common.{arith, ◌+◌}
+use Rattle.std.proofs.lemmas.List.{take-set-le}
+use Rattle.tinyvec_slots.proofs.BorderLemmas.{border, spare-set}
+use Rattle.tinyvec_array.proofs.ViewLemmas.{parts_of}
 use Rattle.tinyvec_array.proofs.array_vec.ArrayVec+S.take_spare.Goals as goal
+
+pub bounded_index-requires-2 : goal.bounded_index-requires-2
+bounded_index-requires-2 g c = omega (arith, parts_of g.S.Slots c.args.self.now)
+
+pub returns-clause-items : goal.returns-clause-items
+returns-clause-items g c =
+    let v = c.args.self.now in
+    let k = g.S.Slots.count v.len in
+    let slots = g.S.Slots.slots v.slots in
+    let n = c.len-len.result in
+    let ends = border k slots n c.len-len.ensures.value (omega (arith, c.requires)) in
+    rw (g.S.Slots.slots_written, c.bounded_index.ensures, c.bounded_index-2.ensures, c.as_slice_mut.ensures.value) (take-set-le k slots (n + c.args.i) c.take.new.dest (omega (arith, ends)))
 
 pub returns-clause-spare : goal.returns-clause-spare
 returns-clause-spare g c =

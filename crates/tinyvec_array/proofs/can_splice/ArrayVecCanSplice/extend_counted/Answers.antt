@@ -14,3 +14,9 @@ pub returns-in-Err-clause-grown : goal.returns-in-Err-clause-grown
 returns-in-Err-clause-grown g c =
     let (it, xs, begun, run, is) = c.extend.ensures.items.ran in
     grown g.S.Slots g.S.Item.Default.is_default c.args.self.now c.extend.new.self xs is c.extend.ensures.grows
+
+pub returns-in-Ok-clause-fits : goal.returns-in-Ok-clause-fits
+returns-in-Ok-clause-fits g c = omega (arith, parts_of g.S.Slots c.extend.new.self)
+
+pub returns-in-Err-clause-fits : goal.returns-in-Err-clause-fits
+returns-in-Err-clause-fits g c = omega (arith, parts_of g.S.Slots c.extend.new.self)

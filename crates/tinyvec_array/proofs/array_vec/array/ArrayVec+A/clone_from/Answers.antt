@@ -60,3 +60,6 @@ returns g c =
       refused = tt;
       succeeds = λ _. refl;
     }
+
+pub returns-in_err-clone_over_from-clause-lender : goal.returns-in_err-clone_over_from-clause-lender
+returns-in_err-clone_over_from-clause-lender g c = search rules

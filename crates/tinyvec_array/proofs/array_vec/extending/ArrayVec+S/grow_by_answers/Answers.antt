@@ -1,4 +1,4 @@
-use Rattle.std.proofs.Common.{◌∷◌, [], refl, ◌++◌, ◌-◌, length, ap, ◌∙◌, arith, append_assoc, length-drop, of_calls}
+use Rattle.std.proofs.Common.{rules, ◌∷◌, [], refl, ◌++◌, ◌-◌, length, ap, ◌∙◌, arith, append_assoc, length-drop, of_calls}
 use Rattle.std.specs.Fn.{Called}
 use Rattle.std.proofs.SliceLists.{chained_more}
 use Rattle.std.proofs.iter.Next.{called}
@@ -41,3 +41,6 @@ loop-self-preserved g c =
       callable = search of_calls;
       lender = SameLender-then g.S.Slots _ _ _ at.invariant.lender put.lender;
     }
+
+pub returns : goal.returns
+returns g c = search rules
