@@ -10,7 +10,7 @@ returns-in_err-write_clones g c =
     let written = g.S.Slots.slots_written v.slots c.write_clones.new.slots in
     let h = rw (c.as_slice_mut.ensures.value, ← written) at c.in_err-write_clones.ensures.refused in
     record {
-      lender = record { same_reference = search rules; slot_count = ap length written ∙ c.write_clones.auto.slots ∙ ap length c.as_slice_mut.ensures.value };
+      lender = record { same_reference = g.S.Slots.name_kept v.slots c.write_clones.new.slots; slot_count = ap length written ∙ c.write_clones.auto.slots ∙ ap length c.as_slice_mut.ensures.value };
       clones = clones_not_added g.S.Item.Clone (view_of g.S.Slots v) c.len-len.result c.len-len.ensures.value c.args.other.now _ c.requires.room _ (search rules) h.0 h.1 h.2;
     }
 
@@ -20,7 +20,7 @@ returns g c =
     let written = g.S.Slots.slots_written v.slots c.write_clones.new.slots in
     let made = rw (c.as_slice_mut.ensures.value, ← written) at c.in_ok-write_clones.ensures.ok in
     record {
-      lender = record { same_reference = search rules; slot_count = ap length written ∙ c.write_clones.auto.slots ∙ ap length c.as_slice_mut.ensures.value };
+      lender = record { same_reference = g.S.Slots.name_kept v.slots c.write_clones.new.slots; slot_count = ap length written ∙ c.write_clones.auto.slots ∙ ap length c.as_slice_mut.ensures.value };
       clones = rw c.to_len.ensures.number (clones_added g.S.Item.Clone (view_of g.S.Slots v) c.len-len.result c.len-len.ensures.value c.args.other.now _ c.requires.room _ refl made);
     }
 

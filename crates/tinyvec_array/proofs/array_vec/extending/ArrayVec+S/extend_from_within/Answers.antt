@@ -16,7 +16,7 @@ returns-in_err-clone_within g c =
     let written = g.S.Slots.slots_written v.slots c.clone_within.new.slots in
     let h = rw (c.as_slice_mut.ensures.value, range.0, ← written) at c.in_err-clone_within.ensures.refused in
     record {
-      lender = record { same_reference = search rules; slot_count = ap length written ∙ c.clone_within.auto.slots ∙ ap length c.as_slice_mut.ensures.value };
+      lender = record { same_reference = g.S.Slots.name_kept v.slots c.clone_within.new.slots; slot_count = ap length written ∙ c.clone_within.auto.slots ∙ ap length c.as_slice_mut.ensures.value };
       clones = clones_not_added g.S.Item.Clone (view_of g.S.Slots v) len.result len.ensures.value (removed (items_of g.S.Slots v) first last) _ c.requires.room _ (search rules) h.0 h.1 h.2;
     }
 
@@ -31,7 +31,7 @@ returns g c =
     let written = g.S.Slots.slots_written v.slots c.clone_within.new.slots in
     let made = rw (c.as_slice_mut.ensures.value, range.0, ← written) at c.in_ok-clone_within.ensures.ok in
     record {
-      lender = record { same_reference = search rules; slot_count = ap length written ∙ c.clone_within.auto.slots ∙ ap length c.as_slice_mut.ensures.value };
+      lender = record { same_reference = g.S.Slots.name_kept v.slots c.clone_within.new.slots; slot_count = ap length written ∙ c.clone_within.auto.slots ∙ ap length c.as_slice_mut.ensures.value };
       clones = rw (c.to_len.ensures.number, range.1) (clones_added g.S.Item.Clone (view_of g.S.Slots v) len.result len.ensures.value (removed (items_of g.S.Slots v) first last) _ c.requires.room _ refl made);
     }
 
