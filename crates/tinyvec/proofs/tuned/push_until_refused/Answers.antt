@@ -50,3 +50,8 @@ loop-i-preserved g c =
       room = search rules;
       capacity = search rules;
     }
+
+pub returns-in_default-clone-4-clause-refused : goal.returns-in_default-clone-4-clause-refused
+returns-in_default-clone-4-clause-refused g c = λ _.
+    let at = c.index-from-i in
+    refused_at g.T.Clone.is_infallible c.args.from.now c.loop-i.i at.result c.loop-i-test.true at.is c.in_default-clone-4.ensures.cases

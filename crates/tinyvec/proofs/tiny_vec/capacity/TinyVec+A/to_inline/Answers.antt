@@ -1,4 +1,4 @@
-use Rattle.std.proofs.Common.{◌≡◌, ◌+◌, ◌-◌, ◌∷◌, ◌++◌, [], length, ap, ◌∙◌, sym, arith, append_assoc, length-append, length-drop}
+use Rattle.std.proofs.Common.{rules, ◌≡◌, ◌+◌, ◌-◌, ◌∷◌, ◌++◌, [], length, ap, ◌∙◌, sym, arith, append_assoc, length-append, length-drop}
 use Rattle.std.proofs.lemmas.List.{length_push}
 use Rattle.std.proofs.lemmas.List.Elements.{All-drop}
 use Rattle.std.specs.Vec.Iter.{drain_items}
@@ -26,3 +26,6 @@ loop-x-preserved g c =
       room = omega (arith, inv.room, c.requires);
       defaults = rw (put.spare) (All-drop g.A.Item.Default.is_default 1 (spare_of g.A.Slots old) inv.defaults);
     }
+
+pub returns : goal.returns
+returns g c = search rules

@@ -1,4 +1,4 @@
-use Rattle.std.proofs.Common.{◌≡◌, [], ◌∷◌, ◌++◌, length, refl, sym, ap, ◌∙◌, arith}
+use Rattle.std.proofs.Common.{rules, ◌≡◌, [], ◌∷◌, ◌++◌, length, refl, sym, ap, ◌∙◌, arith}
 use Rattle.std.proofs.lemmas.List.{length_push}
 use Rattle.tinyvec.specs.TinyVec.{tiny_items_of}
 use Rattle.tinyvec.proofs.FrameLemmas.{Took, took_inline, took_heap, took_grown}
@@ -43,3 +43,6 @@ returns g c =
       full = tt;
       value_returned = tt;
     }
+
+pub returns-then-is_err : goal.returns-then-is_err
+returns-then-is_err g c = search rules

@@ -1,4 +1,4 @@
-use Rattle.std.proofs.Common.{◌≡◌, ◌<◌, ◌+◌, ◌-◌, ◌++◌, refl, take, take_all, sym, ap, ◌∙◌, arith}
+use Rattle.std.proofs.Common.{rules, ◌≡◌, ◌<◌, ◌+◌, ◌-◌, ◌++◌, refl, take, take_all, sym, ap, ◌∙◌, arith}
 use Rattle.tinyvec.specs.TinyVec.{tiny_items_of, tiny_len_of, tiny_view_of}
 use Rattle.tinyvec.proofs.FrameLemmas.{made_room}
 use Rattle.tinyvec.proofs.tiny_vec.extending.TinyVec+A.resize_by_answers.Goals as goal
@@ -17,3 +17,6 @@ returns-then-n-len-clause-room g c =
     let many : tiny_len_of g.A.Slots c.args.self.now + (c.args.n - c.len-len.result) ≡ c.args.n = omega (arith, c.len-len.ensures.value) in
     made_room _ g.A.Item.Default.is_default _ _ (tiny_view_of g.A.Slots c.args.self.now) (tiny_view_of g.A.Slots c.push_answers.new.self) (tiny_view_of g.A.Slots c.reserve.new.self) _ _ refl
     (λ i. ap (tiny_view_of g.A.Slots) (c.in_ok-reserve.ensures.stays i)) (rw many at c.in_ok-reserve.ensures.room) c.push_answers.ensures.frame
+
+pub returns-in_err-reserve : goal.returns-in_err-reserve
+returns-in_err-reserve g c = search rules
