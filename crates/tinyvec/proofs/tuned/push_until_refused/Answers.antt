@@ -55,3 +55,6 @@ pub returns-in_default-clone-4-clause-refused : goal.returns-in_default-clone-4-
 returns-in_default-clone-4-clause-refused g c = λ _.
     let at = c.index-from-i in
     refused_at g.T.Clone.is_infallible c.args.from.now c.loop-i.i at.result c.loop-i-test.true at.is c.in_default-clone-4.ensures.cases
+
+pub returns-clause-items : goal.returns-clause-items
+returns-clause-items g c = search rules

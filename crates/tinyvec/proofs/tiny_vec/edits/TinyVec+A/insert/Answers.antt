@@ -46,3 +46,6 @@ returns g c =
       full = tt;
       value_returned = tt;
     }
+
+pub returns-then-is_err : goal.returns-then-is_err
+returns-then-is_err g c = search rules
