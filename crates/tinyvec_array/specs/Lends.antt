@@ -48,6 +48,6 @@ module _ (S L I : RattleType) (g : Storage.Ghosts S.Denot I.Denot L.Denot) (v : 
   abbrev pub lends_inner : MutBor (List I.Denot) → Fml
   lends_inner r = Lends (the_row S L) (Array I 0) v r (at_slots g v.now)
 
--- once the borrow r ends, the slots are those of the array that r shows last
+-- once the borrow r ends, the vector is over the array or the lent slice that r shows last
 abbrev pub lends_array_of : (A L : RattleType) → MutBor (ArrayVec A.Denot L.Denot) → MutBor A.Denot → Fml
 lends_array_of A L v r = Lends (the_row A L) A v r (λ a. record v.now { slots = a })
