@@ -3,7 +3,8 @@ ghost use Rattle.std.specs.Prelude.{◌≡◌, IfOk, IfErr, string_bytes};
 ghost use Rattle.example_nodes.specs.Machine.{right};
 ghost use Rattle.example_nodes.specs.Squares.{squares_outcome};
 ghost use Rattle.example_nodes.specs.Faults.{IsSaid};
-ghost use Rattle.example_nodes.specs.Answer.{AnswersLine, later, line_outcome, nodes_outcome, said_of, nodes_said, squares_said};
+ghost use Rattle.example_nodes.specs.Answer.{AnswersLine, later, line_outcome, nodes_outcome};
+ghost use Rattle.example_nodes.specs.Answer.{said_of, nodes_said, squares_said};
 
 use crate::count::count;
 use crate::flatten::parse_nodes;

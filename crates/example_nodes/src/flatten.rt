@@ -16,7 +16,7 @@ use std::alloc::{AllocError, Global};
 use std::mem::{replace, take};
 use tinyvec::TinyVec;
 
-/// Reads a line as trees. If it ends with a plus, they are a sum.
+/// Reads a line as trees. One that ends with a plus is a sum, of which only the numbers are left.
 pub fn parse_nodes(alloc: Global, line: &[u8]) -> Result<Nodes, ParseError>
     ensures right { IfOk result (λ nodes. nodes_outcome line.now ≡ right (nodes_words nodes)) }
     ensures fits { IfOk result (λ nodes. all_nodes (views (tiny_items nodes)) < 2 ^ 64) }
