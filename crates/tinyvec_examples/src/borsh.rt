@@ -1,6 +1,6 @@
 //! What callers can prove of every type that can be written and read.
 ghost use Rattle.std.specs.Prelude.{◌≡◌, ◌⊎◌, ◌++◌, ℕ, List, map, IfErr, IfOk};
-ghost use Rattle.tinyvec_array.specs.ArrayVec.{items, items_of};
+ghost use Rattle.tinyvec_array.specs.ArrayVec.{items_of};
 ghost use Rattle.tinyvec.specs.TinyVec.{tiny_items, tiny_items_of};
 ghost use Rattle.tinyvec_borsh.specs.Code.{TellsApart};
 ghost use Rattle.tinyvec_borsh.specs.Reading.{ReadsBack};
@@ -10,7 +10,6 @@ use std::io::Read;
 use tinyvec::{Array, ArrayVec, TinyVec};
 use tinyvec_borsh::{BorshDeserialize, BorshError, BorshSerialize};
 use tinyvec_io::Counted;
-use tinyvec_text::InlineText;
 
 /// If the input begins with the spelling of a content that fits, a value of that content is read, and what follows
 /// stays unread, unless the reader faults or memory is refused.
@@ -38,17 +37,6 @@ pub fn copied<T: BorshSerialize + BorshDeserialize>(alloc: Global, v: &T) -> Res
     T::deserialize_reader(alloc, &mut reader)
 }
 
-/// A list that was written is read again as an equal list, of all items that differ only where their contents do.
-pub fn copied_array<A: Array>(alloc: Global, v: &ArrayVec<A>) -> Result<ArrayVec<A>, BorshError>
-where
-    A::Item: BorshSerialize + BorshDeserialize,
-    requires { TellsApart A.Item.content_of }
-    ensures same { IfOk result (λ w. items_of A.Slots w ≡ items_of A.Slots v.now) }
-    ensures err { IfErr result (λ e. (e ≡ BorshError.Io) ⊎ (e ≡ BorshError.Memory)) }
-{
-    copied(alloc, v)
-}
-
 /// The same of a list that may be on the heap.
 pub fn copied_tiny<A: Array>(alloc: Global, v: &TinyVec<A>) -> Result<TinyVec<A>, BorshError>
 where
@@ -72,27 +60,4 @@ where
     ensures err { IfErr result (λ e. (e ≡ BorshError.Io) ⊎ (e ≡ BorshError.Memory)) }
 {
     copied(alloc, v)
-}
-
-/// A text that was written is read again.
-pub fn copied_text<const N: usize>(
-    alloc: Global,
-    t: &InlineText<N>,
-) -> Result<InlineText<N>, BorshError>
-    ensures same { IfOk result (λ u. u.bytes ≡ t.now.bytes) }
-    ensures err { IfErr result (λ e. (e ≡ BorshError.Io) ⊎ (e ≡ BorshError.Memory)) }
-{
-    copied(alloc, t)
-}
-
-/// That holds of whole numbers, since they are their own contents.
-pub fn copied_numbers(
-    alloc: Global,
-    unsigned: &TinyVec<[u16; 4]>,
-    signed: &ArrayVec<[i64; 4]>,
-) -> Result<(TinyVec<[u16; 4]>, ArrayVec<[i64; 4]>), BorshError>
-    ensures unsigned { IfOk result (λ w. tiny_items w.0 ≡ tiny_items unsigned.now) }
-    ensures signed { IfOk result (λ w. items w.1 ≡ items signed.now) }
-{
-    Ok((copied_tiny(alloc, unsigned)?, copied_array(alloc, signed)?))
 }

@@ -1,20 +1,10 @@
 //! Callers of a drain.
 ghost use Rattle.std.specs.Prelude.{◌≡◌, ◌-◌, ◌++◌, ◌∷◌, [], pos, Some, slice_get};
-ghost use Rattle.tinyvec_array.specs.ArrayVec.{items, items_of, view_of};
-ghost use Rattle.tinyvec_array.specs.Slots.{SlotRule};
+ghost use Rattle.tinyvec_array.specs.ArrayVec.{items_of};
 ghost use Rattle.tinyvec_array.specs.Ranges.{IsRangeOf, before, removed, after};
 
 use std::ops::RangeBounds;
 use tinyvec_array::{Array, ArrayVec};
-
-/// Run to its end by a `for`.
-pub fn run_to_its_end() -> [i32; 4]
-    ensures { result ≡ pos 1 ∷ pos 4 ∷ pos 0 ∷ pos 0 ∷ [] }
-{
-    let mut v = ArrayVec::from_array_len([1, 2, 3, 4], 4);
-    for _x in v.drain(1..3) {}
-    v.into_inner()
-}
 
 /// Dropped after one item.
 pub fn after_next() -> (Option<i32>, [i32; 4])
@@ -40,36 +30,6 @@ pub fn after_next_back() -> (Option<i32>, [i32; 4])
     (x, v.into_inner())
 }
 
-/// The last item of all.
-pub fn last_drained() -> Option<i32>
-    ensures { result ≡ Some (pos 3) }
-{
-    let mut v = ArrayVec::from_array_len([1, 2, 3, 4], 4);
-    v.drain(1..3).last()
-}
-
-/// How many items are left, after one of two.
-pub fn counted() -> (usize, (usize, Option<usize>))
-    ensures len { result.0 ≡ 1 }
-    ensures hint { result.1 ≡ (1, Some 1) }
-{
-    let mut v = ArrayVec::from_array_len([1, 2, 3, 4], 4);
-    let mut d = v.drain(1..3);
-    let _first = d.next();
-    (d.len(), d.size_hint())
-}
-
-/// Any range of any vector: what preceded and followed it is left.
-pub fn cut<A: Array, R: RangeBounds<usize>>(v: &mut ArrayVec<A>, range: R)
-    requires not_exhausted { R.has_bounds range }
-    requires in_list { IsRangeOf (items_of A.Slots v.old) (R.start_bound range) (R.end_bound range) }
-    ensures items { items_of A.Slots v.new
-        ≡ before (items_of A.Slots v.old) (R.start_bound range) ++ after (items_of A.Slots v.old) (R.end_bound range) }
-    ensures slot_rule { SlotRule A.Item.is_default (view_of A.Slots v.old) (view_of A.Slots v.new) }
-{
-    drop(v.drain(range));
-}
-
 /// The item at `n` of any range of any vector. Those before it and those after it are gone too.
 pub fn nth_of<A: Array, R: RangeBounds<usize>>(
     v: &mut ArrayVec<A>,
@@ -80,7 +40,6 @@ pub fn nth_of<A: Array, R: RangeBounds<usize>>(
     requires in_list { IsRangeOf (items_of A.Slots v.old) (R.start_bound range) (R.end_bound range) }
     ensures item { result ≡ slice_get (removed (items_of A.Slots v.old) (R.start_bound range) (R.end_bound range)) n }
     ensures left { items_of A.Slots v.new ≡ before (items_of A.Slots v.old) (R.start_bound range) ++ after (items_of A.Slots v.old) (R.end_bound range) }
-    ensures slot_rule { SlotRule A.Item.is_default (view_of A.Slots v.old) (view_of A.Slots v.new) }
 {
     let mut d = v.drain(range);
     d.nth(n)

@@ -1,19 +1,8 @@
 //! Callers of `push`, `try_push` and `pop`.
-ghost use Rattle.std.specs.Prelude.{◌≡◌, ◌<◌, ◌∷◌, [], ◌++◌, pos, Some};
+ghost use Rattle.std.specs.Prelude.{◌≡◌, ◌<◌, ◌∷◌, [], ◌++◌, pos};
 ghost use Rattle.tinyvec_array.specs.ArrayVec.{items_of, len_of};
 
 use tinyvec_array::{Array, ArrayVec};
-
-/// A full vector returns the item, and is as it was.
-pub fn push_on_full<A: Array>(v: &mut ArrayVec<A>, x: A::Item) -> Option<A::Item>
-    requires { len_of A.Slots v.old ≡ A.CAPACITY }
-    ensures back { result ≡ Some x }
-    ensures same { v.new ≡ v.old }
-{
-    // For the proof: how many slots there are.
-    let _slots = v.capacity();
-    v.try_push(x)
-}
 
 /// Appends `x` if `is_full` says that there is room.
 pub fn push_if_room<A: Array>(v: &mut ArrayVec<A>, x: A::Item)

@@ -1,4 +1,4 @@
-//! Idioms of code over Rust's `tinyvec`, as they are written here. No file of proof is needed for any of them.
+//! Idioms of code over Rust's `tinyvec` that no other example has, as they are written here. None needs a file of proof.
 ghost use Rattle.std.specs.Prelude.{◌≡◌, ◌-◌, ◌≤◌, length};
 ghost use Rattle.tinyvec.specs.TinyVec.{tiny_len};
 
@@ -41,16 +41,6 @@ pub fn has_one(v: &TinyVec<[u32; 4]>) -> bool {
     false
 }
 
-/// `for x in v`, of an owned vector.
-pub fn had_one(v: TinyVec<[u32; 4]>) -> bool {
-    for x in v {
-        if x == 1 {
-            return true;
-        }
-    }
-    false
-}
-
 /// `for x in v`, of one that is lent for writing.
 pub fn set_all(v: &mut TinyVec<[u32; 4]>) {
     for x in v {
@@ -71,20 +61,6 @@ pub fn grouped(
 /// `v == xs`: both sides are slices.
 pub fn equals_slice(v: &TinyVec<[u32; 4]>, xs: &[u32]) -> bool {
     v.as_slice() == xs
-}
-
-/// `xs.iter().copied().collect()`.
-pub fn collected(xs: &[u32]) -> Option<ArrayVec<[u32; 4]>> {
-    let mut v = ArrayVec::new();
-    match v.try_extend_from_slice(xs) {
-        Ok(()) => Some(v),
-        Err(_) => None,
-    }
-}
-
-/// `v.extend(xs.iter().copied())`, which returns whether all found room.
-pub fn extend(v: &mut ArrayVec<[u32; 4]>, xs: &[u32]) -> bool {
-    v.extend(xs.iter().copied()).is_ok()
 }
 
 /// `v.first_chunk::<2>()`.
@@ -127,10 +103,5 @@ pub fn append_to(out: &mut Vec<u8>, v: &ArrayVec<[u8; 4]>) -> Result<(), AllocEr
 #[derive(Clone, Drop)]
 pub struct Named {
     pub name: TinyVec<[u8; 8]>,
-    pub marks: Option<TinyVec<[u32; 2]>>,
-}
-
-/// `named.clone()`.
-pub fn copy_of(named: &Named) -> Result<Named, AllocError> {
-    named.clone()
+    pub number: u32,
 }

@@ -6,7 +6,6 @@ pub mod calls;
 pub mod clones;
 pub mod comparing;
 pub mod draining;
-pub mod edits;
 pub mod ends;
 pub mod extracting;
 pub mod idioms;

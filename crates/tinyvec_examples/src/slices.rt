@@ -2,9 +2,6 @@
 
 pub mod draining;
 pub mod edits;
-pub mod filling;
-pub mod keeping;
 pub mod lending;
 pub mod making;
-pub mod parting;
 pub mod writing;

@@ -30,17 +30,6 @@ pub fn one_from_each_end<A: Array, I: DoubleEndedIterator<Item = A::Item>>(
     (first, last)
 }
 
-/// Replaces the whole list of any vector, as far as there is room.
-pub fn replace_all<A: Array>(vec: &mut ArrayVec<A>, replacement: Vec<A::Item>)
-    ensures fits { len_of A.Slots vec.new ≤ A.CAPACITY }
-    ensures slot_rule { SlotRule A.Item.is_default (view_of A.Slots vec.old) (view_of A.Slots vec.new) }
-{
-    // For the proof: how many slots there are.
-    let _slots = vec.capacity();
-    let splice = vec.splice(.., replacement);
-    let _finished = splice.finish();
-}
-
 /// Replaces a range of any vector by any replacement with two ends, of which one item is taken from each end.
 pub fn replace<A: Array, I: DoubleEndedIterator<Item = A::Item>>(
     vec: &mut ArrayVec<A>,

@@ -127,9 +127,9 @@ pub fn middle_drained(alloc: Global) -> TinyVec<[i32; 4]>
 }
 
 /// The list cut in two and joined again is the same list.
-pub fn cut_and_joined<A: Array>(v: &mut TinyVec<A>, at: usize) -> Result<(), AllocError>
-    requires { at ≤ tiny_len_of A.Slots v.old }
-    ensures { OnOk result (tiny_items_of A.Slots v.new ≡ tiny_items_of A.Slots v.old) }
+pub fn cut_and_joined(v: &mut TinyVec<[u32; 4]>, at: usize) -> Result<(), AllocError>
+    requires { at ≤ tiny_len v.old }
+    ensures { OnOk result (tiny_items v.new ≡ tiny_items v.old) }
 {
     let mut tail = v.split_off(at)?;
     v.append(&mut tail)

@@ -1,9 +1,10 @@
 //! Callers of an `ArrayVec`.
-ghost use Rattle.std.specs.Prelude.{◌≡◌, ◌≢◌, ◌+◌, ◌<◌, ◌≤◌, ◌∷◌, [], ◌++◌, ◌↔◌, ◌==◌, length, take, pos, IsTrue, IsOk, IsSome, OnOk, OnErr, IfOk, IfSome, IfNone, true, ◌-◌, if◌then◌else◌, is_ok};
+ghost use Rattle.std.specs.Prelude.{◌≡◌, ◌+◌, ◌<◌, ◌≤◌, ◌∷◌, [], ◌++◌, ◌↔◌, ◌==◌, length, take, pos, IsTrue, IsOk, IsSome, OnErr, IfOk, IfSome, IfNone, ◌-◌, if◌then◌else◌, is_ok, vec_len, vec_capacity};
 ghost use Rattle.tinyvec_array.specs.ArrayVec.{items, spare, items_len, items_of, len_of};
+ghost use Rattle.std.specs.List.{dedup, swap_remove};
 
 use std::alloc::{AllocError, Global};
-use tinyvec_array::{Array, ArrayVec, ArrayVecIterator, TryFromSliceError};
+use tinyvec_array::{Array, ArrayVec, TryFromSliceError};
 
 /// An array whose slots are all spare.
 pub fn over_slots() -> ArrayVec<[i32; 3]>
@@ -28,22 +29,6 @@ pub fn of_slice(numbers: &[u32]) -> Result<ArrayVec<[u32; 4]>, TryFromSliceError
     ArrayVec::try_from_slice(numbers)
 }
 
-/// The number of items that still fit.
-pub fn room<A: Array>(v: &ArrayVec<A>) -> usize
-    ensures { len_of A.Slots v.now + result ≡ A.CAPACITY }
-{
-    v.capacity() - v.len()
-}
-
-/// As many spare slots are lent.
-pub fn spare_slots<A: Array>(v: &ArrayVec<A>) -> usize
-    ensures { len_of A.Slots v.now + result ≡ A.CAPACITY }
-{
-    // A vector that was lent is not known to fit until a call says so.
-    let _len = v.len();
-    v.grab_spare_slice().len()
-}
-
 /// The first slot, which may be spare.
 pub fn first_slot<const N: usize>(v: &ArrayVec<[u8; N]>) -> Option<u8>
     ensures { IsSome result ↔ (0 < N) }
@@ -51,25 +36,12 @@ pub fn first_slot<const N: usize>(v: &ArrayVec<[u8; N]>) -> Option<u8>
     v.as_inner().first().copied()
 }
 
-/// Whether there is a last item, which is dropped.
-pub fn drop_last<A: Array>(v: &mut ArrayVec<A>) -> bool
-    ensures last { IsTrue result ↔ (items_of A.Slots v.old ≢ []) }
+/// The first item, whose place the last one takes.
+pub fn first_swapped<A: Array>(v: &mut ArrayVec<A>) -> A::Item
+    requires { 0 < len_of A.Slots v.old }
+    ensures { items_of A.Slots v.new ≡ swap_remove (items_of A.Slots v.old) 0 result }
 {
-    if v.is_empty() {
-        return false;
-    }
-    let _last = v.pop();
-    true
-}
-
-/// The last item takes the place of the first.
-pub fn first_swapped() -> (i32, ArrayVec<[i32; 4]>)
-    ensures first { result.0 ≡ pos 1 }
-    ensures items { items result.1 ≡ pos 4 ∷ pos 2 ∷ pos 3 ∷ [] }
-{
-    let mut v = ArrayVec::from_array([1, 2, 3, 4]);
-    let first = v.swap_remove(0);
-    (first, v)
+    v.swap_remove(0)
 }
 
 /// A full vector returns the item.
@@ -111,13 +83,6 @@ where
     v.extend_from_slice_copy(more);
 }
 
-/// The first `n` items.
-pub fn cut_to<A: Array>(v: &mut ArrayVec<A>, n: usize)
-    ensures { items_of A.Slots v.new ≡ take n (items_of A.Slots v.old) }
-{
-    v.truncate(n);
-}
-
 /// No items.
 pub fn emptied<A: Array>(v: &mut ArrayVec<A>)
     ensures { items_of A.Slots v.new ≡ [] }
@@ -134,13 +99,13 @@ pub fn copied(v: &mut ArrayVec<[u8; 8]>, source: &ArrayVec<[u8; 8]>)
     }
 }
 
-/// Each run of equal numbers as one.
-pub fn without_repeats() -> ArrayVec<[i32; 5]>
-    ensures { items result ≡ pos 1 ∷ pos 2 ∷ pos 1 ∷ [] }
+/// Each run of equal items as one.
+pub fn without_repeats<A: Array>(v: &mut ArrayVec<A>)
+where
+    A::Item: PartialEq,
+    ensures { items_of A.Slots v.new ≡ dedup A.Item.eq (items_of A.Slots v.old) }
 {
-    let mut v = ArrayVec::from_array([1, 1, 2, 2, 1]);
     v.dedup();
-    v
 }
 
 /// Neighbours whose last digits are the same count as equal.
@@ -183,13 +148,11 @@ pub fn count_of_zeros(v: &ArrayVec<[u8; 8]>) -> usize {
     v.iter().filter(|x| **x == 0).count()
 }
 
-/// The first items, as many as there is room for.
-pub fn first_four(numbers: ArrayVec<[u32; 8]>) -> ArrayVec<[u32; 4]>
-    ensures { items result ≡ take 4 (items numbers) }
+/// The first items of another vector, as many as there is room for.
+pub fn filled(v: &mut ArrayVec<[u32; 4]>, numbers: ArrayVec<[u32; 8]>)
+    ensures { items v.new ≡ items v.old ++ take (length (spare v.old)) (items numbers) }
 {
-    let mut v = ArrayVec::new();
     let _rest = v.fill(numbers);
-    v
 }
 
 /// A list of four, the new items 9.
@@ -224,55 +187,36 @@ pub fn try_in_vec<A: Array>(v: &mut ArrayVec<A>, alloc: Global) -> Result<Vec<A:
     v.try_drain_to_vec(alloc)
 }
 
-/// The list in a `Vec`, and one item after it, for which there is room.
-pub fn in_vec_with<A: Array>(
+/// The same, with room for `n` items more.
+pub fn in_vec_with_room<A: Array>(
     v: &mut ArrayVec<A>,
     alloc: Global,
-    x: A::Item,
+    n: usize,
 ) -> Result<Vec<A::Item>, AllocError>
-    ensures { IfOk result (λ out. out.items ≡ items_of A.Slots v.old ++ x ∷ []) }
+    ensures items { IfOk result (λ out. out.items ≡ items_of A.Slots v.old) }
+    ensures room { IfOk result (λ out. vec_len out + n ≤ vec_capacity out) }
 {
-    let mut out = v.drain_to_vec_and_reserve(alloc, 1)?;
-    out.push_reserved(x);
-    Ok(out)
+    v.drain_to_vec_and_reserve(alloc, n)
 }
 
 /// The same, by the other name.
-pub fn try_in_vec_with<A: Array>(
+pub fn try_in_vec_with_room<A: Array>(
     v: &mut ArrayVec<A>,
     alloc: Global,
-    x: A::Item,
+    n: usize,
 ) -> Result<Vec<A::Item>, AllocError>
-    ensures { IfOk result (λ out. out.items ≡ items_of A.Slots v.old ++ x ∷ []) }
+    ensures { IfOk result (λ out. out.items ≡ items_of A.Slots v.old) }
 {
-    let mut out = v.try_drain_to_vec_and_reserve(alloc, 1)?;
-    out.push_reserved(x);
-    Ok(out)
+    v.try_drain_to_vec_and_reserve(alloc, n)
 }
 
-/// All items, moved after those of a `Vec` that has room.
-pub fn moved_into<A: Array>(v: &mut ArrayVec<A>, alloc: Global) -> Result<Vec<A::Item>, AllocError>
-    ensures moved { IfOk result (λ out. out.items ≡ items_of A.Slots v.old) }
-    ensures left { OnOk result (items_of A.Slots v.new ≡ []) }
+/// A splice that is stopped at once has touched no slot, and taken its range out.
+pub fn taken_out(v: &mut ArrayVec<[u8; 8]>, n: usize) -> u128
+    requires { n ≤ items_len v.old }
+    ensures touches { result ≡ 0 }
+    ensures items { items v.new ≡ take n (items v.old) }
 {
-    let mut out = Vec::with_capacity(alloc, v.len())?;
-    v.drain_into(.., &mut out);
-    Ok(out)
-}
-
-/// A splice that is stopped at once has taken its range out.
-pub fn taken_out<A: Array>(v: &mut ArrayVec<A>, n: usize)
-    requires { n ≤ len_of A.Slots v.old }
-    ensures { items_of A.Slots v.new ≡ take n (items_of A.Slots v.old) }
-{
-    let _rest = v.splice(n.., None).stop();
-}
-
-/// A splice that has only begun has touched nothing.
-pub fn untouched<A: Array>(v: &mut ArrayVec<A>) -> u128
-    ensures { result ≡ 0 }
-{
-    let splice = v.splice(.., None);
+    let splice = v.splice(n.., None);
     let touches = splice.touches();
     let _rest = splice.stop();
     touches
@@ -292,26 +236,6 @@ pub fn taken_at(v: &mut ArrayVec<[u32; 4]>, i: usize) -> Option<u32>
     v.pop_at(i)
 }
 
-/// The last item of any vector, taken out if it equals `x`.
-pub fn pop_equal<A: Array>(v: &mut ArrayVec<A>, x: &A::Item) -> Option<A::Item>
-where
-    A::Item: PartialEq,
-    ensures { IfSome result (λ y. (items_of A.Slots v.old ≡ items_of A.Slots v.new ++ y ∷ []) × (A.Item.eq y x.now ≡ true)) }
-{
-    v.pop_if(|y| *y == *x)
-}
-
-/// The second and third number once more, which allocates nothing.
-pub fn repeated() -> ArrayVec<[i32; 6]>
-    ensures { items result ≡ pos 1 ∷ pos 2 ∷ pos 3 ∷ pos 4 ∷ pos 2 ∷ pos 3 ∷ [] }
-{
-    let mut v = ArrayVec::from_array_len([1, 2, 3, 4, 0, 0], 4);
-    match v.extend_from_within(1..3) {
-        Ok(()) => v,
-        Err(_) => unreachable!(),
-    }
-}
-
 /// Numbers appended if all of them fit. Else nothing changes.
 pub fn append_all(v: &mut ArrayVec<[u32; 4]>, numbers: &[u32]) -> Result<(), TryFromSliceError>
     ensures fits { IsOk result ↔ (items_len v.old + length numbers.now ≤ 4) }
@@ -322,10 +246,18 @@ pub fn append_all(v: &mut ArrayVec<[u32; 4]>, numbers: &[u32]) -> Result<(), Try
     v.try_extend_from_slice(numbers)
 }
 
-/// An iterator, and its clone over the same items.
-pub fn both(
-    items: ArrayVecIterator<[u32; 4]>,
-) -> Result<(ArrayVecIterator<[u32; 4]>, ArrayVecIterator<[u32; 4]>), AllocError> {
-    let copy = items.clone()?;
-    Ok((items, copy))
+/// The list cut in two and joined again is the same list.
+pub fn cut_and_joined(v: &mut ArrayVec<[u32; 4]>, at: usize)
+    requires { at ≤ items_len v.old }
+    ensures { items v.new ≡ items v.old }
+{
+    let mut tail = v.split_off(at);
+    v.append(&mut tail);
+}
+
+/// The last number, taken out if it is below a limit.
+pub fn popped_below(v: &mut ArrayVec<[u8; 8]>, limit: u8) -> Option<u8>
+    ensures { IfSome result (λ x. (items v.old ≡ items v.new ++ x ∷ []) × (x < limit)) }
+{
+    v.pop_if(|x| *x < limit)
 }

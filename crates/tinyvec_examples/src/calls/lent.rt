@@ -1,16 +1,9 @@
 //! Callers of a `SliceVec`.
-ghost use Rattle.std.specs.Prelude.{◌≡◌, ◌+◌, ◌-◌, ◌<◌, ◌≤◌, ◌↔◌, ◌∷◌, [], ◌++◌, length, IsTrue, IsSome, IfSome, OnOk};
+ghost use Rattle.std.specs.Prelude.{◌≡◌, ◌+◌, ◌-◌, ◌<◌, ◌≤◌, ◌↔◌, length, IsTrue, OnOk};
 ghost use Rattle.tinyvec_array.specs.SliceVec.{items, spare, slots};
 
 use std::alloc::AllocError;
 use tinyvec_array::SliceVec;
-
-/// The first item.
-pub fn first(v: &SliceVec<'_, u8>) -> Option<u8>
-    ensures { IsSome result ↔ (0 < length (items v.now)) }
-{
-    v.as_slice().first().copied()
-}
 
 /// How many items still fit: as many as there are spare slots.
 pub fn room(v: &SliceVec<'_, u8>) -> usize
@@ -33,18 +26,6 @@ pub fn is_unused(v: &SliceVec<'_, u8>) -> bool
     v.is_empty()
 }
 
-/// Every item is set to 0. A loop over `as_mut_slice().iter_mut()` lets a proof know more.
-pub fn zeroed(v: &mut SliceVec<'_, u8>) {
-    for x in v.iter_mut() {
-        *x = 0;
-    }
-}
-
-/// How many items are 0.
-pub fn zeros(v: &SliceVec<'_, u8>) -> usize {
-    v.iter().filter(|x| **x == 0).count()
-}
-
 /// A list of as many items as there are slots, the new ones 9.
 pub fn filled_up(v: &mut SliceVec<'_, u8>)
     ensures { length (items v.new) ≡ length (slots v.old) }
@@ -62,19 +43,12 @@ pub fn parted(v: &mut SliceVec<'_, u8>, n: usize) -> usize
     tail.len()
 }
 
-/// How many items still fit.
-pub fn left(v: &SliceVec<'_, u8>) -> usize
-    ensures { result ≡ length (spare v.now) }
+/// The first item alone, before copies of a number.
+pub fn cut_to_one(v: &mut SliceVec<'_, u8>, x: u8)
+    requires { 1 ≤ length (items v.old) }
+    ensures { length (items v.new) ≡ 1 }
 {
-    v.remaining_capacity()
-}
-
-/// The last number, taken out if it is below a limit.
-pub fn popped_below(v: &mut SliceVec<'_, u8>, limit: u8) -> Option<u8>
-    ensures taken { IfSome result (λ x. (items v.old ≡ items v.new ++ x ∷ []) × (x < limit)) }
-    ensures slot_count { length (slots v.new) ≡ length (slots v.old) }
-{
-    v.pop_if(|x| *x < limit)
+    let _done = v.resize(1, x);
 }
 
 /// The numbers from `n` on, once more.

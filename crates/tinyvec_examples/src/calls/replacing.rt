@@ -1,13 +1,13 @@
 //! Callers that replace a range as a whole.
 ghost use Rattle.std.specs.Prelude.{◌≡◌, ◌+◌, ◌≤◌, ◌++◌, ◌∷◌, [], pos, take, drop, OnOk, OnErr};
-ghost use Rattle.tinyvec_array.specs.ArrayVec.{items, items_len, items_of, len_of};
+ghost use Rattle.tinyvec_array.specs.ArrayVec.{items, items_len};
 ghost use Rattle.tinyvec.specs.TinyVec.{tiny_items, tiny_len, tiny_view};
 ghost use Rattle.tinyvec.specs.View.{Unchanged};
 
 use std::alloc::AllocError;
 use std::iter::{Copied, Fuse};
 use std::slice;
-use tinyvec::{Array, ArrayVec, CapacityError, SpliceRest, TinyVec};
+use tinyvec::{ArrayVec, CapacityError, SpliceRest, TinyVec};
 
 /// A word in the place of the first two bytes, if there is room for it.
 pub fn spelled(v: &mut ArrayVec<[u8; 16]>, word: &[u8]) -> Result<(), CapacityError>
@@ -28,21 +28,28 @@ pub fn word_put_in(v: &mut TinyVec<[u8; 16]>, at: usize, word: &[u8]) -> Result<
     v.replace_range(at..at, word)
 }
 
-/// Copies of a slice's items at a place of any `ArrayVec`. The first that finds no room is returned, with the others.
-pub fn copies_put_in<'a, T: Copy + Default + Drop + 'a, A: Array<Item = T>>(
-    v: &mut ArrayVec<A>,
+/// Copies of numbers at a place. The first that finds no room is returned, with the others.
+pub fn copies_put_in<'a>(
+    v: &mut ArrayVec<[u32; 8]>,
     at: usize,
-    more: &'a [T],
-) -> Result<(), SpliceRest<T, Fuse<Copied<slice::Iter<'a, T>>>>>
-    requires { at ≤ len_of A.Slots v.old }
-    ensures { OnOk result (items_of A.Slots v.new ≡ take at (items_of A.Slots v.old) ++ more.now ++ drop at (items_of A.Slots v.old)) }
+    more: &'a [u32],
+) -> Result<(), SpliceRest<u32, Fuse<Copied<slice::Iter<'a, u32>>>>>
+    requires { at ≤ items_len v.old }
+    ensures { OnOk result (items v.new ≡ take at (items v.old) ++ more.now ++ drop at (items v.old)) }
 {
     v.splice_all(at..at, more.iter().copied())
 }
 
-/// The characters of a text before the others. True unless memory is refused for one.
-pub fn spelled_before(v: &mut TinyVec<[char; 4]>, text: &str) -> bool {
-    v.splice_all(0..0, text.chars()).is_ok()
+/// The same of a vector that may move to the heap.
+pub fn copies_put_in_tiny<'a>(
+    v: &mut TinyVec<[u32; 8]>,
+    at: usize,
+    more: &'a [u32],
+) -> Result<(), SpliceRest<u32, Fuse<Copied<slice::Iter<'a, u32>>>>>
+    requires { at ≤ tiny_len v.old }
+    ensures { OnOk result (tiny_items v.new ≡ take at (tiny_items v.old) ++ more.now ++ drop at (tiny_items v.old)) }
+{
+    v.splice_all(at..at, more.iter().copied())
 }
 
 /// An array's items in the place of a range, by `splice` and `finish`.

@@ -55,13 +55,9 @@ pub fn cut_if_whole(text: &mut InlineText<8>, at: usize) -> bool
     true
 }
 
-/// Whether there is a last character, which is dropped.
-pub fn drop_last(text: &mut InlineText<8>) -> bool {
-    if text.is_empty() {
-        return false;
-    }
-    let _last = text.pop();
-    true
+/// The last character, if there is one, which is taken off.
+pub fn take_last(text: &mut InlineText<8>) -> Option<char> {
+    text.pop()
 }
 
 /// No characters, with the room that it had.
@@ -125,13 +121,6 @@ pub fn as_string(text: InlineText<8>) -> Result<String, NoMemory<InlineText<8>>>
     text.into_string()
 }
 
-/// The same by the conversion that generic code takes.
-pub fn converted(text: InlineText<8>) -> Result<String, NoMemory<InlineText<8>>>
-    ensures { IfOk result (λ s. string_bytes s ≡ text.bytes) }
-{
-    String::try_from(text)
-}
-
 /// A text of two characters, which has room in the value, so that no call can fail.
 pub fn initials(alloc: Global, first: char, last: char) -> InlineText<8>
     ensures { text_chars result ≡ first ∷ last ∷ [] }
@@ -177,15 +166,12 @@ pub fn without_blanks(text: &mut InlineText<8>) {
     text.retain(|c| c != ' ');
 }
 
-/// The first `n` bytes replaced, if a character ends there.
-pub fn with_front(text: &mut InlineText<8>, n: usize, front: &str) -> Result<bool, AllocError>
-    ensures { IfOk result (λ done. IsTrue done → text.new.bytes ≡ front.now ++ drop n text.old.bytes) }
+/// The first `n` bytes replaced.
+pub fn with_front(text: &mut InlineText<8>, n: usize, front: &str) -> Result<(), AllocError>
+    requires { IsBoundary (text_chars text.old) n }
+    ensures { OnOk result (text.new.bytes ≡ front.now ++ drop n text.old.bytes) }
 {
-    if !text.is_char_boundary(n) {
-        return Ok(false);
-    }
-    text.replace_range(..n, front)?;
-    Ok(true)
+    text.replace_range(..n, front)
 }
 
 /// The text from the byte `at` on, which is cut off.
@@ -224,16 +210,6 @@ pub fn made(alloc: Global) -> InlineText<8>
     ensures { result.bytes ≡ [] }
 {
     MadeWith::made_with(alloc)
-}
-
-/// The two sides of the first equals sign, as those of a `str`.
-pub fn key_and_value(text: &InlineText<8>) -> Option<(&str, &str)> {
-    text.split_once('=')
-}
-
-/// The words after the text, one after another.
-pub fn add_words(text: &mut InlineText<8>, words: &[&str]) -> Result<(), AllocError> {
-    text.extend(words.iter().copied())
 }
 
 /// The characters of a `str`, in the value if they fit.

@@ -1,6 +1,7 @@
 //! Callers of a `TinyVec`.
-ghost use Rattle.std.specs.Prelude.{◌≡◌, ◌≢◌, ◌+◌, ◌-◌, ◌<◌, ◌≤◌, ◌∷◌, [], ◌++◌, ◌↔◌, length, take, insert, remove, pos, false, IsTrue, IsSome, IsOk, OnOk, OnErr, IfOk, IfErr, IfSome, IfNone};
+ghost use Rattle.std.specs.Prelude.{◌≡◌, ◌≢◌, ◌+◌, ◌-◌, ◌<◌, ◌≤◌, ◌∷◌, [], ◌++◌, ◌↔◌, length, take, vec_len, vec_capacity, false, IsTrue, IsSome, IsOk, OnOk, OnErr, IfOk, IfErr, IfSome, IfNone};
 ghost use Rattle.std.specs.Box.{boxed_slice_items};
+ghost use Rattle.std.specs.List.{dedup, swap_remove};
 ghost use Rattle.tinyvec_array.specs.ArrayVec.{items, items_of};
 ghost use Rattle.tinyvec.specs.TinyVec.{tiny_items, tiny_items_of, tiny_len, tiny_len_of, tiny_capacity, is_inline, IsInline, tiny_view, tiny_view_of};
 ghost use Rattle.tinyvec.specs.View.{Unchanged};
@@ -9,7 +10,7 @@ use std::alloc::{AllocError, AllocFailed, Global};
 use std::boxed::BoxedSlice;
 use std::default::MadeWith;
 use std::mem;
-use tinyvec::{Array, ArrayVec, NoMemory, TinyVec, TinyVecIterator};
+use tinyvec::{Array, ArrayVec, TinyVec, TinyVecIterator};
 
 /// The list of an `ArrayVec`, which may grow now.
 pub fn of_array_vec<A: Array>(alloc: Global, v: ArrayVec<A>) -> TinyVec<A>
@@ -17,6 +18,14 @@ pub fn of_array_vec<A: Array>(alloc: Global, v: ArrayVec<A>) -> TinyVec<A>
     ensures place { IsInline result }
 {
     TinyVec::from_array_vec(alloc, v)
+}
+
+/// Two items, which fill the array.
+pub fn of_array(alloc: Global) -> TinyVec<[u32; 2]>
+    ensures items { tiny_items result ≡ 7 ∷ 8 ∷ [] }
+    ensures place { IsInline result }
+{
+    TinyVec::from_array(alloc, [7, 8])
 }
 
 /// An array of two slots has no list of three.
@@ -50,13 +59,6 @@ pub fn zeros(alloc: Global, n: usize) -> Result<TinyVec<[u8; 4]>, AllocError>
     TinyVec::with_initial_len(alloc, n)
 }
 
-/// Whether one more item fits where the list is.
-pub fn has_room<A: Array>(v: &TinyVec<A>) -> bool
-    ensures { IsTrue result ↔ (tiny_len_of A.Slots v.now < tiny_capacity A.CAPACITY v.now) }
-{
-    v.len() < v.capacity()
-}
-
 /// A list is in one place or the other.
 pub fn is_somewhere<A: Array>(v: &TinyVec<A>) -> bool
     ensures { IsTrue result }
@@ -86,23 +88,12 @@ pub fn drop_last<A: Array>(v: &mut TinyVec<A>) -> bool
     true
 }
 
-/// An item moved to the front.
-pub fn moved_to_front<A: Array>(v: &mut TinyVec<A>, i: usize) -> Result<(), AllocError>
-    requires { i < tiny_len_of A.Slots v.old }
-    ensures { OnOk result ((x : A.Item) × (tiny_items_of A.Slots v.new ≡ x ∷ remove (tiny_items_of A.Slots v.old) i)) }
+/// The first item, whose place the last one takes.
+pub fn first_swapped<A: Array>(v: &mut TinyVec<A>) -> A::Item
+    requires { 0 < tiny_len_of A.Slots v.old }
+    ensures { tiny_items_of A.Slots v.new ≡ swap_remove (tiny_items_of A.Slots v.old) 0 result }
 {
-    let x = v.remove(i);
-    Ok(v.insert(0, x)?)
-}
-
-/// The last item takes the place of the first.
-pub fn first_swapped(alloc: Global) -> (i32, TinyVec<[i32; 4]>)
-    ensures first { result.0 ≡ pos 1 }
-    ensures items { tiny_items result.1 ≡ pos 4 ∷ pos 2 ∷ pos 3 ∷ [] }
-{
-    let mut v = TinyVec::from_array(alloc, [1, 2, 3, 4]);
-    let first = v.swap_remove(0);
-    (first, v)
+    v.swap_remove(0)
 }
 
 /// Bytes after the list, which allocates nothing if there is room for them.
@@ -113,12 +104,10 @@ pub fn with_bytes(v: &mut TinyVec<[u8; 16]>, bytes: &[u8]) -> Result<(), AllocEr
     v.extend_from_slice(bytes)
 }
 
-/// The items from `n` on, once more.
-pub fn repeat_from<A: Array>(v: &mut TinyVec<A>, n: usize) -> Result<(), AllocError>
-where
-    A::Item: Clone,
-    requires { n ≤ tiny_len_of A.Slots v.old }
-    ensures { OnOk result (tiny_len_of A.Slots v.new ≡ tiny_len_of A.Slots v.old + (tiny_len_of A.Slots v.old - n)) }
+/// The numbers from `n` on, once more.
+pub fn repeat_from(v: &mut TinyVec<[u32; 4]>, n: usize) -> Result<(), AllocError>
+    requires { n ≤ tiny_len v.old }
+    ensures { OnOk result (tiny_len v.new ≡ tiny_len v.old + (tiny_len v.old - n)) }
 {
     v.extend_from_within(n..)
 }
@@ -140,14 +129,6 @@ pub fn cut_to<A: Array>(v: &mut TinyVec<A>, n: usize)
     v.truncate(n);
 }
 
-/// No items, in the same place.
-pub fn emptied<A: Array>(v: &mut TinyVec<A>)
-    ensures items { tiny_items_of A.Slots v.new ≡ [] }
-    ensures place { is_inline v.new ≡ is_inline v.old }
-{
-    v.clear();
-}
-
 /// A list of `n` items, the new ones made by a closure.
 pub fn filled_up(v: &mut TinyVec<[u8; 4]>, n: usize) -> Result<(), AllocError>
     ensures len { OnOk result (tiny_len v.new ≡ n) }
@@ -163,13 +144,13 @@ pub fn copied(v: &mut TinyVec<[u8; 8]>, source: &TinyVec<[u8; 8]>) -> Result<(),
     v.clone_from(source)
 }
 
-/// Each run of equal numbers as one.
-pub fn without_repeats(alloc: Global) -> TinyVec<[i32; 5]>
-    ensures { tiny_items result ≡ pos 1 ∷ pos 2 ∷ pos 1 ∷ [] }
+/// Each run of equal items as one.
+pub fn without_repeats<A: Array>(v: &mut TinyVec<A>)
+where
+    A::Item: PartialEq,
+    ensures { tiny_items_of A.Slots v.new ≡ dedup A.Item.eq (tiny_items_of A.Slots v.old) }
 {
-    let mut v = TinyVec::from_array(alloc, [1, 1, 2, 2, 1]);
     v.dedup();
-    v
 }
 
 /// Neighbours whose last digits are the same count as equal.
@@ -212,13 +193,11 @@ pub fn count_of_zeros(v: &TinyVec<[u8; 8]>) -> usize {
     v.iter().filter(|x| **x == 0).count()
 }
 
-/// How many items are left once the first was taken.
-pub fn left_after_one<A: Array>(v: TinyVec<A>) -> usize
-    ensures { result ≡ tiny_len_of A.Slots v - 1 }
+/// The items that an iterator has left.
+pub fn items_left(items: &TinyVecIterator<[u32; 4]>) -> &[u32]
+    ensures { result.now ≡ items.now }
 {
-    let mut left = v.into_iter();
-    let _first = left.next();
-    left.as_slice().len()
+    items.as_slice()
 }
 
 /// The first item is set to 0.
@@ -230,14 +209,13 @@ pub fn first_zeroed(v: &mut TinyVec<[u8; 8]>)
     }
 }
 
-/// All items, moved after those of a `Vec` that has room.
-pub fn moved_into<A: Array>(v: &mut TinyVec<A>, alloc: Global) -> Result<Vec<A::Item>, AllocError>
-    ensures moved { IfOk result (λ out. out.items ≡ tiny_items_of A.Slots v.old) }
-    ensures left { OnOk result (tiny_items_of A.Slots v.new ≡ []) }
+/// All items, moved after those of a `Vec` that has room for them.
+pub fn moved_into<A: Array>(v: &mut TinyVec<A>, out: &mut Vec<A::Item>)
+    requires { vec_len out.old + tiny_len_of A.Slots v.old ≤ vec_capacity out.old }
+    ensures moved { out.new.items ≡ out.old.items ++ tiny_items_of A.Slots v.old }
+    ensures left { tiny_items_of A.Slots v.new ≡ [] }
 {
-    let mut out = Vec::with_capacity(alloc, v.len())?;
-    v.drain_into(.., &mut out);
-    Ok(out)
+    v.drain_into(.., out);
 }
 
 /// Room for `n` more items, and for no more than that if the list moves.
@@ -299,13 +277,6 @@ pub fn push_like_vec(v: &mut TinyVec<[u32; 4]>, x: u32) -> Result<(), AllocFaile
 {
     v.push(x)?;
     Ok(())
-}
-
-/// A refused box, as a `TinyVec` returns an item.
-pub fn in_a_box(alloc: Global, x: u32) -> Result<Box<u32>, NoMemory<u32>>
-    ensures { IfErr result (λ refused. refused.0 ≡ x) }
-{
-    Ok(Box::new(alloc, x)?)
 }
 
 /// Room for `n` items, or for the list, is kept, and other room given back.
@@ -403,10 +374,9 @@ pub fn popped_below(v: &mut TinyVec<[u32; 4]>, limit: u32) -> Option<u32>
     v.pop_if(|x| *x < limit)
 }
 
-/// An iterator, and its clone over the same items.
-pub fn both(
-    items: TinyVecIterator<[u32; 4]>,
-) -> Result<(TinyVecIterator<[u32; 4]>, TinyVecIterator<[u32; 4]>), AllocError> {
-    let copy = items.clone()?;
-    Ok((items, copy))
+/// The items that an iterator has left, once more.
+pub fn left_again(
+    items: &TinyVecIterator<[u32; 4]>,
+) -> Result<TinyVecIterator<[u32; 4]>, AllocError> {
+    items.clone()
 }

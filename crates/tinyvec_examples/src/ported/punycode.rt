@@ -29,7 +29,7 @@ const MAX_LEN: usize = 0xFFFF_FFFF;
 const MAX_INTEGER: u64 = 1 << 53;
 
 /// Why a text was not encoded.
-#[derive(Clone, Copy, Debug, PartialEq, Eq)]
+#[derive(Clone, Copy, Debug)]
 pub enum EncodeError {
     TooLong,
     Memory,

@@ -1,19 +1,16 @@
 //! A push and a pop.
-ghost use Rattle.std.specs.Prelude.{◌≡◌, ◌<◌, ◌++◌, List, length, drop, Some};
-ghost use Rattle.tinyvec_array.specs.ArrayVec.{items_of, spare_of};
+ghost use Rattle.std.specs.Prelude.{◌≡◌, ◌<◌, ◌++◌, List, ℕ, length, drop, Some};
+ghost use Rattle.tinyvec_array.specs.ArrayVec.{items, spare};
 ghost use Rattle.tinyvec_array.specs.Slots.{AreDefaults};
 
-use tinyvec_array::{ArrayVec, Slots};
+use tinyvec_array::ArrayVec;
 
 /// What was pushed is popped, the items are the same, and its slot holds a default.
-pub fn push_then_pop<S: Slots>(v: &mut ArrayVec<S>, x: S::Item) -> Option<S::Item>
-where
-    S::Item: Default,
-    requires { 0 < length (spare_of S.Slots v.old) }
+pub fn push_then_pop(v: &mut ArrayVec<[u32; 8]>, x: u32) -> Option<u32>
+    requires { 0 < length (spare v.old) }
     ensures back { result ≡ Some x }
-    ensures same { items_of S.Slots v.new ≡ items_of S.Slots v.old }
-    ensures emptied { (ds : List S.Item) × AreDefaults S.Item.is_default 1 ds
-        × (spare_of S.Slots v.new ≡ ds ++ drop 1 (spare_of S.Slots v.old)) }
+    ensures same { items v.new ≡ items v.old }
+    ensures emptied { (ds : List ℕ) × AreDefaults (λ d. d ≡ 0) 1 ds × (spare v.new ≡ ds ++ drop 1 (spare v.old)) }
 {
     v.push(x);
     v.pop()

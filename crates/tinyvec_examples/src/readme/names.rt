@@ -41,15 +41,6 @@ pub fn name(names: &Names, i: usize) -> &str
     }
 }
 
-/// How many bytes all names have, as far as a `usize` counts them.
-pub fn size(names: &Names) -> usize {
-    let mut size: usize = 0;
-    for name in names.iter().flatten() {
-        size = size.saturating_add(name.len());
-    }
-    size
-}
-
 /// Whether there are two names, which are the same.
 pub fn are_twins(names: &Names) -> bool {
     match names.as_slice() {

@@ -2,7 +2,7 @@
 use tinyvec_array::ArrayVec;
 
 /// A number, or a sign.
-#[derive(Clone, Copy, PartialEq, Debug)]
+#[derive(Clone, Copy)]
 pub enum Token {
     Number(u32),
     Sign(char),
@@ -15,7 +15,7 @@ impl Default for Token {
 }
 
 /// Why a text is no list of tokens, and at which of its bytes.
-#[derive(Clone, Copy, PartialEq, Debug)]
+#[derive(Clone, Copy)]
 pub enum TokenError {
     Unknown(usize, char),
     TooGreat(usize),

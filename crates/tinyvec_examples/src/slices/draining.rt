@@ -1,8 +1,8 @@
 //! Callers of a drain. One that is generic over what is lent knows what is left, and so does who calls it with a slice.
 //! One that names `SliceVec` knows it by `drain_each` and `drain_into`.
-ghost use Rattle.std.specs.Prelude.{◌≡◌, ◌≤◌, ◌-◌, ◌+◌, ◌++◌, ◌∷◌, [], pos, length, take, drop, slice_get, slice_range, vec_len, vec_capacity};
+ghost use Rattle.std.specs.Prelude.{◌≡◌, ◌≤◌, ◌-◌, ◌+◌, ◌++◌, ◌∷◌, pos, length, take, drop, slice_get, vec_len, vec_capacity};
 ghost use Rattle.std.specs.List.{remove_range};
-ghost use Rattle.tinyvec_array.specs.Slots.{Vacates};
+ghost use Rattle.tinyvec_array.specs.Slots.{Vacates, SlotRule};
 ghost use Rattle.tinyvec_array.specs.Ranges.{IsRangeOf, before, after};
 ghost use Rattle.tinyvec_array.specs.ArrayVec.{items_of, name_of, view_of};
 ghost use Rattle.tinyvec_array.specs.SliceVec.{items, spare, name};
@@ -24,18 +24,6 @@ where
     d.next()
 }
 
-/// What the owner sees after that.
-pub fn one_drained() -> [i32; 5]
-    ensures { result ≡ pos 1 ∷ pos 4 ∷ pos 0 ∷ pos 0 ∷ pos 9 ∷ [] }
-{
-    let mut array = [1, 2, 3, 4, 9];
-    {
-        let mut v = SliceVec::from_slice_len(&mut array, 4);
-        let _second = drain_one(&mut v);
-    }
-    array
-}
-
 /// Any range of any vector: what preceded and followed it is left.
 pub fn cut<B: Slots, R: RangeBounds<usize>>(v: &mut ArrayVec<B>, range: R)
 where
@@ -45,25 +33,9 @@ where
     ensures same_reference { name_of B.Slots v.new ≡ name_of B.Slots v.old }
     ensures items { items_of B.Slots v.new
         ≡ before (items_of B.Slots v.old) (R.start_bound range) ++ after (items_of B.Slots v.old) (R.end_bound range) }
+    ensures slot_rule { SlotRule B.Item.is_default (view_of B.Slots v.old) (view_of B.Slots v.new) }
 {
-    let _items = v.drain(range);
-}
-
-/// Moves the items from `start` up to `end` after those of `out`, which has room for them.
-pub fn drain_into<B: Slots>(v: &mut ArrayVec<B>, start: usize, end: usize, out: &mut Vec<B::Item>)
-where
-    B::Item: Default,
-    requires start_le_end { start ≤ end }
-    requires in_bounds { end ≤ length (items_of B.Slots v.old) }
-    requires room { vec_len out.old + (end - start) ≤ vec_capacity out.old }
-    ensures same_reference { name_of B.Slots v.new ≡ name_of B.Slots v.old }
-    ensures items { items_of B.Slots v.new ≡ remove_range (items_of B.Slots v.old) start end }
-    ensures spare { Vacates B.Item.is_default (end - start) (view_of B.Slots v.old) (view_of B.Slots v.new) }
-    ensures moved { out.new.items ≡ out.old.items ++ slice_range (items_of B.Slots v.old) start end }
-{
-    for x in v.drain(start..end) {
-        out.push_reserved(x);
-    }
+    drop(v.drain(range));
 }
 
 /// A caller by name: the items are taken one by one, and what preceded and followed them is left.
@@ -74,22 +46,6 @@ pub fn drop_two(v: &mut SliceVec<'_, i32>)
     ensures spare { spare v.new ≡ pos 0 ∷ pos 0 ∷ spare v.old }
 {
     v.drain_each(1..3, &mut |_x| {});
-}
-
-/// The closure is called once for each item.
-pub fn counted(slots: &mut [i32]) -> u64
-    requires { 4 ≤ length slots.old }
-    ensures { result ≡ 2 }
-{
-    let mut n = 0_u64;
-    let mut v = SliceVec::from_slice_len(slots, 4);
-    v.drain_each(
-        1..3,
-        &mut |_x| {
-            n = n.wrapping_add(1);
-        },
-    );
-    n
 }
 
 /// A caller by name: the items from the second on move after those of `out`.

@@ -41,42 +41,6 @@ pub fn edited() -> [i32; 5]
     array
 }
 
-/// The last item moves into the place of the one that is taken.
-pub fn swapped() -> [i32; 4]
-    ensures { result ≡ pos 3 ∷ pos 2 ∷ pos 0 ∷ pos 9 ∷ [] }
-{
-    let mut array = [1, 2, 3, 9];
-    {
-        let mut v = SliceVec::from_slice_len(&mut array, 3);
-        let _first = v.swap_remove(0);
-    }
-    array
-}
-
-/// A popped slot holds a default.
-pub fn popped() -> [i32; 3]
-    ensures { result ≡ pos 1 ∷ pos 0 ∷ pos 9 ∷ [] }
-{
-    let mut array = [1, 2, 9];
-    {
-        let mut v = SliceVec::from_slice_len(&mut array, 2);
-        let _two = v.pop();
-    }
-    array
-}
-
-/// So do the slots of a list that is emptied.
-pub fn cleared() -> [i32; 3]
-    ensures { result ≡ pos 0 ∷ pos 0 ∷ pos 9 ∷ [] }
-{
-    let mut array = [1, 2, 9];
-    {
-        let mut v = SliceVec::from_slice_len(&mut array, 2);
-        v.clear();
-    }
-    array
-}
-
 /// If only the border moves, the owner sees no change.
 pub fn border_moved(slots: &mut [u8], n: usize)
     requires { n ≤ length slots.old }
@@ -84,19 +48,4 @@ pub fn border_moved(slots: &mut [u8], n: usize)
 {
     let mut v = SliceVec::from_slice_len(slots, 0);
     v.set_len(n);
-}
-
-/// The items of one vector move after those of another.
-pub fn appended() -> ([i32; 4], [i32; 3])
-    ensures longer { result.0 ≡ pos 1 ∷ pos 2 ∷ pos 3 ∷ pos 9 ∷ [] }
-    ensures emptied { result.1 ≡ pos 0 ∷ pos 0 ∷ pos 8 ∷ [] }
-{
-    let mut one = [1, 9, 9, 9];
-    let mut two = [2, 3, 8];
-    {
-        let mut v = SliceVec::from_slice_len(&mut one, 1);
-        let mut w = SliceVec::from_slice_len(&mut two, 2);
-        v.append(&mut w);
-    }
-    (one, two)
 }

@@ -1,9 +1,7 @@
 //! Writes through what the vector lends. The owner sees each of them.
-ghost use Rattle.std.specs.Prelude.{◌≡◌, ◌<◌, ◌≤◌, ◌++◌, length, take, drop, insert, slice_set};
-ghost use Rattle.tinyvec_array.specs.ArrayVec.{items_of, name_of};
-ghost use Rattle.tinyvec_array.specs.SliceVec.{items};
+ghost use Rattle.std.specs.Prelude.{◌≡◌, ◌≤◌, ◌++◌, length, take, drop, insert, slice_set};
 
-use tinyvec_array::{ArrayVec, SliceVec, Slots};
+use tinyvec_array::SliceVec;
 
 /// The item that was pushed.
 pub fn pushed_written(xs: &mut [u8])
@@ -23,15 +21,6 @@ pub fn inserted_written(xs: &mut [u8])
     *v.insert_mut(1, 7) = 8;
 }
 
-/// One item, by its index, in any vector in lent slots.
-pub fn write_any<B: Slots>(v: &mut ArrayVec<B>, i: usize, x: B::Item)
-    requires { i < length (items_of B.Slots v.old) }
-    ensures same_reference { name_of B.Slots v.new ≡ name_of B.Slots v.old }
-    ensures items { items_of B.Slots v.new ≡ slice_set (items_of B.Slots v.old) i x }
-{
-    v[i] = x;
-}
-
 /// The owner, after an item, a spare slot and any slot were written.
 pub fn three_written(xs: &mut [u8])
     requires { 5 ≤ length xs.old }
@@ -44,4 +33,18 @@ pub fn three_written(xs: &mut [u8])
     behind[0] = 6;
     let all = v.as_mut_slots();
     all[4] = 5;
+}
+
+/// A vector over each part of what is lent, which no caller of `split_off` can have: an item of the first is written, and
+/// the second is pushed to.
+pub fn both_parts(xs: &mut [u8])
+    requires { 4 ≤ length xs.old }
+    ensures { xs.new ≡ slice_set (slice_set xs.old 0 7) 3 6 }
+{
+    let mut v = SliceVec::from_slice_len(xs, 3);
+    let (front, back) = v.as_mut_slots().split_at_mut(1);
+    let mut first = SliceVec::from_slice_len(front, 1);
+    let mut second = SliceVec::from_slice_len(back, 2);
+    first[0] = 7;
+    second.push(6);
 }

@@ -10,15 +10,6 @@ pub fn refused(slots: &mut [i32]) -> bool
     SliceVec::try_from_slice_len(slots, 3).is_none()
 }
 
-/// The whole slice is the list, so its last item can be written by its index.
-pub fn last_written(slots: &mut [u8])
-    requires { length slots.old ≡ 3 }
-    ensures { slots.new ≡ slice_set slots.old 2 7 }
-{
-    let mut v = SliceVec::from(slots);
-    v[2] = 7;
-}
-
 /// The owner of an array sees what a vector over all of it did.
 pub fn array_written() -> [i32; 3]
     ensures { result ≡ pos 1 ∷ pos 5 ∷ pos 3 ∷ [] }
@@ -38,12 +29,4 @@ pub fn written_if_there(slots: &mut [u8])
     if v.len() == 3 {
         v[2] = 7;
     }
-}
-
-/// A vector over no slots is full.
-pub fn over_no_slots() -> (bool, usize)
-    ensures { result ≡ (true, 0) }
-{
-    let v: SliceVec<'_, u8> = SliceVec::default();
-    (v.is_full(), v.capacity())
 }

@@ -7,7 +7,7 @@ ghost use Rattle.tinyvec_array.specs.SliceVec.{items, spare};
 
 use std::fmt;
 use std::fmt::Write;
-use tinyvec_array::{ArrayVec, SliceVec, TakesClones};
+use tinyvec_array::{ArrayVec, TakesClones};
 
 /// Two numbers and text between them, after the list of any vector of bytes. If not all of it fits, the caller of
 /// `write!` knows nothing of the vector.
@@ -21,15 +21,6 @@ pub fn write_pair<B: TakesClones<Item = u8>>(v: &mut ArrayVec<B>, x: u32, y: u32
     write!(v, "{x}, {y}")
 }
 
-/// What the owner sees: the text before the other bytes, which are as they were.
-pub fn pair_into(bytes: &mut [u8], x: u32, y: u32) -> bool
-    ensures { OnTrue result (bytes.new ≡ (decimal x ++ (codes ", " ++ decimal y))
-        ++ drop (length (decimal x ++ (codes ", " ++ decimal y))) bytes.old) }
-{
-    let mut v = SliceVec::from_slice_len(bytes, 0);
-    write_pair(&mut v, x, y).is_ok()
-}
-
 /// Any text after the list of any vector of bytes. It is written as a whole or not at all.
 pub fn write_text<B: TakesClones<Item = u8>>(v: &mut ArrayVec<B>, s: &str) -> bool
     ensures fits { IsTrue result ↔ (length s.now ≤ length (spare_of B.Slots v.old)) }
@@ -39,14 +30,4 @@ pub fn write_text<B: TakesClones<Item = u8>>(v: &mut ArrayVec<B>, s: &str) -> bo
     ensures refused { OnFalse result (v.new ≡ v.old) }
 {
     v.write_str(s).is_ok()
-}
-
-/// What the owner sees after that: the text before the other bytes, or no change.
-pub fn text_into(bytes: &mut [u8], s: &str) -> bool
-    ensures fits { IsTrue result ↔ (length s.now ≤ length bytes.old) }
-    ensures written { OnTrue result (bytes.new ≡ s.now ++ drop (length s.now) bytes.old) }
-    ensures refused { OnFalse result (bytes.new ≡ bytes.old) }
-{
-    let mut v = SliceVec::from_slice_len(bytes, 0);
-    write_text(&mut v, s)
 }

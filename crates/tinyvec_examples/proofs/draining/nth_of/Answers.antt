@@ -1,9 +1,8 @@
 use Rattle.std.proofs.Common.{◌≡◌, ◌++◌, rules}
 use Rattle.tinyvec_slots.specs.Ranges.{before, after}
-use Rattle.tinyvec_slots.specs.Slots.{SlotRule}
-use Rattle.tinyvec_array.specs.ArrayVec.{items_of, view_of}
+use Rattle.tinyvec_array.specs.ArrayVec.{items_of}
 use Rattle.tinyvec_array.proofs.DrainLemmas.{nth-keeps}
-use Rattle.tinyvec_array.proofs.DrainEndLemmas.{drained_items, drained_slots}
+use Rattle.tinyvec_array.proofs.DrainEndLemmas.{drained_items}
 use Rattle.tinyvec_examples.proofs.draining.nth_of.Goals as goal
 
 pub returns-clause-left : goal.returns-clause-left
@@ -19,17 +18,3 @@ returns-clause-left g c =
     c.requires.in_list made.rest made.count made.kept made.spare kept (c.drop-d.ensures (kept.ready made.ready)) in
     let same = kept.same_reference in
     search rules
-
-pub returns-clause-slot_rule : goal.returns-clause-slot_rule
-returns-clause-slot_rule g c =
-    let old = c.args.v.now in
-    let new = c.drop-d.new.self.0 in
-    let start = g.R.RangeBounds.start_bound c.args.range in
-    let end = g.R.RangeBounds.end_bound c.args.range in
-    let made = c.drain-d.ensures in
-    let kept = nth-keeps g.A.Slots c.drain-d.result c.args.n c.nth.result c.nth.new.self c.nth.ensures.ran in
-    let ruled : SlotRule g.A.Item.Default.is_default (view_of g.A.Slots old) (view_of g.A.Slots new) =
-    drained_slots g.A.Slots g.A.Item.Default.is_default c.drain-d.result c.nth.new.self old new start end
-    c.requires.in_list made.rest made.count made.kept made.spare kept (c.drop-d.ensures (kept.ready made.ready)) in
-    let same = kept.same_reference in
-    (ruled.0, (search rules, ruled.1.1), search rules)

@@ -9,4 +9,4 @@ returns c =
     let found = find_by_test _ (nat_lt limit) _ (λ x b t y h. search rules) _ _ _ _ _ once.asked in
     let left = once.items_are ∙ (λ i. found.1 i ++ found.2 i) in
     let same = once.same_reference in
-    record { found = found.0; left = search rules; shorter = search rules }
+    record { found = found.0; left = search rules }

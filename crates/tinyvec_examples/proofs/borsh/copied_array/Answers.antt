@@ -1,6 +1,0 @@
-use Rattle.tinyvec_array.specs.ArrayVec.{items_of}
-use Rattle.tinyvec_borsh.proofs.ReadBack.{same-items}
-use Rattle.tinyvec_examples.proofs.borsh.copied_array.Goals as goal
-
-pub returns-clause-same : goal.returns-clause-same
-returns-clause-same g c = same-items g.A.Item.BorshForm.content_of c.requires c.copied.result (items_of g.A.Slots) c.args.v.now c.copied.ensures.same
