@@ -20,7 +20,7 @@ CLEARED = {
 
 # Their `extend_from_slice` copies, so their items are numbers alone.
 COPIED = CLEARED | {
-    r"trait Item: Clone": "trait Item: Copy + Clone",
+    r"T: Item \+ Clone": "T: Item + Copy + Clone",
     # A call that they lack, in a row that is left out.
     r"self\.extract_if\(.*\)": "0..0",
 }
@@ -31,7 +31,7 @@ INLINE = COPIED | {
     r"(self|vec)\.(splice|replace_range)\(.*\)": "false",
     r"(?s)(fn splice_more<[^{]*\{\n).*?\n\}": r"\1    0\n}",
     r"ArrayVec::dedup\(self\);": "",
-    r"(ArrayVec|TinyVec|\$vec)(::)?<\[([$\w]+); (\w+)\]>": r"\1\2<\3, \4>",
+    r"(ArrayVec|TinyVec)(::)?<\[(\w+); (\w+)\]>": r"\1\2<\3, \4>",
     # Its `len` says that a list fits, these three calls do not.
     r"( +)(self\.(?:pop\(\)|remove\(i\)|swap_remove\(i\))\n)": r"\1let _len = self.len();\n\1\2",
     r"\btinyvec_array::": "arrayvec::",
@@ -52,13 +52,13 @@ INLINE = COPIED | {
 }
 NOT_INLINE = (
     r"mod (form|growth|nodes|slices|splicing|text_calls);|\bof_(arrays|forms|lists|nodes|slices|text_calls)\b"
-    r"|ArrayVec: of_cuts|\bsplices\b|\"(extract_half|splice_more)\"|of_texts::<R, (2|8|32)>"
+    r"|of_cuts::<R, ArrayVec|\bsplices\b|\"(extract_half|splice_more)\"|of_texts::<R, (2|8|32)>"
 )
 
 # std's `Vec` and `String`. What the others do in an array, they do on the heap.
 STD = COPIED | {
     r"\buse tinyvec(_text)?::\w+;\n": "",
-    r"(TinyVec|\$vec)(::)?<\[([$\w]+); \w+\]>": r"Vec\2<\3>",
+    r"(ArrayVec|TinyVec)(::)?<\[(\w+); \w+\]>": r"Vec\2<\3>",
     r"let _ = vec\.move_to_the_heap\(\);": "",
     r"TinyVec::": "Vec::",
     r"\.finish\(\)(\.is_(ok|err)\(\))": r"\1",
@@ -72,7 +72,7 @@ NOT_STD = r"mod (arrays|form|growth|nodes|slices);|\bof_(arrays|forms|lists|node
 # Texts are printed into an `ArrayVec` of this library on each side.
 UNCHANGED = "src/printing.rt"
 # The files that name the modules, and the rows.
-LISTS = ("src/main.rt", "src/all.rt", "src/spilling.rt")
+LISTS = ("src/main.rt", "src/all.rt", "src/cutting.rt", "src/spilling.rt")
 
 
 class Made(crates.Crate):

@@ -1,7 +1,7 @@
 //! Every row at every capacity, one call a line: `bench/kit.py` leaves out the lines of rows that other vectors lack.
 ghost use Rattle.std.specs.Prelude.{◌*◌, ◌^◌, ◌<◌};
 
-use crate::cutting::Cut;
+use crate::cutting::cuts;
 use crate::dates::of_dates;
 use crate::edits::ListBench;
 use crate::form::of_forms;
@@ -19,62 +19,63 @@ use crate::vector::{Place, Vector, Words};
 use std::alloc::Global;
 use std::fmt::Debug;
 use std::hash::Hash;
-use std::rt::Runtime;
 use tinyvec::TinyVec;
 use tinyvec_array::ArrayVec;
 use tinyvec_text::InlineText;
 
-// These rows of one vector at each capacity.
-macro_rules! at_each_capacity {
-    ($report:expr, $alloc:expr, $place:expr, $vec:ident: $rows:ident[$($item:ty)+]) => {
-        $rows::<R, $($vec<[$item; 4]>,)+ 4>($report, $alloc, $place);
-        $rows::<R, $($vec<[$item; 16]>,)+ 16>($report, $alloc, $place);
-        $rows::<R, $($vec<[$item; 64]>,)+ 64>($report, $alloc, $place);
-        $rows::<R, $($vec<[$item; 1024]>,)+ 1024>($report, $alloc, $place);
+// These rows at each of these capacities.
+macro_rules! at_capacities {
+    ($report:expr, $alloc:expr, $rows:ident: $($n:literal)+) => {
+        $($rows::<R, $n>($report, $alloc);)+
     };
 }
 
-// Those of a list that fills a quarter of the slots. No other row has arrays of these lengths: LLVM may inline a function
-// otherwise if more rows call it.
-macro_rules! a_quarter_full {
-    ($report:expr, $alloc:expr, $vec:ident) => {
-        of_few::<R, $vec<[u64; 8]>, 8>($report, $alloc);
-        of_few::<R, $vec<[u64; 32]>, 32>($report, $alloc);
-    };
-}
-
-pub fn all_rows<R: Runtime>(report: &mut Report<'_, R>, alloc: Global) {
-    in_arrays(report, alloc);
-    in_slices(report);
-    report.set_prefix("tiny_");
-    at_place(report, alloc, Place::Inline);
-    in_short_arrays(report, alloc);
-    report.set_prefix("tiny_heap_");
-    at_place(report, alloc, Place::Heap);
-    to_the_heap(report, alloc);
+pub fn all_rows<R: Report>(report: &mut R, alloc: Global) {
+    at_capacities!(report, alloc, of_all: 4 16 64 1024);
+    // No other row has arrays of these lengths: LLVM may inline a function otherwise if more rows call it.
+    at_capacities!(report, alloc, of_quarters: 8 32);
+    at_capacities!(report, alloc, of_all_nodes: 4 16);
+    report.set_prefix("tiny_long_");
+    of_long(report, alloc, 16);
+    of_long(report, alloc, 64);
+    of_long(report, alloc, 1024);
+    of_long(report, alloc, 16384);
     report.set_prefix("");
-    of_forms::<R, 16>(report, alloc);
-    of_forms::<R, 1024>(report, alloc);
+    at_capacities!(report, alloc, of_forms: 16 1024);
     in_texts(report, alloc);
 }
 
-fn in_arrays<R: Runtime>(report: &mut Report<'_, R>, alloc: Global) {
-    at_each_capacity!(report, alloc, Place::Inline, ArrayVec: of_vectors[u64 u8]);
-    at_each_capacity!(report, alloc, Place::Inline, ArrayVec: of_cuts[u64]);
+// The rows of each vector of `N` slots.
+fn of_all<R: Report, const N: usize>(report: &mut R, alloc: Global)
+    requires { N * 64 < 2 ^ 63 }
+{
+    report.set_prefix("");
+    of_vectors::<R, ArrayVec<[u64; N]>, ArrayVec<[u8; N]>, N>(report, alloc, Place::Inline);
+    of_cuts::<R, ArrayVec<[u64; N]>, N>(report, alloc, Place::Inline);
+    report.set_prefix("slice_");
+    of_slices::<R, N>(report);
+    report.set_prefix("tiny_");
+    of_tiny::<R, N>(report, alloc, Place::Inline);
+    report.set_prefix("tiny_heap_");
+    of_tiny::<R, N>(report, alloc, Place::Heap);
+    report.set_prefix("tiny_spill_");
+    of_spilling::<R, N>(report, alloc);
 }
 
-fn at_place<R: Runtime>(report: &mut Report<'_, R>, alloc: Global, place: Place) {
-    at_each_capacity!(report, alloc, place, TinyVec: of_vectors[u64 u8]);
-    at_each_capacity!(report, alloc, place, TinyVec: of_cuts[u64]);
+fn of_tiny<R: Report, const N: usize>(report: &mut R, alloc: Global, place: Place)
+    requires { N * 64 < 2 ^ 63 }
+{
+    of_vectors::<R, TinyVec<[u64; N]>, TinyVec<[u8; N]>, N>(report, alloc, place);
+    of_cuts::<R, TinyVec<[u64; N]>, N>(report, alloc, place);
 }
 
 // The rows that every vector has.
 fn of_vectors<
-    R: Runtime,
-    V: Words<N>,
+    R: Report,
+    V: Words<N> + Debug + Hash + PartialOrd,
     B: Vector<u8, N> + Debug + Hash + PartialOrd,
     const N: usize,
->(report: &mut Report<'_, R>, alloc: Global, place: Place)
+>(report: &mut R, alloc: Global, place: Place)
     requires { N * 64 < 2 ^ 63 }
 {
     of_edits::<R, V, N>(report, alloc, place);
@@ -83,11 +84,7 @@ fn of_vectors<
 }
 
 // Those that some lack.
-fn of_cuts<R: Runtime, V: Words<N>, const N: usize>(
-    report: &mut Report<'_, R>,
-    alloc: Global,
-    place: Place,
-)
+fn of_cuts<R: Report, V: Words<N>, const N: usize>(report: &mut R, alloc: Global, place: Place)
     requires { N * 64 < 2 ^ 63 }
 {
     let runs = pairs::<N>();
@@ -96,47 +93,32 @@ fn of_cuts<R: Runtime, V: Words<N>, const N: usize>(
         vec: &mut V::placed(alloc, place, &runs),
         odd: &V::placed(alloc, place, &runs),
         source: runs,
+        runs,
     };
-    report.run("dedup", N, Cut::Dedup, &mut list);
-    report.run("extract_half", N, Cut::ExtractHalf, &mut list);
+    cuts(report, N, &mut list);
     splices(report, N, &mut list);
 }
 
-fn in_slices<R: Runtime>(report: &mut Report<'_, R>) {
-    report.set_prefix("slice_");
-    of_slices::<R, 4>(report);
-    of_slices::<R, 16>(report);
-    of_slices::<R, 64>(report);
-    of_slices::<R, 1024>(report);
-}
-
-fn in_short_arrays<R: Runtime>(report: &mut Report<'_, R>, alloc: Global) {
+// Those of a list that fills a quarter of the slots.
+fn of_quarters<R: Report, const N: usize>(report: &mut R, alloc: Global)
+    requires { N * 64 < 2 ^ 63 }
+{
     report.set_prefix("few_");
-    a_quarter_full!(report, alloc, ArrayVec);
+    of_few::<R, ArrayVec<[u64; N]>, N>(report, alloc);
     report.set_prefix("tiny_few_");
-    a_quarter_full!(report, alloc, TinyVec);
+    of_few::<R, TinyVec<[u64; N]>, N>(report, alloc);
+}
+
+fn of_all_nodes<R: Report, const N: usize>(report: &mut R, alloc: Global)
+    requires { N * 64 < 2 ^ 63 }
+{
     report.set_prefix("nodes_");
-    of_nodes::<R, ArrayVec<[Node; 4]>, 4>(report, alloc);
-    of_nodes::<R, ArrayVec<[Node; 16]>, 16>(report, alloc);
+    of_nodes::<R, ArrayVec<[Node; N]>, N>(report, alloc);
     report.set_prefix("tiny_nodes_");
-    of_nodes::<R, TinyVec<[Node; 4]>, 4>(report, alloc);
-    of_nodes::<R, TinyVec<[Node; 16]>, 16>(report, alloc);
+    of_nodes::<R, TinyVec<[Node; N]>, N>(report, alloc);
 }
 
-fn to_the_heap<R: Runtime>(report: &mut Report<'_, R>, alloc: Global) {
-    report.set_prefix("tiny_spill_");
-    of_spilling::<R, 4>(report, alloc);
-    of_spilling::<R, 16>(report, alloc);
-    of_spilling::<R, 64>(report, alloc);
-    of_spilling::<R, 1024>(report, alloc);
-    report.set_prefix("tiny_long_");
-    of_long(report, alloc, 16);
-    of_long(report, alloc, 64);
-    of_long(report, alloc, 1024);
-    of_long(report, alloc, 16384);
-}
-
-fn in_texts<R: Runtime>(report: &mut Report<'_, R>, alloc: Global) {
+fn in_texts<R: Report>(report: &mut R, alloc: Global) {
     of_texts::<R, 4>(report, InlineText::new(alloc), alloc, 4);
     of_texts::<R, 16>(report, InlineText::new(alloc), alloc, 16);
     of_texts::<R, 64>(report, InlineText::new(alloc), alloc, 64);
@@ -153,14 +135,9 @@ fn in_texts<R: Runtime>(report: &mut Report<'_, R>, alloc: Global) {
 const LENGTHS: [usize; 10] = [4, 16, 64, 256, 1024, 4096, 16384, 65536, 262144, 1048576];
 
 /// The calls whose time is looked at against the number of items.
-pub fn all_growth<R: Runtime>(report: &mut Report<'_, R>, alloc: Global) {
+pub fn all_growth<R: Report>(report: &mut R, alloc: Global) {
     report.set_prefix("array_");
-    of_arrays::<R, 4>(report, alloc);
-    of_arrays::<R, 16>(report, alloc);
-    of_arrays::<R, 64>(report, alloc);
-    of_arrays::<R, 256>(report, alloc);
-    of_arrays::<R, 1024>(report, alloc);
-    of_arrays::<R, 4096>(report, alloc);
+    at_capacities!(report, alloc, of_arrays: 4 16 64 256 1024 4096);
     report.set_prefix("tiny_");
     for n in LENGTHS.iter() {
         of_lists(report, alloc, *n);

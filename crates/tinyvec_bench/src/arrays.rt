@@ -1,13 +1,13 @@
 //! The calls of an `ArrayVec`.
 ghost use Rattle.std.specs.Prelude.{◌<◌, length};
 
-use crate::number::{Item, is_odd, last};
+use crate::number::{Item, is_odd, is_odd_mut, last};
 use crate::vector::{Place, Vector, Words};
 use std::alloc::Global;
 use std::ops::Range;
 use tinyvec_array::ArrayVec;
 
-impl<T: Item, const N: usize> Vector<T, N> for ArrayVec<[T; N]> {
+impl<T: Item + Clone + Default, const N: usize> Vector<T, N> for ArrayVec<[T; N]> {
     ghost has_room = { λ v. length (Self.items v) < N };
 
     #[inline(always)]
@@ -116,7 +116,7 @@ impl<const N: usize> Words<N> for ArrayVec<[u64; N]> {
     #[inline(always)]
     fn extract_odd(&mut self, x: u64) -> u64 {
         let mut sum = x;
-        for y in self.extract_if(.., |y| is_odd(y)) {
+        for y in self.extract_if(.., is_odd_mut) {
             sum = sum.wrapping_add(y);
         }
         sum
@@ -140,7 +140,10 @@ impl<const N: usize> Words<N> for ArrayVec<[u64; N]> {
 
 // A new vector as long as `_like`, and two pushes.
 #[inline(never)]
-fn two_pushes<T: Item, const N: usize>(_like: &ArrayVec<[T; N]>, x: u64) -> ArrayVec<[T; N]> {
+fn two_pushes<T: Item + Clone + Default, const N: usize>(
+    _like: &ArrayVec<[T; N]>,
+    x: u64,
+) -> ArrayVec<[T; N]> {
     let mut vec = ArrayVec::new();
     if N >= 2 {
         vec.push(T::of(x));
@@ -151,7 +154,7 @@ fn two_pushes<T: Item, const N: usize>(_like: &ArrayVec<[T; N]>, x: u64) -> Arra
 
 // A clone of the one or the other, as `x` is even or odd.
 #[inline(never)]
-fn clone_of<T: Item, const N: usize>(
+fn clone_of<T: Item + Clone + Default, const N: usize>(
     even: &ArrayVec<[T; N]>,
     odd: &ArrayVec<[T; N]>,
     x: u64,
@@ -165,7 +168,7 @@ fn clone_of<T: Item, const N: usize>(
 
 // The same, by a `match` of both results.
 #[inline(never)]
-fn match_of<T: Item, const N: usize>(
+fn match_of<T: Item + Clone + Default, const N: usize>(
     even: &ArrayVec<[T; N]>,
     odd: &ArrayVec<[T; N]>,
     x: u64,

@@ -1,7 +1,7 @@
 //! The rows of lists of `u64`.
 
 use crate::edits::{ListBench, extend_from_slice};
-use crate::report::Bench;
+use crate::report::{Bench, Report, run};
 use crate::vector::Words;
 
 /// What is done with lists of `u64`.
@@ -19,15 +19,22 @@ impl<V: Words<N>, const N: usize> Bench<Cut> for ListBench<'_, u64, V, N> {
     #[inline(always)]
     fn round(&mut self, benchmark: Cut, x: u64) -> u64 {
         let source = &self.source;
+        let runs = &self.runs;
         match benchmark {
             Cut::ExtendFromRange => extend_from_range(self.vec, x),
             Cut::DrainTaken => drain_taken(self.vec, source, x),
             Cut::DrainDropped => drain_dropped(self.vec, source, x),
-            Cut::RetainHalf => retain_half(self.vec, source, x),
-            Cut::Dedup => dedup(self.vec, source, x),
-            Cut::ExtractHalf => extract_half(self.vec, source, x),
+            Cut::RetainHalf => retain_half(self.vec, runs, x),
+            Cut::Dedup => dedup(self.vec, runs, x),
+            Cut::ExtractHalf => extract_half(self.vec, runs, x),
         }
     }
+}
+
+/// Those that some vectors lack.
+pub fn cuts<R: Report, S: Bench<Cut>>(report: &mut R, n: usize, list: &mut S) {
+    run(report, "dedup", n, Cut::Dedup, list);
+    run(report, "extract_half", n, Cut::ExtractHalf, list);
 }
 
 /// Makes the list as many numbers from `x` on as the array has slots.

@@ -1,9 +1,8 @@
 //! Dates that are printed piece by piece into a new text, as the header of a mail has them and as ISO 8601 does.
 
-use crate::report::{Bench, Report};
+use crate::report::{Bench, Report, run};
 use crate::texts::look_at;
 use std::alloc::Global;
-use std::rt::Runtime;
 use tinyvec_text::InlineText;
 
 // What a push that finds no room returns.
@@ -34,14 +33,10 @@ impl<const N: usize> Bench<Style> for DateBench<N> {
 }
 
 /// Dates in an array of N bytes.
-pub fn of_dates<R: Runtime, const N: usize>(
-    report: &mut Report<'_, R>,
-    made: InlineText<N>,
-    alloc: Global,
-) {
+pub fn of_dates<R: Report, const N: usize>(report: &mut R, made: InlineText<N>, alloc: Global) {
     let mut bench = DateBench::<N> { alloc, made };
-    report.run("text_mail_date", N, Style::Mail, &mut bench);
-    report.run("text_iso_date", N, Style::Iso, &mut bench);
+    run(report, "text_mail_date", N, Style::Mail, &mut bench);
+    run(report, "text_iso_date", N, Style::Iso, &mut bench);
 }
 
 // Makes a new text, and prints a date as `Sat, 13 Jul 2024 15:09:59 +0000`.

@@ -5,26 +5,22 @@ use crate::report::Bench;
 use crate::vector::{Place, Vector};
 use std::alloc::Global;
 
-/// The vector, one that differs from it, and what it is filled with: the array itself, whose size the proof then knows.
+/// The vector, one that differs from it, and what it is filled with: numbers, or runs of them. They are the arrays
+/// themselves, whose size the proof then knows.
 #[derive(Drop)]
 pub struct ListBench<'a, T: Number, V: Vector<T, N>, const N: usize> {
     pub alloc: Global,
     pub vec: &'a mut V,
     pub odd: &'a V,
     pub source: [T; N],
-}
-
-// Two pushes to a new vector at this place.
-impl<V: Vector<u64, N>, const N: usize> Bench<Place> for ListBench<'_, u64, V, N> {
-    #[inline(always)]
-    fn round(&mut self, benchmark: Place, x: u64) -> u64 {
-        self.vec.last_of_two_pushes(self.alloc, benchmark, x)
-    }
+    pub runs: [T; N],
 }
 
 /// What is done with lists of `u64`.
 #[derive(Clone, Copy)]
 pub enum Edit {
+    /// To a new vector at this place.
+    TwoPushes(Place),
     FillAndEmpty,
     InsertFront,
     InsertMiddle,
@@ -43,6 +39,7 @@ impl<V: Vector<u64, N>, const N: usize> Bench<Edit> for ListBench<'_, u64, V, N>
     fn round(&mut self, benchmark: Edit, x: u64) -> u64 {
         let source = &self.source;
         match benchmark {
+            Edit::TwoPushes(place) => self.vec.last_of_two_pushes(self.alloc, place, x),
             Edit::FillAndEmpty => fill_and_empty(self.vec, x),
             Edit::InsertFront => insert_front(self.vec, x),
             Edit::InsertMiddle => insert_middle(self.vec, x),

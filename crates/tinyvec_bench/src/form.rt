@@ -2,10 +2,9 @@
 ghost use Rattle.std.specs.Prelude.{◌*◌, ◌^◌, ◌<◌};
 
 use crate::number::{Item, Number, last};
-use crate::report::{Bench, Report};
+use crate::report::{Bench, Report, run};
 use crate::sources::scattered;
 use std::alloc::Global;
-use std::rt::Runtime;
 use tinyvec_array::ArrayVec;
 use tinyvec_borsh::{BorshDeserialize, BorshSerialize};
 use tinyvec_io::Counted;
@@ -40,26 +39,39 @@ impl<T: Number + BorshSerialize + BorshDeserialize, const N: usize> Bench<Form>
 }
 
 /// Lists of bytes and of `u32` written and read in the Borsh form.
-pub fn of_forms<R: Runtime, const N: usize>(report: &mut Report<'_, R>, alloc: Global)
+pub fn of_forms<R: Report, const N: usize>(report: &mut R, alloc: Global)
     requires { N * 64 < 2 ^ 63 }
 {
     let mut form = Vec::new(alloc);
-    let vec = ArrayVec::from_array(scattered::<u8, N>());
     let mut bytes = FormBench {
         alloc,
-        vec,
+        vec: ArrayVec::from_array(scattered::<u8, N>()),
         form: &mut form,
     };
-    report.run("borsh_write_bytes", N, Form::Write, &mut bytes);
-    report.run("borsh_read_bytes", N, Form::Read, &mut bytes);
-    let vec = ArrayVec::from_array(scattered::<u32, N>());
+    forms(
+        report,
+        "borsh_write_bytes",
+        "borsh_read_bytes",
+        N,
+        &mut bytes,
+    );
     let mut numbers = FormBench {
         alloc,
-        vec,
+        vec: ArrayVec::from_array(scattered::<u32, N>()),
         form: &mut form,
     };
-    report.run("borsh_write_u32", N, Form::Write, &mut numbers);
-    report.run("borsh_read_u32", N, Form::Read, &mut numbers);
+    forms(report, "borsh_write_u32", "borsh_read_u32", N, &mut numbers);
+}
+
+fn forms<R: Report, S: Bench<Form>>(
+    report: &mut R,
+    write: &str,
+    read: &str,
+    n: usize,
+    list: &mut S,
+) {
+    run(report, write, n, Form::Write, list);
+    run(report, read, n, Form::Read, list);
 }
 
 // Writes the list, whose first item is made from `x`, and answers the first byte after the count, and how many bytes

@@ -3,12 +3,12 @@ ghost use Rattle.std.specs.Prelude.{◌*◌, ◌^◌, ◌<◌};
 
 use crate::cutting::{drain_dropped, extend_from_range, retain_half};
 use crate::edits::{ListBench, push_all};
-use crate::report::{Bench, Report};
+use crate::report::{Bench, Report, run};
 use crate::sources::counting;
 use crate::spilling;
 use crate::splicing::splice;
+use crate::vector::Words;
 use std::alloc::Global;
-use std::rt::Runtime;
 use tinyvec::TinyVec;
 use tinyvec_array::ArrayVec;
 
@@ -23,7 +23,7 @@ enum Growth {
     Retain,
 }
 
-impl<const N: usize> Bench<Growth> for ListBench<'_, u64, ArrayVec<[u64; N]>, N> {
+impl<V: Words<N>, const N: usize> Bench<Growth> for ListBench<'_, u64, V, N> {
     #[inline(always)]
     fn round(&mut self, benchmark: Growth, x: u64) -> u64 {
         let source = &self.source;
@@ -37,47 +37,52 @@ impl<const N: usize> Bench<Growth> for ListBench<'_, u64, ArrayVec<[u64; N]>, N>
     }
 }
 
-// A list over four slots, and what it is filled with.
+// A list over four slots, one like those that are made, and what they are filled with.
 #[derive(Drop)]
-struct GrowBench<'a> {
+struct GrowBench<'a, V: Words<4>> {
     alloc: Global,
-    vec: TinyVec<[u64; 4]>,
+    vec: &'a mut V,
+    like: &'a TinyVec<[u64; 4]>,
     source: &'a [u64],
 }
 
-impl Bench<Growth> for GrowBench<'_> {
+impl<V: Words<4>> Bench<Growth> for GrowBench<'_, V> {
     #[inline(always)]
     fn round(&mut self, benchmark: Growth, x: u64) -> u64 {
         let count = self.source.len() as u64;
         match benchmark {
-            Growth::Push => spilling::push(self.alloc, &self.vec, count, x),
-            Growth::Extend => spilling::extend_from_range(self.alloc, &self.vec, count, x),
-            Growth::Splice(count) => splice(&mut self.vec, self.source, count, x),
-            Growth::Drain => drain_dropped(&mut self.vec, self.source, x),
-            Growth::Retain => retain_half(&mut self.vec, self.source, x),
+            Growth::Push => spilling::push(self.alloc, self.like, count, x),
+            Growth::Extend => spilling::extend_from_range(self.alloc, self.like, count, x),
+            Growth::Splice(count) => splice(self.vec, self.source, count, x),
+            Growth::Drain => drain_dropped(self.vec, self.source, x),
+            Growth::Retain => retain_half(self.vec, self.source, x),
         }
     }
 }
 
-fn grown<R: Runtime, S: Bench<Growth>>(report: &mut Report<'_, R>, n: usize, list: &mut S) {
-    report.run("push", n, Growth::Push, list);
-    report.run("extend", n, Growth::Extend, list);
-    report.run("splice", n, Growth::Splice(n as u64 / 2), list);
-    report.run("drain", n, Growth::Drain, list);
-    report.run("retain", n, Growth::Retain, list);
+fn grown<R: Report, S: Bench<Growth>>(report: &mut R, n: usize, list: &mut S) {
+    run(report, "push", n, Growth::Push, list);
+    run(report, "extend", n, Growth::Extend, list);
+    run(report, "splice", n, Growth::Splice(n as u64 / 2), list);
+    run(report, "drain", n, Growth::Drain, list);
+    run(report, "retain", n, Growth::Retain, list);
 }
 
 /// A `TinyVec` over four slots of this many numbers.
-pub fn of_lists<R: Runtime>(report: &mut Report<'_, R>, alloc: Global, n: usize) {
+pub fn of_lists<R: Report>(report: &mut R, alloc: Global, n: usize) {
     let mut items = TinyVec::<[u64; 4]>::new(alloc);
     let _ = items.extend(0..n as u64);
-    let vec = TinyVec::<[u64; 4]>::new(alloc);
-    let source = items.as_slice();
-    grown(report, n, &mut GrowBench { alloc, vec, source });
+    let mut list = GrowBench {
+        alloc,
+        vec: &mut TinyVec::<[u64; 4]>::new(alloc),
+        like: &items,
+        source: items.as_slice(),
+    };
+    grown(report, n, &mut list);
 }
 
 /// An `ArrayVec` of as many numbers as it has slots.
-pub fn of_arrays<R: Runtime, const N: usize>(report: &mut Report<'_, R>, alloc: Global)
+pub fn of_arrays<R: Report, const N: usize>(report: &mut R, alloc: Global)
     requires { N * 64 < 2 ^ 63 }
 {
     let source = counting::<N>();
@@ -86,6 +91,7 @@ pub fn of_arrays<R: Runtime, const N: usize>(report: &mut Report<'_, R>, alloc: 
         vec: &mut ArrayVec::from_array(source),
         odd: &ArrayVec::from_array(source),
         source,
+        runs: source,
     };
     grown(report, N, &mut list);
 }

@@ -2,35 +2,38 @@
 
 use crate::comparing::{compare, equal, hash, hash_key};
 use crate::printing::{Text, debug_print};
-use crate::report::{Bench, Report};
+use crate::report::{Bench, Report, run};
 use std::fmt;
 use std::hash::Hash;
-use std::rt::Runtime;
 
-/// What is done with a vector, and with one that it is compared to.
+/// What is done with a vector, and with those that it is compared to.
 #[derive(Clone, Copy)]
 pub enum Look {
     Equal,
     Compare,
+    CompareFirst,
     Hash,
     HashKey,
     DebugPrint,
 }
 
-/// A vector, the one that it is compared to, and where it is printed.
+/// A vector, an equal one, ones that are higher at their end and at their start, and where it is printed.
 #[derive(Drop)]
-pub struct LookBench<'v, 't, V> {
-    pub vec: &'v V,
-    pub other: &'v V,
-    pub text: &'t mut Text,
+pub struct LookBench<'a, V> {
+    pub vec: &'a V,
+    pub same: &'a V,
+    pub last_higher: &'a V,
+    pub first_higher: &'a V,
+    pub text: &'a mut Text,
 }
 
-impl<V: PartialOrd + Hash + fmt::Debug> Bench<Look> for LookBench<'_, '_, V> {
+impl<V: PartialOrd + Hash + fmt::Debug> Bench<Look> for LookBench<'_, V> {
     #[inline(always)]
     fn round(&mut self, benchmark: Look, x: u64) -> u64 {
         match benchmark {
-            Look::Equal => equal(self.vec, self.other, x),
-            Look::Compare => compare(self.vec, self.other, x),
+            Look::Equal => equal(self.vec, self.same, x),
+            Look::Compare => compare(self.vec, self.last_higher, x),
+            Look::CompareFirst => compare(self.vec, self.first_higher, x),
             Look::Hash => hash(self.vec, x),
             Look::HashKey => hash_key(self.vec, x),
             Look::DebugPrint => debug_print(self.vec, self.text, x),
@@ -39,38 +42,32 @@ impl<V: PartialOrd + Hash + fmt::Debug> Bench<Look> for LookBench<'_, '_, V> {
 }
 
 /// Compares `vec` to an equal one and to one that is higher at its end, hashes it and prints it.
-pub fn looks<'v, R: Runtime, V: PartialOrd + Hash + fmt::Debug>(
-    report: &mut Report<'_, R>,
+pub fn looks_at<'v, R: Report, V: PartialOrd + Hash + fmt::Debug>(
+    report: &mut R,
     n: usize,
     vec: &'v V,
     same: &'v V,
     last_higher: &'v V,
 ) {
-    let mut text = Text::new();
     let mut look = LookBench {
         vec,
-        other: same,
-        text: &mut text,
+        same,
+        last_higher,
+        first_higher: last_higher,
+        text: &mut Text::new(),
     };
-    report.run("equal", n, Look::Equal, &mut look);
-    look.other = last_higher;
-    report.run("compare", n, Look::Compare, &mut look);
-    report.run("hash", n, Look::Hash, &mut look);
-    report.run("debug_print", n, Look::DebugPrint, &mut look);
+    looks(report, n, &mut look);
 }
 
-/// Compares `vec` to one that is higher at its start.
-pub fn look_at_first<R: Runtime, V: PartialOrd + Hash + fmt::Debug>(
-    report: &mut Report<'_, R>,
-    n: usize,
-    vec: &V,
-    first_higher: &V,
-) {
-    let mut text = Text::new();
-    let mut look = LookBench {
-        vec,
-        other: first_higher,
-        text: &mut text,
-    };
-    report.run("compare_first", n, Look::Compare, &mut look);
+/// The same, of a vector that has the others.
+pub fn looks<R: Report, S: Bench<Look>>(report: &mut R, n: usize, look: &mut S) {
+    run(report, "equal", n, Look::Equal, look);
+    run(report, "compare", n, Look::Compare, look);
+    run(report, "hash", n, Look::Hash, look);
+    run(report, "debug_print", n, Look::DebugPrint, look);
+}
+
+/// Compares the vector to the one that is higher at its start.
+pub fn look_at_first<R: Report, S: Bench<Look>>(report: &mut R, n: usize, look: &mut S) {
+    run(report, "compare_first", n, Look::CompareFirst, look);
 }

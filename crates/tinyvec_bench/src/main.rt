@@ -28,7 +28,7 @@ mod tiny;
 mod vector;
 
 use crate::all::{all_growth, all_rows};
-use crate::report::Report;
+use crate::report::Printer;
 use std::{env, io};
 
 /// So often a benchmark runs for its checksum alone.
@@ -39,8 +39,8 @@ fn main(rt: HostRuntime) -> io::Result<()> {
     let _program = args.next();
     let command = args.next();
     let mut report = match args.next() {
-        None => Report::of_checksums(&rt, FEW_ROUNDS),
-        Some(rounds) => Report::of_times(&rt, rounds_of(rounds.as_str())?),
+        None => Printer::new(&rt, FEW_ROUNDS, false),
+        Some(rounds) => Printer::new(&rt, rounds_of(rounds.as_str())?, true),
     };
     if is_growth(command)? {
         all_growth(&mut report, rt.alloc());

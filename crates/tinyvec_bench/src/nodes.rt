@@ -3,10 +3,9 @@ ghost use Rattle.std.specs.Prelude.{◌*◌, ◌^◌, ◌<◌};
 
 use crate::edits::{fill_and_empty, insert_front, remove_front, truncate_and_refill};
 use crate::number::Item;
-use crate::report::{Bench, Report};
+use crate::report::{Bench, Report, run};
 use crate::vector::{Place, Vector};
 use std::alloc::Global;
-use std::rt::Runtime;
 
 /// A node of a tree, whose numbers lie on the heap. The rows make nodes that have none: what a list of them costs is then
 /// the list's own.
@@ -29,7 +28,7 @@ impl Item for Node {
     }
 }
 
-/// What is done with lists of nodes.
+/// What is done with lists of nodes. An enum of its own: LLVM may inline a function otherwise if more rows could call it.
 #[derive(Clone, Copy)]
 enum NodeEdit {
     TwoPushes,
@@ -63,10 +62,7 @@ impl<V: Vector<Node, N>, const N: usize> Bench<NodeEdit> for NodeBench<'_, V, N>
 }
 
 /// The lists of items that need a drop.
-pub fn of_nodes<R: Runtime, V: Vector<Node, N>, const N: usize>(
-    report: &mut Report<'_, R>,
-    alloc: Global,
-)
+pub fn of_nodes<R: Report, V: Vector<Node, N>, const N: usize>(report: &mut R, alloc: Global)
     requires { N * 64 < 2 ^ 63 }
 {
     let mut list = NodeBench {
@@ -77,12 +73,18 @@ pub fn of_nodes<R: Runtime, V: Vector<Node, N>, const N: usize>(
     node_edits(report, N, &mut list);
 }
 
-fn node_edits<R: Runtime, S: Bench<NodeEdit>>(report: &mut Report<'_, R>, n: usize, list: &mut S) {
-    report.run("two_pushes", n, NodeEdit::TwoPushes, list);
-    report.run("fill_and_empty", n, NodeEdit::FillAndEmpty, list);
+fn node_edits<R: Report, S: Bench<NodeEdit>>(report: &mut R, n: usize, list: &mut S) {
+    run(report, "two_pushes", n, NodeEdit::TwoPushes, list);
+    run(report, "fill_and_empty", n, NodeEdit::FillAndEmpty, list);
     list.round(NodeEdit::TruncateAndRefill, 0);
-    report.run("insert_front", n, NodeEdit::InsertFront, list);
-    report.run("remove_front", n, NodeEdit::RemoveFront, list);
-    report.run("truncate_and_refill", n, NodeEdit::TruncateAndRefill, list);
-    report.run("clone", n, NodeEdit::Clone, list);
+    run(report, "insert_front", n, NodeEdit::InsertFront, list);
+    run(report, "remove_front", n, NodeEdit::RemoveFront, list);
+    run(
+        report,
+        "truncate_and_refill",
+        n,
+        NodeEdit::TruncateAndRefill,
+        list,
+    );
+    run(report, "clone", n, NodeEdit::Clone, list);
 }

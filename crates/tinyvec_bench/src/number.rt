@@ -1,7 +1,7 @@
 //! What the benchmarks' vectors hold, and its bounds.
 
 /// An item that is made from a `u64` and adds up to one.
-pub trait Item: Clone + Default + Drop {
+pub trait Item: Drop {
     fn of(x: u64) -> Self;
 
     fn value(&self) -> u64;
@@ -37,8 +37,8 @@ impl Item for u32 {
     }
 }
 
-/// An item that is copied.
-pub trait Number: Item + Copy {}
+/// An item that is copied, and has a default.
+pub trait Number: Item + Copy + Default {}
 
 impl Number for u64 {}
 
@@ -58,4 +58,10 @@ pub fn last<T: Item>(items: &[T]) -> u64 {
 #[inline(always)]
 pub fn is_odd(item: &u64) -> bool {
     *item % 2 == 1
+}
+
+/// The same, for a call that lends its items for writing. A closure in each vector's row would be proved for each.
+#[inline(always)]
+pub fn is_odd_mut(item: &mut u64) -> bool {
+    is_odd(item)
 }

@@ -4,6 +4,20 @@ use std::io;
 use std::rt::Runtime;
 use std::time::Instant;
 
+/// Where the lines of the rows go. The rows know it by this trait alone, or each would be proved for what a runtime has
+/// besides.
+pub trait Report {
+    /// Has the names of the rows that follow begin with `prefix`.
+    fn set_prefix(&mut self, prefix: &'static str);
+
+    /// Begins a row, and returns how many rounds it has. Neither it nor `end_rounds` is inlined, so that the
+    /// instructions between the two can be counted.
+    fn begin_rounds(&mut self, capacity: usize) -> u64;
+
+    /// Ends the row, and prints its line.
+    fn end_rounds(&mut self, name: &str, capacity: usize, sum: u64);
+}
+
 /// What the rows of one kind work on. A row names its benchmark by a constant and both functions are inlined, so each
 /// round calls the benchmark's function. One loop serves all rows, since a loop or a closure for each would be proved
 /// for each.
@@ -12,104 +26,73 @@ pub trait Bench<B: Copy> {
     fn round(&mut self, benchmark: B, x: u64) -> u64;
 }
 
-/// How a row is run, and where its line goes. If a line cannot be printed, none follows.
+/// Runs a benchmark as often as the row has rounds, with the number of each, and prints the row's line.
+#[inline(always)]
+pub fn run<R: Report, B: Copy, S: Bench<B>>(
+    report: &mut R,
+    name: &str,
+    capacity: usize,
+    benchmark: B,
+    bench: &mut S,
+) {
+    let rounds = report.begin_rounds(capacity);
+    let mut sum: u64 = 0;
+    for x in 0..rounds {
+        sum = mixed(sum, bench.round(benchmark, x));
+    }
+    report.end_rounds(name, capacity, sum);
+}
+
+// The answers of the rounds so far, and one more.
+#[inline(always)]
+fn mixed(sum: u64, answer: u64) -> u64 {
+    sum.rotate_left(5) ^ answer
+}
+
+/// Prints the lines. If one cannot be printed, none follows.
 #[derive(Drop)]
-pub struct Report<'r, R: Runtime> {
+pub struct Printer<'r, R: Runtime> {
     rt: &'r R,
-    prefix: &'r str,
+    prefix: &'static str,
+    // Of a short list.
     rounds: u64,
     is_timed: bool,
+    begun: Begun,
     printed: io::Result<()>,
 }
 
-impl<'r, R: Runtime> Report<'r, R> {
-    /// Prints checksums alone.
-    pub fn of_checksums(rt: &'r R, rounds: u64) -> Self {
-        Report {
+// How often the row is run, and when it began.
+#[derive(Clone, Copy)]
+struct Begun {
+    rounds: u64,
+    start: Option<Instant>,
+}
+
+impl<'r, R: Runtime> Printer<'r, R> {
+    /// Prints checksums, and times too if `is_timed`.
+    pub fn new(rt: &'r R, rounds: u64, is_timed: bool) -> Self {
+        Printer {
             rt,
             prefix: "",
             rounds,
-            is_timed: false,
+            is_timed,
+            begun: Begun {
+                rounds,
+                start: None,
+            },
             printed: Ok(()),
         }
-    }
-
-    /// Prints times too.
-    pub fn of_times(rt: &'r R, rounds: u64) -> Self {
-        Report {
-            rt,
-            prefix: "",
-            rounds,
-            is_timed: true,
-            printed: Ok(()),
-        }
-    }
-
-    /// Has the names of the rows that follow begin with `prefix`.
-    pub fn set_prefix(&mut self, prefix: &'r str) {
-        self.prefix = prefix;
     }
 
     /// Whether every line was printed.
     pub fn finish(self) -> io::Result<()> {
-        let Report { printed, .. } = self;
+        let Printer { printed, .. } = self;
         printed
     }
 
-    /// Runs a benchmark as often as the row has rounds, with the number of each, and prints the row's line.
-    #[inline(always)]
-    pub fn run<B: Copy, S: Bench<B>>(
-        &mut self,
-        name: &str,
-        capacity: usize,
-        benchmark: B,
-        bench: &mut S,
-    ) {
-        let begun = self.begin_rounds(capacity);
-        let mut sum: u64 = 0;
-        for x in 0..begun.rounds {
-            sum = mixed(sum, bench.round(benchmark, x));
-        }
-        self.end_rounds(name, capacity, begun, sum);
-    }
-
-    /// Begins a row. If the time is taken, long lists have fewer rounds. Neither it nor `end_rounds` is inlined, so
-    /// that the instructions between the two can be counted.
-    #[inline(never)]
-    fn begin_rounds(&mut self, capacity: usize) -> Begun {
-        if !self.is_timed {
-            return Begun {
-                rounds: self.rounds,
-                start: None,
-            };
-        }
-        let rounds = rounds_at(self.rounds, capacity);
-        match Instant::now(self.rt) {
-            Ok(start) => Begun {
-                rounds,
-                start: Some(start),
-            },
-            Err(error) => {
-                self.printed = Err(error);
-                Begun {
-                    rounds: 0,
-                    start: None,
-                }
-            }
-        }
-    }
-
-    /// Ends the row, and prints its line.
-    #[inline(never)]
-    fn end_rounds(&mut self, name: &str, capacity: usize, begun: Begun, sum: u64) {
-        if self.printed.is_ok() {
-            self.printed = self.print(name, capacity, begun, sum);
-        }
-    }
-
-    fn print(&self, name: &str, capacity: usize, begun: Begun, sum: u64) -> io::Result<()> {
+    fn print(&self, name: &str, capacity: usize, sum: u64) -> io::Result<()> {
         let prefix = self.prefix;
-        let Begun { rounds, start } = begun;
+        let Begun { rounds, start } = self.begun;
         let Some(start) = start else {
             return println!(self.rt; "{prefix}{name} {capacity} {sum}");
         };
@@ -118,11 +101,40 @@ impl<'r, R: Runtime> Report<'r, R> {
     }
 }
 
-// A row that has begun, and how often it is run.
-#[derive(Clone, Copy)]
-struct Begun {
-    rounds: u64,
-    start: Option<Instant>,
+impl<R: Runtime> Report for Printer<'_, R> {
+    fn set_prefix(&mut self, prefix: &'static str) {
+        self.prefix = prefix;
+    }
+
+    // If the time is taken, long lists have fewer rounds.
+    #[inline(never)]
+    fn begin_rounds(&mut self, capacity: usize) -> u64 {
+        if self.is_timed {
+            match Instant::now(self.rt) {
+                Ok(start) => {
+                    self.begun = Begun {
+                        rounds: rounds_at(self.rounds, capacity),
+                        start: Some(start),
+                    };
+                }
+                Err(error) => {
+                    self.printed = Err(error);
+                    self.begun = Begun {
+                        rounds: 0,
+                        start: None,
+                    };
+                }
+            }
+        }
+        self.begun.rounds
+    }
+
+    #[inline(never)]
+    fn end_rounds(&mut self, name: &str, capacity: usize, sum: u64) {
+        if self.printed.is_ok() {
+            self.printed = self.print(name, capacity, sum);
+        }
+    }
 }
 
 // So that a run takes about as long for long lists as for short ones. Of the longest there are some more, or a run of twice
@@ -135,10 +147,4 @@ fn rounds_at(rounds: u64, capacity: usize) -> u64 {
     (rounds / share)
         .max((rounds / 32).min(24))
         .saturating_add(1)
-}
-
-// The answers of the rounds so far, and one more.
-#[inline(always)]
-fn mixed(sum: u64, answer: u64) -> u64 {
-    sum.rotate_left(5) ^ answer
 }

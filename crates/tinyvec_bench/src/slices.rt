@@ -1,11 +1,10 @@
 //! Vectors in a lent slice.
 ghost use Rattle.std.specs.Prelude.{◌*◌, ◌^◌, ◌<◌};
 
-use crate::looks::looks;
+use crate::looks::looks_at;
 use crate::number::is_odd;
-use crate::report::{Bench, Report};
+use crate::report::{Bench, Report, run};
 use crate::sources::{higher_at, pairs, scattered};
-use std::rt::Runtime;
 use tinyvec_array::SliceVec;
 
 /// What is done with the slice.
@@ -18,29 +17,31 @@ pub enum SliceEdit {
     Retain,
 }
 
-/// The slots, and what they are filled with.
+/// The slots, and what they are filled with: numbers, or runs of them.
 #[derive(Drop)]
 pub struct SliceBench<'a, const N: usize> {
     pub slots: [u64; N],
     pub source: &'a [u64; N],
+    pub runs: &'a [u64; N],
 }
 
 impl<const N: usize> Bench<SliceEdit> for SliceBench<'_, N> {
     #[inline(always)]
     fn round(&mut self, benchmark: SliceEdit, x: u64) -> u64 {
         let source = self.source;
+        let runs = self.runs;
         match benchmark {
             SliceEdit::Push => slice_push(&mut self.slots, x),
             SliceEdit::Insert => slice_insert(&mut self.slots, x),
             SliceEdit::Remove => slice_remove(&mut self.slots, x),
             SliceEdit::Drain => slice_drain(&mut self.slots, source, x),
-            SliceEdit::Retain => slice_retain(&mut self.slots, source, x),
+            SliceEdit::Retain => slice_retain(&mut self.slots, runs, x),
         }
     }
 }
 
 /// The benchmarks of a vector in a lent slice of `u64`.
-pub fn of_slices<R: Runtime, const N: usize>(report: &mut Report<'_, R>)
+pub fn of_slices<R: Report, const N: usize>(report: &mut R)
     requires { N * 64 < 2 ^ 63 }
 {
     let source = scattered::<u64, N>();
@@ -48,24 +49,28 @@ pub fn of_slices<R: Runtime, const N: usize>(report: &mut Report<'_, R>)
     let mut slice = SliceBench {
         slots: source,
         source: &source,
+        runs: &runs,
     };
-    report.run("push", N, SliceEdit::Push, &mut slice);
-    report.run("insert", N, SliceEdit::Insert, &mut slice);
-    report.run("remove", N, SliceEdit::Remove, &mut slice);
-    report.run("drain", N, SliceEdit::Drain, &mut slice);
-    slice.source = &runs;
-    report.run("retain", N, SliceEdit::Retain, &mut slice);
+    edits(report, N, &mut slice);
     looks_at_slices(report, source);
 }
 
-fn looks_at_slices<R: Runtime, const N: usize>(report: &mut Report<'_, R>, source: [u64; N]) {
+fn edits<R: Report, S: Bench<SliceEdit>>(report: &mut R, n: usize, slice: &mut S) {
+    run(report, "push", n, SliceEdit::Push, slice);
+    run(report, "insert", n, SliceEdit::Insert, slice);
+    run(report, "remove", n, SliceEdit::Remove, slice);
+    run(report, "drain", n, SliceEdit::Drain, slice);
+    run(report, "retain", n, SliceEdit::Retain, slice);
+}
+
+fn looks_at_slices<R: Report, const N: usize>(report: &mut R, source: [u64; N]) {
     let mut slots = source;
     let mut same_slots = source;
     let mut higher_slots = higher_at(source, N.saturating_sub(1));
     let vec = full_slice(&mut slots);
     let same = full_slice(&mut same_slots);
     let last_higher = full_slice(&mut higher_slots);
-    looks(report, N, &vec, &same, &last_higher);
+    looks_at(report, N, &vec, &same, &last_higher);
 }
 
 // A full vector over the slots.

@@ -1,11 +1,10 @@
 //! New lists that grow from the array to twice as many items as it has slots, and are dropped.
 ghost use Rattle.std.specs.Prelude.{◌*◌, ◌^◌, ◌<◌};
 
-use crate::report::{Bench, Report};
+use crate::report::{Bench, Report, run};
 use crate::sources::scattered;
 use crate::vector::Vector;
 use std::alloc::{AllocError, Global};
-use std::rt::Runtime;
 use tinyvec::TinyVec;
 
 /// How a list grows.
@@ -68,7 +67,7 @@ impl<const N: usize> Bench<Spill> for SpillBench<N> {
 }
 
 /// The benchmarks of a `TinyVec` that moves to the heap in each round.
-pub fn of_spilling<R: Runtime, const N: usize>(report: &mut Report<'_, R>, alloc: Global)
+pub fn of_spilling<R: Report, const N: usize>(report: &mut R, alloc: Global)
     requires { N * 64 < 2 ^ 63 }
 {
     let source = scattered::<u64, N>();
@@ -79,16 +78,20 @@ pub fn of_spilling<R: Runtime, const N: usize>(report: &mut Report<'_, R>, alloc
         source,
     };
     grown(report, N, &mut list);
-    report.run("extend_from_slice", N, Spill::ExtendFromSlice, &mut list);
-    report.run("append", N, Spill::Append, &mut list);
-    report.run("insert_front", N, Spill::InsertFront, &mut list);
-    report.run("insert_middle", N, Spill::InsertMiddle, &mut list);
-    report.run("resize", N, Spill::Resize, &mut list);
-    report.run("splice_more", N, Spill::SpliceMore, &mut list);
+    spilled(report, N, &mut list);
+}
+
+fn spilled<R: Report, S: Bench<Spill>>(report: &mut R, n: usize, list: &mut S) {
+    run(report, "extend_from_slice", n, Spill::ExtendFromSlice, list);
+    run(report, "append", n, Spill::Append, list);
+    run(report, "insert_front", n, Spill::InsertFront, list);
+    run(report, "insert_middle", n, Spill::InsertMiddle, list);
+    run(report, "resize", n, Spill::Resize, list);
+    run(report, "splice_more", n, Spill::SpliceMore, list);
 }
 
 /// Lists of this many numbers out of four slots.
-pub fn of_long<R: Runtime>(report: &mut Report<'_, R>, alloc: Global, n: usize) {
+pub fn of_long<R: Report>(report: &mut R, alloc: Global, n: usize) {
     let mut list = SpillBench::<4> {
         alloc,
         count: n,
@@ -97,16 +100,22 @@ pub fn of_long<R: Runtime>(report: &mut Report<'_, R>, alloc: Global, n: usize) 
     };
     grown(report, n, &mut list);
     let _ = list.other.extend(0..n as u64);
-    report.run("clone", n, Spill::Clone, &mut list);
+    run(report, "clone", n, Spill::Clone, &mut list);
 }
 
-fn grown<R: Runtime, S: Bench<Spill>>(report: &mut Report<'_, R>, n: usize, list: &mut S) {
-    report.run("push", n, Spill::Push, list);
-    report.run("extend_from_range", n, Spill::ExtendFromRange, list);
-    report.run("reserve_and_extend", n, Spill::ReserveAndExtend, list);
-    report.run("extend_exact_size", n, Spill::ExtendExactSize, list);
-    report.run("from_iter", n, Spill::FromIter, list);
-    report.run("collect", n, Spill::Collect, list);
+fn grown<R: Report, S: Bench<Spill>>(report: &mut R, n: usize, list: &mut S) {
+    run(report, "push", n, Spill::Push, list);
+    run(report, "extend_from_range", n, Spill::ExtendFromRange, list);
+    run(
+        report,
+        "reserve_and_extend",
+        n,
+        Spill::ReserveAndExtend,
+        list,
+    );
+    run(report, "extend_exact_size", n, Spill::ExtendExactSize, list);
+    run(report, "from_iter", n, Spill::FromIter, list);
+    run(report, "collect", n, Spill::Collect, list);
 }
 
 /// Pushes `count` numbers to a list over as many slots as `_like`.

@@ -1,8 +1,7 @@
 //! The rows of `splice`, which most vectors of other crates lack.
 use crate::edits::{ListBench, extend_from_slice};
-use crate::report::{Bench, Report};
+use crate::report::{Bench, Report, run};
 use crate::vector::Words;
-use std::rt::Runtime;
 
 /// How many items a splice puts in the place of a quarter.
 #[derive(Clone, Copy)]
@@ -28,11 +27,11 @@ impl<V: Words<N>, const N: usize> Bench<Share> for ListBench<'_, u64, V, N> {
 }
 
 /// The splices of a vector that stays where it is.
-pub fn splices<R: Runtime, S: Bench<Share>>(report: &mut Report<'_, R>, n: usize, list: &mut S) {
-    report.run("splice_as_many", n, Share::AsMany, list);
-    report.run("splice_fewer", n, Share::Fewer, list);
-    report.run("splice_more", n, Share::More, list);
-    report.run("replace_range", n, Share::Slice, list);
+pub fn splices<R: Report, S: Bench<Share>>(report: &mut R, n: usize, list: &mut S) {
+    run(report, "splice_as_many", n, Share::AsMany, list);
+    run(report, "splice_fewer", n, Share::Fewer, list);
+    run(report, "splice_more", n, Share::More, list);
+    run(report, "replace_range", n, Share::Slice, list);
 }
 
 /// Makes the list the first three quarters of `source`, and puts `count` numbers in the place of the second quarter.

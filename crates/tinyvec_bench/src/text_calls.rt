@@ -1,11 +1,10 @@
 //! Calls of a text that has bytes, in its array or on the heap. Each row leaves the text as it was.
 ghost use Rattle.std.specs.Prelude.{◌*◌, ◌^◌, ◌<◌};
 
-use crate::report::{Bench, Report};
+use crate::report::{Bench, Report, run};
 use crate::sources::LETTERS;
 use crate::texts::look_at;
 use std::alloc::Global;
-use std::rt::Runtime;
 use tinyvec_text::InlineText;
 
 /// Calls that change a text, and back.
@@ -83,11 +82,7 @@ impl<const N: usize> Bench<TextCopy> for TextCalls<'_, N> {
 }
 
 /// The calls of a text of `count` bytes. If the array has fewer slots, it is on the heap.
-pub fn of_text_calls<R: Runtime, const N: usize>(
-    report: &mut Report<'_, R>,
-    alloc: Global,
-    count: usize,
-)
+pub fn of_text_calls<R: Report, const N: usize>(report: &mut R, alloc: Global, count: usize)
     requires { N * 64 < 2 ^ 63 }
 {
     let mut source = String::new(alloc);
@@ -101,6 +96,7 @@ pub fn of_text_calls<R: Runtime, const N: usize>(
         letters,
     };
     edits(report, count, &mut calls);
+    replacements(report, count, &mut calls);
     copies(report, count, &mut calls);
 }
 
@@ -112,29 +108,56 @@ fn made<const N: usize>(alloc: Global, letters: &str) -> InlineText<N> {
     text
 }
 
-fn edits<R: Runtime, S: Bench<TextEdit>>(report: &mut Report<'_, R>, n: usize, texts: &mut S) {
-    report.run("text_push_and_pop", n, TextEdit::PushAndPop, texts);
-    report.run("text_push_and_pop_wide", n, TextEdit::PushAndPopWide, texts);
-    report.run("text_pop_all", n, TextEdit::PopAll, texts);
-    report.run("text_insert_front", n, TextEdit::InsertFront, texts);
-    report.run("text_insert_middle", n, TextEdit::InsertMiddle, texts);
-    report.run("text_insert_wide", n, TextEdit::InsertWide, texts);
-    report.run("text_insert_str", n, TextEdit::InsertStr, texts);
-    report.run("text_replace_range", n, TextEdit::ReplaceRange, texts);
-    report.run("text_retain_all", n, TextEdit::RetainAll, texts);
-    report.run("text_retain_half", n, TextEdit::RetainHalf, texts);
-    report.run("text_split_off", n, TextEdit::SplitOff, texts);
+fn edits<R: Report, S: Bench<TextEdit>>(report: &mut R, n: usize, texts: &mut S) {
+    run(report, "text_push_and_pop", n, TextEdit::PushAndPop, texts);
+    run(
+        report,
+        "text_push_and_pop_wide",
+        n,
+        TextEdit::PushAndPopWide,
+        texts,
+    );
+    run(report, "text_pop_all", n, TextEdit::PopAll, texts);
+    run(report, "text_insert_front", n, TextEdit::InsertFront, texts);
+    run(
+        report,
+        "text_insert_middle",
+        n,
+        TextEdit::InsertMiddle,
+        texts,
+    );
+    run(report, "text_insert_wide", n, TextEdit::InsertWide, texts);
 }
 
-fn copies<R: Runtime, S: Bench<TextCopy>>(report: &mut Report<'_, R>, n: usize, texts: &mut S) {
-    report.run("text_clone", n, TextCopy::Clone, texts);
-    report.run("text_refill", n, TextCopy::PushStr, texts);
-    report.run("text_extend_chars", n, TextCopy::ExtendChars, texts);
-    report.run("text_extend_strs", n, TextCopy::ExtendStrs, texts);
-    report.run("text_equal", n, TextCopy::Equal, texts);
-    report.run("text_compare", n, TextCopy::Compare, texts);
-    report.run("text_as_str", n, TextCopy::AsStr, texts);
-    report.run("text_is_char_boundary", n, TextCopy::IsCharBoundary, texts);
+fn replacements<R: Report, S: Bench<TextEdit>>(report: &mut R, n: usize, texts: &mut S) {
+    run(report, "text_insert_str", n, TextEdit::InsertStr, texts);
+    run(
+        report,
+        "text_replace_range",
+        n,
+        TextEdit::ReplaceRange,
+        texts,
+    );
+    run(report, "text_retain_all", n, TextEdit::RetainAll, texts);
+    run(report, "text_retain_half", n, TextEdit::RetainHalf, texts);
+    run(report, "text_split_off", n, TextEdit::SplitOff, texts);
+}
+
+fn copies<R: Report, S: Bench<TextCopy>>(report: &mut R, n: usize, texts: &mut S) {
+    run(report, "text_clone", n, TextCopy::Clone, texts);
+    run(report, "text_refill", n, TextCopy::PushStr, texts);
+    run(report, "text_extend_chars", n, TextCopy::ExtendChars, texts);
+    run(report, "text_extend_strs", n, TextCopy::ExtendStrs, texts);
+    run(report, "text_equal", n, TextCopy::Equal, texts);
+    run(report, "text_compare", n, TextCopy::Compare, texts);
+    run(report, "text_as_str", n, TextCopy::AsStr, texts);
+    run(
+        report,
+        "text_is_char_boundary",
+        n,
+        TextCopy::IsCharBoundary,
+        texts,
+    );
 }
 
 #[inline(never)]
@@ -193,13 +216,15 @@ fn insert_str<const N: usize>(text: &mut InlineText<N>) -> u64 {
 // Puts eight bytes in the place of three, and three in the place of eight.
 #[inline(never)]
 fn replace_range<const N: usize>(text: &mut InlineText<N>) -> u64 {
-    if !text.is_char_boundary(3) || text.replace_range(0..3, "stuvwxyz").is_err() {
-        return 0;
-    }
-    if !text.is_char_boundary(8) || text.replace_range(0..8, "abc").is_err() {
+    if !put_in_front::<N>(text, 3, "stuvwxyz") || !put_in_front::<N>(text, 8, "abc") {
         return 0;
     }
     text.len() as u64
+}
+
+#[inline(always)]
+fn put_in_front<const N: usize>(text: &mut InlineText<N>, end: usize, with: &str) -> bool {
+    text.is_char_boundary(end) && text.replace_range(0..end, with).is_ok()
 }
 
 #[inline(never)]

@@ -1,10 +1,9 @@
 //! Short texts, which stay in their array or move to the heap.
 ghost use Rattle.std.specs.Prelude.{◌*◌, ◌^◌, ◌<◌};
 
-use crate::report::{Bench, Report};
+use crate::report::{Bench, Report, run};
 use crate::sources::LETTERS;
 use std::alloc::Global;
-use std::rt::Runtime;
 use tinyvec_text::InlineText;
 
 /// How a text is added.
@@ -33,8 +32,8 @@ impl<const N: usize> Bench<TextPush> for TextBench<'_, N> {
 }
 
 /// The first bytes of a text. If the array has fewer slots, they move to the heap.
-pub fn of_texts<R: Runtime, const N: usize>(
-    report: &mut Report<'_, R>,
+pub fn of_texts<R: Report, const N: usize>(
+    report: &mut R,
     made: InlineText<N>,
     alloc: Global,
     count: usize,
@@ -50,8 +49,14 @@ pub fn of_texts<R: Runtime, const N: usize>(
         ("text_push_str_spilled", "text_push_spilled")
     };
     let mut bench = TextBench::<N> { alloc, made, text };
-    report.run(str_name, count, TextPush::Str, &mut bench);
-    report.run(characters_name, count, TextPush::Characters, &mut bench);
+    run(report, str_name, count, TextPush::Str, &mut bench);
+    run(
+        report,
+        characters_name,
+        count,
+        TextPush::Characters,
+        &mut bench,
+    );
 }
 
 // Makes a new text, to which `text` is added.

@@ -1,13 +1,13 @@
 //! The calls of a `TinyVec`.
 ghost use Rattle.std.specs.Prelude.{⊤};
 
-use crate::number::{Item, is_odd, last};
+use crate::number::{Item, is_odd, is_odd_mut, last};
 use crate::vector::{Place, Vector, Words};
 use std::alloc::Global;
 use std::ops::Range;
 use tinyvec::TinyVec;
 
-impl<T: Item, const N: usize> Vector<T, N> for TinyVec<[T; N]> {
+impl<T: Item + Clone + Default, const N: usize> Vector<T, N> for TinyVec<[T; N]> {
     ghost has_room = { λ _. ⊤ };
 
     #[inline(always)]
@@ -121,7 +121,7 @@ impl<const N: usize> Words<N> for TinyVec<[u64; N]> {
     #[inline(always)]
     fn extract_odd(&mut self, x: u64) -> u64 {
         let mut sum = x;
-        for y in self.extract_if(.., |y| is_odd(y)) {
+        for y in self.extract_if(.., is_odd_mut) {
             sum = sum.wrapping_add(y);
         }
         sum
@@ -145,7 +145,7 @@ impl<const N: usize> Words<N> for TinyVec<[u64; N]> {
 
 // A new vector as long as `_like`, and two pushes.
 #[inline(never)]
-fn two_pushes<T: Item, const N: usize>(
+fn two_pushes<T: Item + Clone + Default, const N: usize>(
     alloc: Global,
     _like: &TinyVec<[T; N]>,
     x: u64,
@@ -158,7 +158,7 @@ fn two_pushes<T: Item, const N: usize>(
 
 // A new vector as long as `_like` with room on the heap, and two pushes.
 #[inline(never)]
-fn two_pushes_on_heap<T: Item, const N: usize>(
+fn two_pushes_on_heap<T: Item + Clone + Default, const N: usize>(
     alloc: Global,
     _like: &TinyVec<[T; N]>,
     x: u64,
@@ -173,7 +173,7 @@ fn two_pushes_on_heap<T: Item, const N: usize>(
 
 // A clone of the one or the other, as `x` is even or odd.
 #[inline(never)]
-fn clone_of<T: Item, const N: usize>(
+fn clone_of<T: Item + Clone + Default, const N: usize>(
     alloc: Global,
     even: &TinyVec<[T; N]>,
     odd: &TinyVec<[T; N]>,
@@ -188,7 +188,7 @@ fn clone_of<T: Item, const N: usize>(
 
 // The same, by a `match` of both results.
 #[inline(never)]
-fn match_of<T: Item, const N: usize>(
+fn match_of<T: Item + Clone + Default, const N: usize>(
     alloc: Global,
     even: &TinyVec<[T; N]>,
     odd: &TinyVec<[T; N]>,

@@ -5,8 +5,6 @@ ghost use Rattle.std.specs.Bool.{OnTrue};
 use crate::number::Item;
 use std::alloc::Global;
 use std::convert::AsSlice;
-use std::fmt::Debug;
-use std::hash::Hash;
 use std::ops::Range;
 
 /// Where a list is: in the vector's array, or on the heap.
@@ -70,7 +68,7 @@ pub trait Vector<T: Item, const N: usize>: AsSlice<T> + Drop {
 }
 
 /// The calls that only rows of `u64` make.
-pub trait Words<const N: usize>: Vector<u64, N> + Debug + Hash + PartialOrd {
+pub trait Words<const N: usize>: Vector<u64, N> {
     fn extend_from_range(&mut self, numbers: Range<u64>) -> bool;
 
     /// Takes a part out, and returns the sum of its items and `x`.
