@@ -11,6 +11,11 @@ TABLE = exports.TOP / "tests/requests.txt"
 WITHOUT_ALLOCATOR = ("tinyvec_slots", "tinyvec_array")
 # The forms of numbers and lists are those of the traits.
 FORMS = ("BorshSerialize", "BorshDeserialize")
+# The types whose calls the rows of a kind show.
+SHOWN = {
+    "streams": ("Counted", "BorshSerialize", "BorshError"),
+    "TinyVec": ("TinyVec", "TinyVecDrain", "TinyVecSplice"),
+}
 
 
 def faults():
@@ -67,5 +72,5 @@ def shown_by_rows():
         for chain in rows.read_file(path):
             kind = re.split(r"[<\[ ]", chain.kind)[0]
             names = {call.split(" ")[0] for _, call, wanted in chain.calls if wanted.endswith("; 0 requests")}
-            shown |= {(it, name) for it in {"streams": ("Counted", "BorshSerialize", "BorshError")}.get(kind, (kind,)) for name in names}
+            shown |= {(it, name) for it in SHOWN.get(kind, (kind,)) for name in names}
     return shown

@@ -155,6 +155,13 @@ def compared(t, other):
     return f"Some({'Less' if ours < theirs else 'Greater' if ours > theirs else 'Equal'})"
 
 
+def retain_not(t, letter):
+    """It says how often the closure was asked: about each character once."""
+    text = t.text()
+    t.becomes(list(text.replace(letter, "").encode()))
+    return str(len(text))
+
+
 # What makes a text.
 for name in ("new", "made_with"):
     calls(name)(lambda t: t.made([]))
@@ -182,7 +189,7 @@ calls("truncate B")(lambda t, i: t.becomes(t.list[:i]))
 calls("insert B C")(lambda t, i, letter: t.puts(i, i, letter))
 calls("insert_str B T")(lambda t, i, text: t.puts(i, i, text))
 calls("replace_range R T")(lambda t, span, text: t.puts(*span, text))
-calls("retain_not C")(lambda t, letter: t.becomes(list(t.text().replace(letter, "").encode())))
+calls("retain_not C")(retain_not)
 calls("split_off B")(lambda t, i: part(t, i, i))
 calls("clone")(lambda t: part(t, 0))
 calls("shrink_to_fit")(shrink_to_fit)

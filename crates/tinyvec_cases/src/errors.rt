@@ -2,16 +2,19 @@
 use std::fmt::{Display, Write as _};
 use tinyvec::{CapacityError, TryFromSliceError};
 use tinyvec_borsh::BorshError;
-use tinyvec_rows::{Said, Words, Wrong};
+use tinyvec_rows::{Out, Words, Wrong};
 use tinyvec_script::RunError;
 use tinyvec_vector_cases::vector::Calls;
 
 /// Writes the text of the error that the first word names.
-pub(crate) fn answer(words: &mut Words<'_>, calls: &mut Calls<'_>) -> Said {
-    let name = words.word()?;
-    words.end()?;
+pub(crate) fn answer(words: &mut Words<'_>, calls: &mut Calls<'_>) {
+    let name = words.word();
+    words.end();
+    if !calls.out.accepts(words) {
+        return;
+    }
     if calls.text != "show {}" {
-        return Err(Wrong::Call);
+        return calls.out.fail(Wrong::Place);
     }
     match name {
         "CapacityError" => show(calls.out, &CapacityError),
@@ -19,10 +22,10 @@ pub(crate) fn answer(words: &mut Words<'_>, calls: &mut Calls<'_>) -> Said {
         "TryFromSliceError::Memory" => show(calls.out, &TryFromSliceError::Memory),
         "BorshError::Memory" => show(calls.out, &BorshError::Memory),
         "RunError::TooLong" => show(calls.out, &RunError::TooLong),
-        _ => Err(Wrong::Value),
+        _ => calls.out.fail(Wrong::Value),
     }
 }
 
-fn show<E: Display>(out: &mut String, error: &E) -> Said {
-    Ok(write!(out, "\"{error}\" ")?)
+fn show<E: Display>(out: &mut Out, error: &E) {
+    let _ = write!(out, "\"{error}\" ");
 }

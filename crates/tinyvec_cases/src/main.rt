@@ -11,7 +11,7 @@ mod text_call;
 
 use std::io;
 use std::io::{BufRead, BufReader};
-use tinyvec_rows::{Said, Words, Wrong};
+use tinyvec_rows::{Out, Words, Wrong};
 use tinyvec_vector_cases::starts;
 use tinyvec_vector_cases::vector::Calls;
 
@@ -19,20 +19,19 @@ fn main(rt: HostRuntime) -> io::Result<()> {
     let alloc = rt.alloc();
     for line in BufReader::new(alloc, rt.reader())?.lines(alloc) {
         let line = line?;
-        let mut out = String::new(alloc);
-        if let Err(wrong) = answer(line.as_str(), &mut out) {
-            out.push_str(wrong.text())?;
-        }
-        println!(rt; "{out}")?;
+        let mut out = Out::new(alloc);
+        answer(line.as_str(), &mut out);
+        let answers = out.end();
+        println!(rt; "{answers}")?;
     }
     Ok(())
 }
 
 // What a line is answered: a kind and a start, and after each tab a call.
-fn answer(line: &str, out: &mut String) -> Said {
+fn answer(line: &str, out: &mut Out) {
     let (start, text) = line.split_once('\t').unwrap_or((line, ""));
-    let mut words = Words::new(*out.allocator(), start);
-    let kind = words.word()?;
+    let mut words = Words::new(out.alloc(), start);
+    let kind = words.word();
     let (name, held) = kind.split_once('<').unwrap_or((kind, ""));
     let calls = &mut Calls { text, out };
     // An arm takes one line, so that scripts/rows/rows.py can leave some out.
@@ -40,11 +39,11 @@ fn answer(line: &str, out: &mut String) -> Said {
         "streams" => streams::answer(&mut words, calls),
         "script" => streams::answer_lines(&mut words, calls),
         "errors" => errors::answer(&mut words, calls),
-        "InlineText" => text::answer(kind, &mut words, calls),
-        "Run" => runs::answer(kind, &mut words, calls),
+        "InlineText" => text::answer(held, &mut words, calls),
+        "Run" => runs::answer(held, &mut words, calls),
         "ArrayVec" => starts::answer_array(held, &mut words, calls),
         "TinyVec" => starts::answer_tiny(held, &mut words, calls),
         "SliceVec" => starts::answer_slice(held, &mut words, calls),
-        _ => Err(Wrong::Vector),
+        _ => calls.out.fail(Wrong::Vector),
     }
 }

@@ -5,9 +5,9 @@ use std::alloc::{AllocError, Global};
 use std::cell::{Cell, RefCell};
 use std::fmt::{Debug, Write as _};
 use std::io::{Read, Write};
-use std::{io, str};
+use std::{fmt, io, str};
 use tinyvec_io::Counted;
-use tinyvec_rows::{Said, Words, Wrong, window};
+use tinyvec_rows::{Out, Words, Wrong, window};
 use tinyvec_script::run;
 use tinyvec_vector_cases::vector::Calls;
 
@@ -56,51 +56,55 @@ impl Trace {
 
     // Writes the calls since the last time, as `r4096:6 w21 f`: a read of 6 bytes into 4096, a write of all of 21, and a
     // flush. A call that failed has a `!`, and one that was made several times in a row a `*` and how often.
-    fn tell_calls(&self, out: &mut String) -> Said {
+    fn tell_calls(&self, out: &mut Out) {
         let Ok(mut calls) = self.calls.try_borrow_mut() else {
-            return Ok(());
+            return;
         };
         for (call, times) in calls.as_slice() {
-            tell_call(*call, out)?;
+            tell_call(*call, out);
             if *times > 1 {
-                write!(out, "*{times}")?;
+                let _ = write!(out, "*{times}");
             }
         }
         calls.clear();
-        Ok(())
     }
 
-    fn tell_left(&self, out: &mut String) -> Said {
+    fn tell_left(&self, out: &mut Out) {
         let left = self.left.get();
-        Ok(write!(out, "{left} left")?)
+        let _ = write!(out, "{left} left");
     }
 
     // Writes what was written since the last time: as a text, as digits, or of much how much it is.
-    fn tell_written(&self, out: &mut String, is_text: bool) -> Said {
+    fn tell_written(&self, out: &mut Out, is_text: bool) {
         let Ok(mut written) = self.written.try_borrow_mut() else {
-            return Ok(());
+            return;
         };
-        let len = written.len();
-        match str::from_utf8(written.as_slice()) {
-            Ok(text) if is_text && len <= 4000 => write!(out, "{text:?}")?,
-            _ if len > 40 => write!(out, "{len} bytes")?,
-            _ => write_hex(out, written.as_slice())?,
-        }
+        tell_bytes(written.as_slice(), is_text, out);
         written.clear();
-        Ok(())
     }
 }
 
-fn tell_call(call: Call, out: &mut String) -> Said {
+fn tell_bytes(bytes: &[u8], is_text: bool, out: &mut Out) {
+    let len = bytes.len();
+    let _ = match str::from_utf8(bytes) {
+        Ok(text) if is_text && len <= 4000 => write!(out, "{text:?}"),
+        _ if len > 40 => write!(out, "{len} bytes"),
+        _ => write_hex(out, bytes),
+    };
+}
+
+fn tell_call(call: Call, out: &mut Out) {
     let (name, count, moved) = call;
-    write!(out, " {name}")?;
+    let _ = write!(out, " {name}");
     if name != 'f' {
-        write!(out, "{count}")?;
+        let _ = write!(out, "{count}");
     }
     match moved {
-        None => Ok(out.push('!')?),
-        Some(moved) if name == 'r' || moved != count => Ok(write!(out, ":{moved}")?),
-        Some(_) => Ok(()),
+        None => out.put("!"),
+        Some(moved) if name == 'r' || moved != count => {
+            let _ = write!(out, ":{moved}");
+        }
+        Some(_) => {}
     }
 }
 
@@ -167,175 +171,191 @@ pub(crate) struct Streams<'a> {
 
 /// Answers calls, one after the other. After what a call returns are the faults so far, the calls of the reader and the
 /// writer, and what was written, or of a call that reads how many bytes are left.
-pub(crate) fn answer(words: &mut Words<'_>, calls: &mut Calls<'_>) -> Said {
-    let (alloc, plan) = (words.alloc, Plan::read(words)?);
-    let trace = Trace::new(alloc)?;
-    trace.left.set(plan.input.len());
+pub(crate) fn answer(words: &mut Words<'_>, calls: &mut Calls<'_>) {
+    let mut plan = Plan::new(words.alloc);
+    plan.read(words);
+    if !calls.out.accepts(words) {
+        return;
+    }
+    match Trace::new(words.alloc) {
+        Ok(trace) => answer_calls(plan, &trace, calls),
+        Err(_) => calls.out.fail(Wrong::Memory),
+    }
+}
+
+fn answer_calls(plan: Plan, trace: &Trace, calls: &mut Calls<'_>) {
+    let Plan {
+        input,
+        reads,
+        writes,
+    } = plan;
+    trace.left.set(input.len());
     let mut streams = Streams {
         reader: Counted::new(Stream {
-            input: plan.input.as_slice(),
-            steps: plan.reads.clone()?,
-            trace: &trace,
+            input: input.as_slice(),
+            steps: reads,
+            trace,
         }),
         writer: Counted::new(Stream {
             input: &[],
-            steps: plan.writes.clone()?,
-            trace: &trace,
+            steps: writes,
+            trace,
         }),
     };
     for call in calls.text.split('\t') {
-        answer_call(call, &trace, &mut streams, calls.out)?;
-        calls.out.push('\t')?;
+        answer_call(call, trace, &mut streams, calls.out);
+        calls.out.put("\t");
     }
-    Ok(())
 }
 
-fn answer_call(call: &str, trace: &Trace, streams: &mut Streams<'_>, out: &mut String) -> Said {
-    let (refused, mut words) = window::read(*out.allocator(), call)?;
-    let name = words.word()?;
-    make(name, refused, streams, &mut words, out)?;
-    tell_faults(streams, out)?;
-    trace.tell_calls(out)?;
-    out.push_str(" / ")?;
+fn answer_call(call: &str, trace: &Trace, streams: &mut Streams<'_>, out: &mut Out) {
+    let mut words = Words::new(out.alloc(), call);
+    let refused = window::read(&mut words);
+    let name = words.word();
+    make(name, refused, streams, &mut words, out);
+    tell_faults(streams, out);
+    trace.tell_calls(out);
+    out.put(" / ");
     match name {
         "read" | "read_some" | "fill" | "get" => trace.tell_left(out),
         _ => trace.tell_written(out, name != "put"),
     }
 }
 
-fn tell_faults(streams: &Streams<'_>, out: &mut String) -> Said {
+fn tell_faults(streams: &Streams<'_>, out: &mut Out) {
     let (reads, writes) = (streams.reader.faults(), streams.writer.faults());
     let faults = reads.saturating_add(writes);
-    Ok(write!(out, ", {faults} faults /")?)
+    let _ = write!(out, ", {faults} faults /");
 }
 
 /// Answers the lines of a script, each of which is a call. The request of the number that the start has is refused.
-pub(crate) fn answer_lines(words: &mut Words<'_>, calls: &mut Calls<'_>) -> Said {
+pub(crate) fn answer_lines(words: &mut Words<'_>, calls: &mut Calls<'_>) {
     let alloc = words.alloc;
-    let refused = match words.goes_on("refused")? {
-        true => words.item::<u16>()?,
-        false => 0,
+    let refused = if words.goes_on("refused") {
+        words.item::<u16>()
+    } else {
+        0
     };
-    words.end()?;
-    let input = lines_of(alloc, calls.text)?;
-    let mut reader = Counted::new(input.as_slice());
-    let mut writer = Counted::new(Vec::with_capacity(alloc, 1 << 15)?);
+    let mut input = String::new(alloc);
+    add_lines(calls.text, &mut input, words);
+    words.end();
+    match Vec::with_capacity(alloc, 1 << 15) {
+        Ok(written) if calls.out.accepts(words) => {
+            run_lines(input.as_bytes(), refused, written, calls.out);
+        }
+        _ => calls.out.fail(Wrong::Memory),
+    }
+}
+
+fn add_lines(calls: &str, input: &mut String, words: &mut Words<'_>) {
+    for call in calls.split('\t') {
+        if input.push_str(call).is_err() || input.push('\n').is_err() {
+            words.fail(Wrong::Memory);
+        }
+    }
+}
+
+fn run_lines(input: &[u8], refused: u16, written: Vec<u8>, out: &mut Out) {
+    let alloc = out.alloc();
+    let mut reader = Counted::new(input);
+    let mut writer = Counted::new(written);
     window::open(alloc, refused);
     let ended = run(alloc, &mut reader, &mut writer);
     window::close(alloc);
     let output = writer.into_inner();
-    tell_lines(output.as_slice(), calls.out)?;
-    match ended {
-        Ok(()) => Ok(()),
-        Err(error) => Ok(write!(calls.out, "{error}")?),
+    tell_lines(output.as_slice(), out);
+    if let Err(error) = ended {
+        let _ = write!(out, "{error}");
     }
 }
 
-fn lines_of(alloc: Global, calls: &str) -> Result<Vec<u8>, Wrong> {
-    let mut input = Vec::new(alloc);
-    for call in calls.split('\t') {
-        input.extend_from_slice(call.as_bytes())?;
-        input.push(b'\n')?;
-    }
-    Ok(input)
-}
-
-fn tell_lines(output: &[u8], out: &mut String) -> Said {
+fn tell_lines(output: &[u8], out: &mut Out) {
     let text = str::from_utf8(output).unwrap_or("no text");
     for line in text.split('\n') {
-        out.push_str(line)?;
-        out.push('\t')?;
+        out.put(line);
+        out.put("\t");
     }
-    Ok(())
 }
 
 // Makes a call, whose requests for memory are in a window.
-fn make(
+fn make(name: &str, refused: u16, streams: &mut Streams<'_>, words: &mut Words<'_>, out: &mut Out) {
+    match name {
+        "get" => borsh::answer(false, refused, streams, words, out),
+        "put" => borsh::answer(true, refused, streams, words, out),
+        _ => move_text(name, refused, streams, words, out),
+    }
+}
+
+fn move_text(
     name: &str,
     refused: u16,
     streams: &mut Streams<'_>,
     words: &mut Words<'_>,
-    out: &mut String,
-) -> Said {
-    if name == "get" || name == "put" {
-        return borsh::answer(name == "put", refused, streams, words, out);
+    out: &mut Out,
+) {
+    let alloc = words.alloc;
+    let mut text = String::new(alloc);
+    if !words.is_empty() {
+        words.add_text(&mut text);
     }
-    let text = match name {
-        "write" | "write_all" => words.text()?,
-        _ => String::new(words.alloc),
-    };
-    words.end()?;
-    match name {
-        "script" => run_script(words.alloc, refused, streams, out),
-        "faults" => count_none(words.alloc, refused, out),
-        _ => move_in_window(name, refused, streams, text, out),
+    words.end();
+    out.reserve(4096);
+    if out.accepts(words) {
+        window::open(alloc, refused);
+        move_bytes(name, streams, text.as_bytes(), out);
+        window::close(alloc);
     }
 }
 
-fn run_script(alloc: Global, refused: u16, streams: &mut Streams<'_>, out: &mut String) -> Said {
-    window::open(alloc, refused);
-    let ended = run(alloc, &mut streams.reader, &mut streams.writer);
-    window::close(alloc);
-    match ended {
-        Ok(()) => Ok(out.push_str("ok")?),
-        Err(error) => Ok(write!(out, "{error}")?),
-    }
+fn run_script(streams: &mut Streams<'_>, out: &mut Out) {
+    let _ = match run(out.alloc(), &mut streams.reader, &mut streams.writer) {
+        Ok(()) => write!(out, "ok"),
+        Err(error) => write!(out, "{error}"),
+    };
 }
 
 // Counts the faults of a reader of which nothing is read, and takes it out again.
-fn count_none(alloc: Global, refused: u16, out: &mut String) -> Said {
+fn count_none(out: &mut Out) {
     let input: &[u8] = &[];
-    window::open(alloc, refused);
     let counted = Counted::new(input);
     let faults = counted.faults();
     let input = counted.into_inner();
-    window::close(alloc);
-    Ok(write!(out, "{faults} of {input:?}")?)
+    let _ = write!(out, "{faults} of {input:?}");
 }
 
-fn move_in_window(
-    name: &str,
-    refused: u16,
-    streams: &mut Streams<'_>,
-    text: String,
-    out: &mut String,
-) -> Said {
-    let alloc = *out.allocator();
-    out.reserve(4096)?;
-    window::open(alloc, refused);
-    let made = move_bytes(name, streams, text.as_bytes(), out);
-    window::close(alloc);
-    made
+fn move_bytes(name: &str, streams: &mut Streams<'_>, bytes: &[u8], out: &mut Out) {
+    match name {
+        "script" => run_script(streams, out),
+        "faults" => count_none(out),
+        "write" => tell(streams.writer.write(bytes), out),
+        "write_all" => tell(streams.writer.write_all(bytes), out),
+        "flush" => tell(streams.writer.flush(), out),
+        _ => read_bytes(name, streams, out),
+    }
 }
 
-fn move_bytes(name: &str, streams: &mut Streams<'_>, bytes: &[u8], out: &mut String) -> Said {
+fn read_bytes(name: &str, streams: &mut Streams<'_>, out: &mut Out) {
     let mut buf = [b'.'; 4];
-    let read = match name {
-        "read" => streams.reader.read(&mut buf),
-        "read_some" => streams.reader.read_some(&mut buf),
-        "fill" => streams.reader.fill(&mut buf),
-        "write" => return tell(out, streams.writer.write(bytes)),
-        "write_all" => return tell(out, streams.writer.write_all(bytes)),
-        "flush" => return tell(out, streams.writer.flush()),
-        _ => return Err(Wrong::Call),
-    };
-    tell(out, read)?;
+    match name {
+        "read" => tell(streams.reader.read(&mut buf), out),
+        "read_some" => tell(streams.reader.read_some(&mut buf), out),
+        "fill" => tell(streams.reader.fill(&mut buf), out),
+        _ => out.fail(Wrong::Place),
+    }
     let text = str::from_utf8(&buf).unwrap_or("?");
-    write!(out, " {text:?}")?;
-    Ok(())
+    let _ = write!(out, " {text:?}");
 }
 
 // Writes what a call returned.
-fn tell<T: Debug + Drop>(out: &mut String, returned: io::Result<T>) -> Said {
-    match returned {
-        Ok(value) => write!(out, "{value:?}")?,
-        Err(error) => write!(out, "{error}")?,
-    }
-    Ok(())
+fn tell<T: Debug + Drop>(returned: io::Result<T>, out: &mut Out) {
+    let _ = match returned {
+        Ok(value) => write!(out, "{value:?}"),
+        Err(error) => write!(out, "{error}"),
+    };
 }
 
 /// Writes bytes in hexadecimal.
-fn write_hex(out: &mut String, bytes: &[u8]) -> Said {
+fn write_hex(out: &mut Out, bytes: &[u8]) -> fmt::Result {
     for byte in bytes {
         let (high, low) = (*byte / 16, *byte % 16);
         write!(out, "{high:x}{low:x}")?;

@@ -1,244 +1,259 @@
 //! Calls of an `InlineText`.
-use crate::text_call::{Append, Edit, Look, Make, Part, Show, TextCall};
-use std::alloc::AllocError;
+use crate::text_call::{Name, TextCall, read_room};
 use std::convert::{AsSlice, AsStr};
 use std::default::MadeWith;
-use std::fmt::Write;
+use std::fmt::{Debug, Write};
 use std::mem;
 use std::ops::Bound;
-use tinyvec::{NoMemory, TinyVec};
-use tinyvec_rows::{
-    Quoted, Said, Span, Words, Wrong, done, say, say_place, say_slots, say_word, window,
-};
+use tinyvec::{ArrayVec, NoMemory, TinyVec};
+use tinyvec_rows::{Out, Quoted, Words, Wrong, window};
 use tinyvec_text::InlineText;
+use tinyvec_vector_cases::array::set;
 use tinyvec_vector_cases::compare::{hash_of, operators_agree};
-use tinyvec_vector_cases::tiny::inline;
+use tinyvec_vector_cases::starts::{is_filled, start_inline};
+use tinyvec_vector_cases::tiny::say_tiny;
 use tinyvec_vector_cases::vector::Calls;
 
-/// Answers the calls of a row of texts.
-pub(crate) fn answer(kind: &str, words: &mut Words<'_>, calls: &mut Calls<'_>) -> Said {
-    match kind {
-        "InlineText<0>" => answer_calls(made::<0>(words)?, words, calls),
-        "InlineText<4>" if words.follows("utf8") => answer_calls(decoded(words)?, words, calls),
-        "InlineText<4>" => answer_calls(made::<4>(words)?, words, calls),
-        "InlineText<20>" => answer_calls(made::<20>(words)?, words, calls),
-        _ => Err(Wrong::Vector),
+/// Answers the calls of a row of texts. A function of a text of every N can't prove that one is small enough to be a value.
+pub(crate) fn answer(held: &str, words: &mut Words<'_>, calls: &mut Calls<'_>) {
+    match held {
+        "0>" => of_text(&mut InlineText::<0>::new(words.alloc), words, calls),
+        "4>" if words.follows("utf8 ") => of_bytes(words, calls),
+        "4>" => of_text(&mut InlineText::<4>::new(words.alloc), words, calls),
+        "20>" => of_text(&mut InlineText::<20>::new(words.alloc), words, calls),
+        _ => calls.out.fail(Wrong::Vector),
+    }
+}
+
+// The text that words make: `inline "a"`, or `heap 9 "a"` with a capacity of 9.
+fn of_text<const N: usize>(t: &mut InlineText<N>, words: &mut Words<'_>, calls: &mut Calls<'_>) {
+    let mut text = String::new(words.alloc);
+    let room = read_room(words);
+    words.add_text(&mut text);
+    start(t, text.as_str(), room, calls.out);
+    answer_calls(t, words, calls);
+}
+
+fn start<const N: usize>(t: &mut InlineText<N>, text: &str, room: usize, out: &mut Out) {
+    out.done(t.push_str(text));
+    out.done(t.reserve(room.saturating_sub(t.len())));
+}
+
+// The text of bytes that are inline, before these spare slots: `utf8 [104|7,7,7]`.
+fn of_bytes(words: &mut Words<'_>, calls: &mut Calls<'_>) {
+    let _utf8 = words.word();
+    let mut bytes = TinyVec::<[u8; 4]>::new(words.alloc);
+    start_inline(&mut bytes, words);
+    match InlineText::from_utf8(bytes) {
+        Ok(mut t) => answer_calls(&mut t, words, calls),
+        Err(_) => calls.out.fail(Wrong::Value),
     }
 }
 
 fn answer_calls<const N: usize>(
-    mut t: InlineText<N>,
+    t: &mut InlineText<N>,
     words: &mut Words<'_>,
     calls: &mut Calls<'_>,
-) -> Said {
-    words.end()?;
-    let out = &mut *calls.out;
-    for call in calls.text.split('\t') {
-        let (refused, mut words) = window::read(*out.allocator(), call)?;
-        answer_call(&mut t, refused, &mut words, out)?;
-        say_state(out, &t)?;
-        out.push('\t')?;
+) {
+    words.end();
+    if !calls.out.accepts(words) {
+        return;
     }
-    Ok(())
-}
-
-// The text that words make: `inline "a"`, or `heap 9 "a"` with a capacity of 9.
-fn made<const N: usize>(words: &mut Words<'_>) -> Result<InlineText<N>, Wrong> {
-    let room = match words.word()? {
-        "inline" => 0,
-        "heap" => words.index()?,
-        _ => return Err(Wrong::Value),
-    };
-    let mut t = InlineText::from_str(words.alloc, words.text()?.as_str())?;
-    t.reserve(room.saturating_sub(t.len()))?;
-    Ok(t)
-}
-
-// The text of bytes that are inline, before these spare slots: `utf8 [104|7,7,7]`. A function of every N can't prove that a
-// `FromUtf8Error<N>` is small enough to be a value.
-fn decoded(words: &mut Words<'_>) -> Result<InlineText<4>, Wrong> {
-    let _utf8 = words.word()?;
-    let bytes: TinyVec<[u8; 4]> = inline(words.alloc, words.slots()?)?;
-    InlineText::from_utf8(bytes).map_err(|_| Wrong::Value)
+    for call in calls.text.split('\t') {
+        answer_call(t, call, calls.out);
+        say_state(t, calls.out);
+        calls.out.put("\t");
+    }
 }
 
 // Writes the place, on the heap the capacity, and the text.
-fn say_state<const N: usize>(out: &mut String, t: &InlineText<N>) -> Said {
-    say_place(out, t.is_inline(), t.capacity())?;
-    say(out, &t.as_str())
+fn say_state<const N: usize>(t: &InlineText<N>, out: &mut Out) {
+    out.say_place(t.is_inline(), t.capacity());
+    out.say(&t.as_str());
 }
 
 // Makes a call, whose requests for memory are in a window, and writes what it returns. A condition is tested first.
-fn answer_call<const N: usize>(
-    t: &mut InlineText<N>,
-    refused: u16,
-    words: &mut Words<'_>,
-    out: &mut String,
-) -> Said {
-    let alloc = words.alloc;
-    let name = words.word()?;
+fn answer_call<const N: usize>(t: &mut InlineText<N>, call: &str, out: &mut Out) {
+    let alloc = out.alloc();
+    let mut words = Words::new(alloc, call);
+    let refused = window::read(&mut words);
+    let mut call = TextCall::read(&mut words);
     // No request of the row's own falls into the window.
-    out.reserve(1 << 12)?;
-    if name == "cmp" {
-        let other = made::<N>(words)?;
-        words.end()?;
+    out.reserve(1 << 12);
+    let mut other = InlineText::<N>::new(alloc);
+    if let Name::Cmp = call.name {
+        start(&mut other, call.text.as_str(), call.index, out);
+    }
+    if out.accepts(&words) {
         window::open(alloc, refused);
-        let said = say_order(&*t, &other, out);
+        look(t, &other, &mut call, out);
         window::close(alloc);
-        return said;
-    }
-    let call = TextCall::read(name, words)?;
-    words.end()?;
-    window::open(alloc, refused);
-    let answered = make(t, call, out);
-    window::close(alloc);
-    answered
-}
-
-fn make<const N: usize>(t: &mut InlineText<N>, call: TextCall, out: &mut String) -> Said {
-    match call {
-        TextCall::Look(call) => look(t, call, out),
-        TextCall::Show(call) => show(t, call, out),
-        TextCall::Part(call) => part(t, call, out),
-        TextCall::Make(call) => remake(t, call, out),
-        TextCall::Append(call) => append(t, call, out),
-        TextCall::Edit(call) => edit(t, call, out),
     }
 }
 
-fn look<const N: usize>(t: &InlineText<N>, call: Look, out: &mut String) -> Said {
-    match call {
-        Look::Len => say(out, &(t.len(), t.is_empty(), t.capacity())),
-        Look::IsInline => say(out, &t.is_inline()),
-        Look::IsCharBoundary(n) => say(out, &t.is_char_boundary(n)),
-        Look::AsBytes => say(out, &t.as_bytes()),
-        Look::AsSlice => say(out, &AsSlice::as_slice(t)),
-        Look::AsStr => say(out, &AsStr::as_str(t)),
-        Look::IsHashedAsStr => say(out, &(hash_of(t) == hash_of(&t.as_str()))),
+// Each function makes the calls of a kind, and hands others on.
+fn look<const N: usize>(
+    t: &mut InlineText<N>,
+    other: &InlineText<N>,
+    call: &mut TextCall,
+    out: &mut Out,
+) {
+    match call.name {
+        Name::Len => out.say(&(t.len(), t.is_empty(), t.capacity())),
+        Name::IsInline => out.say(&t.is_inline()),
+        Name::IsCharBoundary => out.say(&t.is_char_boundary(call.index)),
+        Name::AsBytes => out.say(&t.as_bytes()),
+        Name::AsSlice => out.say(&AsSlice::as_slice(t)),
+        Name::AsStr => out.say(&AsStr::as_str(t)),
+        Name::IsHashedAsStr => out.say(&(hash_of(t) == hash_of(&t.as_str()))),
+        Name::Cmp => say_order(&*t, other, out),
+        Name::Debug => out.say(t),
+        Name::Show | Name::ShowToFour | Name::ShowOne => show(t, call.name, out),
+        _ => part(t, call, out),
     }
 }
 
-fn show<const N: usize>(t: &InlineText<N>, call: Show, out: &mut String) -> Said {
-    if let Show::Debug = call {
-        return say(out, t);
-    }
-    out.push('"')?;
-    match call {
-        Show::ToFour => write!(Quoted(&mut *out), "{t:>4}")?,
-        Show::One => write!(Quoted(&mut *out), "{t:.1}")?,
-        _ => write!(Quoted(&mut *out), "{t}")?,
-    }
-    say_word(out, "\"")
-}
-
-fn part<const N: usize>(t: &mut InlineText<N>, call: Part, out: &mut String) -> Said {
-    match call {
-        Part::Clone => say_made(t.clone(), out),
-        Part::SplitOff(n) if t.is_char_boundary(n) => say_made(t.split_off(n), out),
-        Part::SplitOff(_) => Err(Wrong::Place),
-        Part::Take => say_made(mem::try_take(t), out),
-        Part::IntoBytes => say_bytes(taken(t, out).into_bytes(), out),
-        Part::IntoString => match taken(t, out).into_string() {
-            Ok(text) => say(out, &(text.capacity(), text)),
-            Err(NoMemory(back)) => Ok(*t = back),
-        },
-    }
-}
-
-fn taken<const N: usize>(t: &mut InlineText<N>, out: &String) -> InlineText<N> {
-    mem::replace(t, InlineText::new(*out.allocator()))
-}
-
-fn say_made<const N: usize>(made: Result<InlineText<N>, AllocError>, out: &mut String) -> Said {
-    match made {
-        Ok(text) => say_state(out, &text),
-        Err(error) => say(out, &error),
-    }
-}
-
-fn say_bytes<const N: usize>(bytes: TinyVec<[u8; N]>, out: &mut String) -> Said {
-    match &bytes {
-        TinyVec::Inline(array, _) => {
-            say_word(out, "inline")?;
-            say_slots(out, array.as_slice(), array.grab_spare_slice())
-        }
-        TinyVec::Heap(vec) => {
-            say_word(out, "heap")?;
-            say_slots(out, vec.as_slice(), &[])
-        }
-    }
-}
-
-fn remake<const N: usize>(t: &mut InlineText<N>, call: Make, out: &mut String) -> Said {
-    let alloc = *out.allocator();
-    let made = match call {
-        Make::New => Ok(InlineText::new(alloc)),
-        Make::MadeWith => Ok(InlineText::made_with(alloc)),
-        Make::FromStr(text) => InlineText::from_str(alloc, text.as_str()),
-        Make::WithCapacity(room) => InlineText::with_capacity(alloc, room),
-        Make::Collect(text) => text.as_str().chars().collect::<InlineText<N>>(alloc),
-        Make::FromUtf8OrNone(slots) => match InlineText::from_utf8_or_none(inline(alloc, slots)?) {
-            Some(made) => Ok(made),
-            None => return say_word(out, "None"),
-        },
+fn show<const N: usize>(t: &InlineText<N>, name: Name, out: &mut Out) {
+    out.put("\"");
+    let mut text = Quoted(&mut *out);
+    let _ = match name {
+        Name::ShowToFour => write!(text, "{t:>4}"),
+        Name::ShowOne => write!(text, "{t:.1}"),
+        _ => write!(text, "{t}"),
     };
+    out.say_word("\"");
+}
+
+fn part<const N: usize>(t: &mut InlineText<N>, call: &mut TextCall, out: &mut Out) {
+    let n = call.index;
+    match call.name {
+        Name::Clone => say_made(t.clone(), out),
+        Name::SplitOff if t.is_char_boundary(n) => say_made(t.split_off(n), out),
+        Name::Take => say_made(mem::try_take(t), out),
+        Name::IntoBytes => say_tiny(&taken(t, out).into_bytes(), out),
+        Name::IntoString => match taken(t, out).into_string() {
+            Ok(text) => out.say(&(text.capacity(), text)),
+            Err(NoMemory(back)) => set(t, back),
+        },
+        _ => remake(t, call, out),
+    }
+}
+
+fn taken<const N: usize>(t: &mut InlineText<N>, out: &Out) -> InlineText<N> {
+    mem::replace(t, InlineText::new(out.alloc()))
+}
+
+fn say_made<const N: usize, E: Debug + Drop>(made: Result<InlineText<N>, E>, out: &mut Out) {
     match made {
-        Ok(made) => Ok(*t = made),
-        Err(error) => say(out, &error),
+        Ok(text) => say_state(&text, out),
+        Err(error) => out.say(&error),
     }
 }
 
-fn append<const N: usize>(t: &mut InlineText<N>, call: Append, out: &mut String) -> Said {
+fn remake<const N: usize>(t: &mut InlineText<N>, call: &mut TextCall, out: &mut Out) {
+    let alloc = out.alloc();
+    let text = call.text.as_str();
+    match call.name {
+        Name::New => set(t, InlineText::new(alloc)),
+        Name::MadeWith => set(t, InlineText::made_with(alloc)),
+        Name::FromStr => set_made(t, InlineText::from_str(alloc, text), out),
+        Name::WithCapacity => set_made(t, InlineText::with_capacity(alloc, call.index), out),
+        Name::Collect => set_made(t, text.chars().collect::<InlineText<N>>(alloc), out),
+        Name::FromUtf8OrNone => set_decoded(t, call, out),
+        _ => append(t, call, out),
+    }
+}
+
+fn set_made<const N: usize, E: Debug + Drop>(
+    t: &mut InlineText<N>,
+    made: Result<InlineText<N>, E>,
+    out: &mut Out,
+) {
+    match made {
+        Ok(made) => set(t, made),
+        Err(error) => out.say(&error),
+    }
+}
+
+fn set_decoded<const N: usize>(t: &mut InlineText<N>, call: &mut TextCall, out: &mut Out) {
+    let mut bytes = ArrayVec::<[u8; N]>::new();
+    if !is_filled(&mut bytes, call.slots.as_mut_slice(), call.len) {
+        out.fail(Wrong::Place);
+    }
+    match InlineText::from_utf8_or_none(TinyVec::Inline(bytes, out.alloc())) {
+        Some(made) => set(t, made),
+        None => out.say_word("None"),
+    }
+}
+
+fn append<const N: usize>(t: &mut InlineText<N>, call: &TextCall, out: &mut Out) {
     let room = t.capacity() - t.len();
-    match call {
-        Append::Push(c) => done(out, t.push(c)),
-        Append::PushReserved(c) if c.len_utf8() <= room => Ok(t.push_reserved(c)),
-        Append::PushStr(s) => done(out, t.push_str(s.as_str())),
-        Append::PushStrReserved(s) if s.len() <= room => Ok(t.push_str_reserved(s.as_str())),
-        Append::WriteStr(s) => done(out, t.write_str(s.as_str())),
-        Append::WritePair(n, s) => done(out, write!(t, "{n}, {s}")),
-        Append::ExtendChars(s) => done(out, t.extend(s.as_str().chars())),
-        Append::ExtendWords(s) => done(out, t.extend(s.as_str().split(' '))),
-        Append::Reserve(n) => done(out, t.reserve(n)),
-        Append::PushReserved(_) | Append::PushStrReserved(_) => Err(Wrong::Place),
+    let (n, s, c) = (call.index, call.text.as_str(), call.letter());
+    match call.name {
+        Name::Push => out.done(t.push(c)),
+        Name::PushReserved if c.len_utf8() <= room => t.push_reserved(c),
+        Name::PushStr => out.done(t.push_str(s)),
+        Name::PushStrReserved if s.len() <= room => t.push_str_reserved(s),
+        Name::WriteStr => out.done(t.write_str(s)),
+        Name::WritePair => out.done(write!(t, "{n}, {s}")),
+        Name::ExtendChars => out.done(t.extend(s.chars())),
+        Name::ExtendWords => out.done(t.extend(s.split(' '))),
+        Name::Reserve => out.done(t.reserve(n)),
+        _ => edit(t, call, out),
     }
 }
 
-fn edit<const N: usize>(t: &mut InlineText<N>, call: Edit, out: &mut String) -> Said {
-    match call {
-        Edit::Pop => say(out, &t.pop()),
-        Edit::Clear => Ok(t.clear()),
-        Edit::ShrinkToFit => Ok(t.shrink_to_fit()),
-        Edit::ShrinkTo(n) => Ok(t.shrink_to(n)),
-        Edit::RetainNot(c) => Ok(t.retain(|x| x != c)),
-        Edit::ReplaceRange(span, s) => replace(t, span, s.as_str(), out),
-        Edit::Truncate(n) if t.is_char_boundary(n) => Ok(t.truncate(n)),
-        Edit::Remove(n) if t.is_char_boundary(n) && n < t.len() => say(out, &t.remove(n)),
-        Edit::Insert(n, c) if t.is_char_boundary(n) => done(out, t.insert(n, c)),
-        Edit::InsertStr(n, s) if t.is_char_boundary(n) => done(out, t.insert_str(n, s.as_str())),
-        _ => Err(Wrong::Place),
+fn edit<const N: usize>(t: &mut InlineText<N>, call: &TextCall, out: &mut Out) {
+    let (n, s, c) = (call.index, call.text.as_str(), call.letter());
+    let is_boundary = t.is_char_boundary(n);
+    match call.name {
+        Name::Pop => out.say(&t.pop()),
+        Name::Clear => t.clear(),
+        Name::ShrinkToFit => t.shrink_to_fit(),
+        Name::ShrinkTo => t.shrink_to(n),
+        Name::RetainNot => retain_not(t, c, out),
+        Name::ReplaceRange => replace(t, call, out),
+        Name::Truncate if is_boundary => t.truncate(n),
+        Name::Remove if is_boundary && n < t.len() => out.say(&t.remove(n)),
+        Name::Insert if is_boundary => out.done(t.insert(n, c)),
+        Name::InsertStr if is_boundary => out.done(t.insert_str(n, s)),
+        _ => out.fail(Wrong::Place),
     }
+}
+
+// Writes how often `retain` asked its closure.
+fn retain_not<const N: usize>(t: &mut InlineText<N>, c: char, out: &mut Out) {
+    let mut asked = 0_usize;
+    t.retain(|x| {
+        asked = asked.wrapping_add(1);
+        x != c
+    });
+    out.say(&asked);
 }
 
 // Puts a text in the place of a range, whose ends are tested first.
-fn replace<const N: usize>(t: &mut InlineText<N>, span: Span, s: &str, out: &mut String) -> Said {
-    let (start, end) = match span {
-        (Bound::Unbounded, Bound::Unbounded) => (0, t.len()),
-        (Bound::Included(start), Bound::Unbounded) => (start, t.len()),
-        (Bound::Included(start), Bound::Excluded(end)) => (start, end),
-        _ => return Err(Wrong::Place),
+fn replace<const N: usize>(t: &mut InlineText<N>, call: &TextCall, out: &mut Out) {
+    let start = match call.range.0 {
+        Bound::Included(start) => start,
+        Bound::Excluded(before) => before.saturating_add(1),
+        Bound::Unbounded => 0,
+    };
+    let end = match call.range.1 {
+        Bound::Included(last) => last.saturating_add(1),
+        Bound::Excluded(end) => end,
+        Bound::Unbounded => t.len(),
     };
     if start > end || !t.is_char_boundary(start) || !t.is_char_boundary(end) {
-        return Err(Wrong::Place);
+        return out.fail(Wrong::Place);
     }
-    done(out, t.replace_range(start..end, s))
+    out.done(t.replace_range(start..end, call.text.as_str()));
 }
 
 // Writes the order of two texts, on which all comparisons agree.
-fn say_order<T: Ord>(t: &T, u: &T, out: &mut String) -> Said {
+fn say_order<T: Ord>(t: &T, u: &T, out: &mut Out) {
     let order = t.cmp(u);
     if !operators_agree(t, u) || t.partial_cmp(u) != Some(order) || u.cmp(t) != order.reverse() {
-        return say_word(out, "not by each operator");
+        return out.say_word("not by each operator");
     }
-    say(out, &Some(order))
+    out.say(&Some(order));
 }

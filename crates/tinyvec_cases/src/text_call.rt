@@ -1,196 +1,161 @@
 //! Calls of a text, as the words of rows say them.
-use tinyvec_rows::call::Slots;
-use tinyvec_rows::{Span, Words, Wrong};
+use std::ops::Bound;
+use tinyvec_rows::{Span, Words, find};
 
-/// A call of a text, by what it does.
-#[derive(Drop)]
-pub(crate) enum TextCall {
-    Look(Look),
-    Show(Show),
-    Part(Part),
-    Make(Make),
-    Append(Append),
-    Edit(Edit),
-}
-
-impl TextCall {
-    /// Reads the words of a call, whose name was read.
-    pub(crate) fn read(name: &str, words: &mut Words<'_>) -> Result<TextCall, Wrong> {
-        if let Some(look) = Look::read(name, words)? {
-            return Ok(TextCall::Look(look));
-        }
-        if let Some(show) = Show::read(name) {
-            return Ok(TextCall::Show(show));
-        }
-        if let Some(part) = Part::read(name, words)? {
-            return Ok(TextCall::Part(part));
-        }
-        if let Some(make) = Make::read(name, words)? {
-            return Ok(TextCall::Make(make));
-        }
-        if let Some(append) = Append::read(name, words)? {
-            return Ok(TextCall::Append(append));
-        }
-        Ok(TextCall::Edit(Edit::read(name, words)?))
-    }
-}
-
-/// Looks at the text.
+/// What a call of a text is named.
 #[derive(Clone, Copy, Drop)]
-pub(crate) enum Look {
+pub(crate) enum Name {
+    Unknown,
+    // The text is looked at.
     Len,
     IsInline,
-    IsCharBoundary(usize),
+    IsCharBoundary,
     AsBytes,
     AsSlice,
     AsStr,
     IsHashedAsStr,
-}
-
-impl Look {
-    fn read(name: &str, words: &mut Words<'_>) -> Result<Option<Look>, Wrong> {
-        Ok(Some(match name {
-            "len" => Look::Len,
-            "is_inline" => Look::IsInline,
-            "is_char_boundary" => Look::IsCharBoundary(words.index()?),
-            "as_bytes" => Look::AsBytes,
-            "as_slice" => Look::AsSlice,
-            "as_str" => Look::AsStr,
-            "is_hashed_as_str" => Look::IsHashedAsStr,
-            _ => return Ok(None),
-        }))
-    }
-}
-
-/// Formats the text.
-#[derive(Clone, Copy, Drop)]
-pub(crate) enum Show {
-    Plain,
-    ToFour,
-    One,
+    Cmp,
+    // It is formatted.
+    Show,
+    ShowToFour,
+    ShowOne,
     Debug,
-}
-
-impl Show {
-    fn read(name: &str) -> Option<Show> {
-        match name {
-            "show" => Some(Show::Plain),
-            "show_to_four" => Some(Show::ToFour),
-            "show_one" => Some(Show::One),
-            "debug" => Some(Show::Debug),
-            _ => None,
-        }
-    }
-}
-
-/// Makes something else of the text or of its end.
-#[derive(Clone, Copy, Drop)]
-pub(crate) enum Part {
+    // Something else is made of it, or of its end.
     Clone,
-    SplitOff(usize),
+    SplitOff,
     IntoBytes,
     IntoString,
     Take,
-}
-
-impl Part {
-    fn read(name: &str, words: &mut Words<'_>) -> Result<Option<Part>, Wrong> {
-        Ok(Some(match name {
-            "clone" => Part::Clone,
-            "split_off" => Part::SplitOff(words.index()?),
-            "into_bytes" => Part::IntoBytes,
-            "into_string" => Part::IntoString,
-            "take" => Part::Take,
-            _ => return Ok(None),
-        }))
-    }
-}
-
-/// Makes the text anew.
-#[derive(Drop)]
-pub(crate) enum Make {
+    // It is made anew.
     New,
     MadeWith,
-    FromStr(String),
-    FromUtf8OrNone(Slots<u8>),
-    WithCapacity(usize),
-    Collect(String),
-}
-
-impl Make {
-    fn read(name: &str, words: &mut Words<'_>) -> Result<Option<Make>, Wrong> {
-        Ok(Some(match name {
-            "new" => Make::New,
-            "made_with" => Make::MadeWith,
-            "from_str" => Make::FromStr(words.text()?),
-            "from_utf8_or_none" => Make::FromUtf8OrNone(words.slots()?),
-            "with_capacity" => Make::WithCapacity(words.index()?),
-            "collect" => Make::Collect(words.text()?),
-            _ => return Ok(None),
-        }))
-    }
-}
-
-/// Puts characters at the end, or makes room for them.
-#[derive(Drop)]
-pub(crate) enum Append {
-    Push(char),
-    PushReserved(char),
-    PushStr(String),
-    PushStrReserved(String),
-    WriteStr(String),
-    WritePair(usize, String),
-    ExtendChars(String),
-    ExtendWords(String),
-    Reserve(usize),
-}
-
-impl Append {
-    fn read(name: &str, words: &mut Words<'_>) -> Result<Option<Append>, Wrong> {
-        Ok(Some(match name {
-            "push" => Append::Push(words.letter()?),
-            "push_reserved" => Append::PushReserved(words.letter()?),
-            "push_str" => Append::PushStr(words.text()?),
-            "push_str_reserved" => Append::PushStrReserved(words.text()?),
-            "write_str" => Append::WriteStr(words.text()?),
-            "write_pair" => Append::WritePair(words.index()?, words.text()?),
-            "extend_chars" => Append::ExtendChars(words.text()?),
-            "extend_words" => Append::ExtendWords(words.text()?),
-            "reserve" => Append::Reserve(words.index()?),
-            _ => return Ok(None),
-        }))
-    }
-}
-
-/// Puts characters in the middle, or takes them out.
-#[derive(Drop)]
-pub(crate) enum Edit {
+    FromStr,
+    FromUtf8OrNone,
+    WithCapacity,
+    Collect,
+    // Characters are put at the end, or there is room made for them.
+    Push,
+    PushReserved,
+    PushStr,
+    PushStrReserved,
+    WriteStr,
+    WritePair,
+    ExtendChars,
+    ExtendWords,
+    Reserve,
+    // Characters are put in the middle, or taken out.
     Pop,
     Clear,
     ShrinkToFit,
-    ShrinkTo(usize),
-    Truncate(usize),
-    Remove(usize),
-    Insert(usize, char),
-    InsertStr(usize, String),
-    ReplaceRange(Span, String),
-    RetainNot(char),
+    ShrinkTo,
+    Truncate,
+    Remove,
+    Insert,
+    InsertStr,
+    ReplaceRange,
+    RetainNot,
 }
 
-impl Edit {
-    fn read(name: &str, words: &mut Words<'_>) -> Result<Edit, Wrong> {
-        match name {
-            "pop" => Ok(Edit::Pop),
-            "clear" => Ok(Edit::Clear),
-            "shrink_to_fit" => Ok(Edit::ShrinkToFit),
-            "shrink_to" => Ok(Edit::ShrinkTo(words.index()?)),
-            "truncate" => Ok(Edit::Truncate(words.index()?)),
-            "remove" => Ok(Edit::Remove(words.index()?)),
-            "insert" => Ok(Edit::Insert(words.index()?, words.letter()?)),
-            "insert_str" => Ok(Edit::InsertStr(words.index()?, words.text()?)),
-            "replace_range" => Ok(Edit::ReplaceRange(words.span()?, words.text()?)),
-            "retain_not" => Ok(Edit::RetainNot(words.letter()?)),
-            _ => Err(Wrong::Call),
+// A call, its name, and the kinds of its words: an index, a text, a range, slots, a start.
+const NAMES: [(&str, Name, &str); 42] = [
+    ("len", Name::Len, ""),
+    ("is_inline", Name::IsInline, ""),
+    ("is_char_boundary", Name::IsCharBoundary, "i"),
+    ("as_bytes", Name::AsBytes, ""),
+    ("as_slice", Name::AsSlice, ""),
+    ("as_str", Name::AsStr, ""),
+    ("is_hashed_as_str", Name::IsHashedAsStr, ""),
+    ("cmp", Name::Cmp, "o"),
+    ("show", Name::Show, ""),
+    ("show_to_four", Name::ShowToFour, ""),
+    ("show_one", Name::ShowOne, ""),
+    ("debug", Name::Debug, ""),
+    ("clone", Name::Clone, ""),
+    ("split_off", Name::SplitOff, "i"),
+    ("into_bytes", Name::IntoBytes, ""),
+    ("into_string", Name::IntoString, ""),
+    ("take", Name::Take, ""),
+    ("new", Name::New, ""),
+    ("made_with", Name::MadeWith, ""),
+    ("from_str", Name::FromStr, "t"),
+    ("from_utf8_or_none", Name::FromUtf8OrNone, "s"),
+    ("with_capacity", Name::WithCapacity, "i"),
+    ("collect", Name::Collect, "t"),
+    ("push", Name::Push, "t"),
+    ("push_reserved", Name::PushReserved, "t"),
+    ("push_str", Name::PushStr, "t"),
+    ("push_str_reserved", Name::PushStrReserved, "t"),
+    ("write_str", Name::WriteStr, "t"),
+    ("write_pair", Name::WritePair, "it"),
+    ("extend_chars", Name::ExtendChars, "t"),
+    ("extend_words", Name::ExtendWords, "t"),
+    ("reserve", Name::Reserve, "i"),
+    ("pop", Name::Pop, ""),
+    ("clear", Name::Clear, ""),
+    ("shrink_to_fit", Name::ShrinkToFit, ""),
+    ("shrink_to", Name::ShrinkTo, "i"),
+    ("truncate", Name::Truncate, "i"),
+    ("remove", Name::Remove, "i"),
+    ("insert", Name::Insert, "it"),
+    ("insert_str", Name::InsertStr, "it"),
+    ("replace_range", Name::ReplaceRange, "rt"),
+    ("retain_not", Name::RetainNot, "t"),
+];
+
+/// A call of a text: its name, and what its words say.
+#[derive(Drop)]
+pub(crate) struct TextCall {
+    pub(crate) name: Name,
+    pub(crate) index: usize,
+    pub(crate) range: Span,
+    pub(crate) text: String,
+    pub(crate) slots: Vec<u8>,
+    // How many of the slots are the list.
+    pub(crate) len: usize,
+}
+
+impl TextCall {
+    /// Reads a call: its name, and then no more words than it has.
+    pub(crate) fn read(words: &mut Words<'_>) -> TextCall {
+        let (name, kinds) = find(&NAMES, words.word(), Name::Unknown);
+        let mut call = TextCall {
+            name,
+            index: 0,
+            range: (Bound::Unbounded, Bound::Unbounded),
+            text: String::new(words.alloc),
+            slots: Vec::new(words.alloc),
+            len: 0,
+        };
+        for kind in kinds.as_bytes() {
+            call.read_words(*kind, words);
+        }
+        words.end();
+        call
+    }
+
+    fn read_words(&mut self, kind: u8, words: &mut Words<'_>) {
+        match kind {
+            b'i' => self.index = words.index(),
+            b't' => words.add_text(&mut self.text),
+            b'r' => self.range = words.span(),
+            b's' => self.len = words.add_slots(&mut self.slots),
+            _ => {
+                self.index = read_room(words);
+                words.add_text(&mut self.text);
+            }
         }
     }
+
+    /// The first character of the text.
+    pub(crate) fn letter(&self) -> char {
+        self.text.as_str().chars().next().unwrap_or('?')
+    }
+}
+
+/// Reads the place of a text, which is `inline`, or `heap 9` with a capacity of 9.
+pub(crate) fn read_room(words: &mut Words<'_>) -> usize {
+    if words.word() == "heap" {
+        return words.index();
+    }
+    0
 }

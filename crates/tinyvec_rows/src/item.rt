@@ -1,17 +1,16 @@
 //! What the vectors of rows hold.
-use crate::{Said, Wrong};
 use std::alloc::Global;
 use std::fmt;
 
 /// What a word of a row stands for.
-pub trait Read: Drop {
-    fn read(alloc: Global, word: &str) -> Result<Self, Wrong>;
+pub trait Read: Default + Drop {
+    fn read(alloc: Global, word: &str) -> Option<Self>;
 }
 
 /// An item that all calls can have.
-pub trait Item: Read + Default + Clone + PartialEq + fmt::Debug {
-    /// The item of a number.
-    fn of(alloc: Global, number: i32) -> Result<Self, Wrong>;
+pub trait Item: Read + Clone + PartialEq + fmt::Debug {
+    /// The item of a number, or a default if there is no memory for it.
+    fn of(alloc: Global, number: i32) -> Self;
 
     /// The number that closures ask for.
     fn number(&self) -> i32;
@@ -20,15 +19,24 @@ pub trait Item: Read + Default + Clone + PartialEq + fmt::Debug {
     fn add(&mut self, more: i32);
 }
 
+impl Read for usize {
+    fn read(_alloc: Global, word: &str) -> Option<usize> {
+        if word == "MAX" {
+            return Some(usize::MAX);
+        }
+        word.parse::<usize>().ok()
+    }
+}
+
 impl Read for i32 {
-    fn read(_alloc: Global, word: &str) -> Result<i32, Wrong> {
-        word.parse::<i32>().map_err(|_| Wrong::Value)
+    fn read(_alloc: Global, word: &str) -> Option<i32> {
+        word.parse::<i32>().ok()
     }
 }
 
 impl Item for i32 {
-    fn of(_alloc: Global, number: i32) -> Result<i32, Wrong> {
-        Ok(number)
+    fn of(_alloc: Global, number: i32) -> i32 {
+        number
     }
 
     fn number(&self) -> i32 {
@@ -41,14 +49,14 @@ impl Item for i32 {
 }
 
 impl Read for u8 {
-    fn read(_alloc: Global, word: &str) -> Result<u8, Wrong> {
-        word.parse::<u8>().map_err(|_| Wrong::Value)
+    fn read(_alloc: Global, word: &str) -> Option<u8> {
+        word.parse::<u8>().ok()
     }
 }
 
 impl Item for u8 {
-    fn of(_alloc: Global, number: i32) -> Result<u8, Wrong> {
-        Ok(byte(number))
+    fn of(_alloc: Global, number: i32) -> u8 {
+        byte(number)
     }
 
     fn number(&self) -> i32 {
@@ -66,26 +74,20 @@ fn byte(number: i32) -> u8 {
 }
 
 impl Read for u16 {
-    fn read(_alloc: Global, word: &str) -> Result<u16, Wrong> {
-        word.parse::<u16>().map_err(|_| Wrong::Value)
+    fn read(_alloc: Global, word: &str) -> Option<u16> {
+        word.parse::<u16>().ok()
     }
 }
 
 // An item of no size.
 impl Read for () {
-    fn read(_alloc: Global, word: &str) -> Said {
-        if word == "()" {
-            Ok(())
-        } else {
-            Err(Wrong::Value)
-        }
+    fn read(_alloc: Global, word: &str) -> Option<()> {
+        (word == "()").then_some(())
     }
 }
 
 impl Item for () {
-    fn of(_alloc: Global, _number: i32) -> Said {
-        Ok(())
-    }
+    fn of(_alloc: Global, _number: i32) {}
 
     fn number(&self) -> i32 {
         0
@@ -96,17 +98,18 @@ impl Item for () {
 
 // An item that owns memory, or nothing.
 impl Read for Option<Box<i32>> {
-    fn read(alloc: Global, word: &str) -> Result<Option<Box<i32>>, Wrong> {
+    fn read(alloc: Global, word: &str) -> Option<Option<Box<i32>>> {
         if word == "None" {
-            return Ok(None);
+            return Some(None);
         }
-        Self::of(alloc, i32::read(alloc, word)?)
+        let number = word.parse::<i32>().ok()?;
+        Some(Self::of(alloc, number))
     }
 }
 
 impl Item for Option<Box<i32>> {
-    fn of(alloc: Global, number: i32) -> Result<Option<Box<i32>>, Wrong> {
-        Ok(Some(Box::new(alloc, number)?))
+    fn of(alloc: Global, number: i32) -> Option<Box<i32>> {
+        Box::new(alloc, number).ok()
     }
 
     fn number(&self) -> i32 {
@@ -127,14 +130,15 @@ impl Item for Option<Box<i32>> {
 pub type Wide = (u64, u64, i32);
 
 impl Read for Wide {
-    fn read(alloc: Global, word: &str) -> Result<Wide, Wrong> {
-        Self::of(alloc, i32::read(alloc, word)?)
+    fn read(alloc: Global, word: &str) -> Option<Wide> {
+        let number = word.parse::<i32>().ok()?;
+        Some(Self::of(alloc, number))
     }
 }
 
 impl Item for Wide {
-    fn of(_alloc: Global, number: i32) -> Result<Wide, Wrong> {
-        Ok((1, 2, number))
+    fn of(_alloc: Global, number: i32) -> Wide {
+        (1, 2, number)
     }
 
     fn number(&self) -> i32 {
@@ -148,13 +152,37 @@ impl Item for Wide {
 
 // Items that are only compared and shown.
 impl Read for u128 {
-    fn read(_alloc: Global, word: &str) -> Result<u128, Wrong> {
-        word.parse::<u128>().map_err(|_| Wrong::Value)
+    fn read(_alloc: Global, word: &str) -> Option<u128> {
+        word.parse::<u128>().ok()
     }
 }
 
-impl Read for f64 {
-    fn read(_alloc: Global, word: &str) -> Result<f64, Wrong> {
-        word.parse::<f64>().map_err(|_| Wrong::Value)
+impl Item for u128 {
+    fn of(_alloc: Global, _number: i32) -> u128 {
+        0
     }
+
+    fn number(&self) -> i32 {
+        0
+    }
+
+    fn add(&mut self, _more: i32) {}
+}
+
+impl Read for f64 {
+    fn read(_alloc: Global, word: &str) -> Option<f64> {
+        word.parse::<f64>().ok()
+    }
+}
+
+impl Item for f64 {
+    fn of(_alloc: Global, _number: i32) -> f64 {
+        0.0
+    }
+
+    fn number(&self) -> i32 {
+        0
+    }
+
+    fn add(&mut self, _more: i32) {}
 }

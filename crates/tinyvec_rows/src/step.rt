@@ -1,49 +1,30 @@
 //! Steps of an iterator.
-use crate::{Wrong, index_of};
+use crate::{Name, Read, named};
+use std::alloc::Global;
 
-/// A step, and the last one of an iterator that owns its items (`last`, `count`) or of a splice (`stop`).
-#[derive(Clone, Copy, PartialEq, Drop)]
-pub enum Step {
-    Next,
-    Back,
-    Left,
-    Hint,
-    Debug,
-    Touches,
-    Slice,
-    Clone,
-    Nth(usize),
-    NthBack(usize),
-    Last,
-    Count,
-    Stop,
+/// A step by its name, and the number of a word such as `nth:2`.
+#[derive(Clone, Copy, Drop)]
+pub struct Step {
+    pub name: Name,
+    pub count: usize,
 }
 
-impl Step {
-    /// The step of a word such as `next` or `nth:2`.
-    pub fn read(word: &str) -> Result<Step, Wrong> {
-        match word.split_once(':') {
-            Some(("nth", count)) => Ok(Step::Nth(index_of(count)?)),
-            Some(("nth_back", count)) => Ok(Step::NthBack(index_of(count)?)),
-            Some(_) => Err(Wrong::Value),
-            None => Step::named(word),
+impl Default for Step {
+    fn default() -> Step {
+        Step {
+            name: Name::Unknown,
+            count: 0,
         }
     }
+}
 
-    fn named(word: &str) -> Result<Step, Wrong> {
-        match word {
-            "next" => Ok(Step::Next),
-            "back" => Ok(Step::Back),
-            "left" => Ok(Step::Left),
-            "hint" => Ok(Step::Hint),
-            "debug" => Ok(Step::Debug),
-            "touches" => Ok(Step::Touches),
-            "slice" => Ok(Step::Slice),
-            "clone" => Ok(Step::Clone),
-            "last" => Ok(Step::Last),
-            "count" => Ok(Step::Count),
-            "stop" => Ok(Step::Stop),
-            _ => Err(Wrong::Value),
-        }
+impl Read for Step {
+    fn read(alloc: Global, word: &str) -> Option<Step> {
+        let (word, count) = word.split_once(':').unwrap_or((word, "0"));
+        let count = usize::read(alloc, count)?;
+        Some(Step {
+            name: named(word),
+            count,
+        })
     }
 }

@@ -1,5 +1,5 @@
 //! Marks of a call, for a library that refuses memory.
-use crate::{Words, Wrong};
+use crate::Words;
 use std::alloc::{AllocError, Global};
 
 // So many bytes, and a number more, nothing else here asks for: a library that is loaded before the C library takes it for a
@@ -21,12 +21,11 @@ fn mark(alloc: Global, number: u16) {
     let _refused = asked.is_err();
 }
 
-/// The number of the request that a call refuses which begins as `refused 1 `, or 0; and the words of the call.
-pub fn read(alloc: Global, call: &str) -> Result<(u16, Words<'_>), Wrong> {
-    let mut words = Words::new(alloc, call);
-    if !call.starts_with("refused ") {
-        return Ok((0, words));
+/// The number of the request that a call refuses which begins as `refused 1 `, or 0. The words of the call are left.
+pub fn read(words: &mut Words<'_>) -> u16 {
+    if !words.follows("refused ") {
+        return 0;
     }
-    let _refused = words.word()?;
-    Ok((words.item::<u16>()?, words))
+    let _refused = words.word();
+    words.item::<u16>()
 }

@@ -1,226 +1,265 @@
 //! The words of a row.
-use crate::{Read, Span, Step};
-use std::alloc::{AllocError, AllocFailed, Global};
+use crate::{Name, Read, Span, Step, named};
+use std::alloc::Global;
 use std::ops::Bound;
-use std::{fmt, mem, str};
+use std::{mem, str};
 
 /// Why a row has no answer.
 #[derive(Clone, Copy, Drop)]
 pub enum Wrong {
+    No,
     /// A request for memory was refused.
     Memory,
     /// A word is that of no value, is missing, or is left over.
     Value,
     /// There is no such vector.
     Vector,
-    /// The vector has no such call.
-    Call,
-    /// The list has no such place, or the vector not the room that the call needs.
+    /// The vector has no such call, or the list no such place, or the vector not the room that the call needs.
     Place,
 }
-
-/// Whether an answer was written, or why the row has none.
-pub type Said = Result<(), Wrong>;
 
 impl Wrong {
     pub fn text(self) -> &'static str {
         match self {
+            Wrong::No => "",
             Wrong::Memory => "no memory",
             Wrong::Value => "no such value",
             Wrong::Vector => "no such vector",
-            Wrong::Call => "no such call",
-            Wrong::Place => "no such place, or no room",
+            Wrong::Place => "no such call, place or room",
         }
     }
-}
 
-impl From<AllocError> for Wrong {
-    fn from(_error: AllocError) -> Wrong {
-        Wrong::Memory
+    pub fn is_none(self) -> bool {
+        matches!(self, Wrong::No)
     }
 }
 
-impl From<fmt::Error> for Wrong {
-    fn from(_error: fmt::Error) -> Wrong {
-        Wrong::Memory
-    }
-}
-
-impl<T: Drop> From<AllocFailed<T>> for Wrong {
-    fn from(_error: AllocFailed<T>) -> Wrong {
-        Wrong::Memory
-    }
-}
-
-/// The words that are still to be read, with a space between two.
+/// The words that are still to be read, with a space between two. A word that cannot be read is noted, and stands for a default.
 #[derive(Drop)]
 pub struct Words<'a> {
     pub alloc: Global,
     left: &'a str,
+    wrong: Wrong,
 }
 
 impl<'a> Words<'a> {
     pub fn new(alloc: Global, text: &'a str) -> Words<'a> {
-        Words { alloc, left: text }
+        Words {
+            alloc,
+            left: text,
+            wrong: Wrong::No,
+        }
+    }
+
+    /// Notes why the words cannot be read.
+    pub fn fail(&mut self, wrong: Wrong) {
+        self.wrong = wrong;
+    }
+
+    /// Why the words could not be read.
+    pub fn wrong(&self) -> Wrong {
+        self.wrong
     }
 
     /// The next word.
-    pub fn word(&mut self) -> Result<&'a str, Wrong> {
+    pub fn word(&mut self) -> &'a str {
         let (word, left) = self.left.split_once(' ').unwrap_or((self.left, ""));
         self.left = left;
         if word.is_empty() {
-            return Err(Wrong::Value);
+            self.fail(Wrong::Value);
         }
-        Ok(word)
-    }
-
-    /// Fails if a word is left.
-    pub fn end(&self) -> Said {
-        if self.left.is_empty() {
-            return Ok(());
-        }
-        Err(Wrong::Value)
-    }
-
-    /// Whether the next word is this one.
-    pub fn follows(&self, word: &str) -> bool {
-        self.left.split(' ').next() == Some(word)
-    }
-
-    /// Whether words follow, the first of which is this one. It is read then.
-    pub fn goes_on(&mut self, word: &str) -> Result<bool, Wrong> {
-        if self.left.is_empty() {
-            return Ok(false);
-        }
-        if self.word()? == word {
-            return Ok(true);
-        }
-        Err(Wrong::Value)
-    }
-
-    /// How many words are left.
-    pub fn count(&self) -> usize {
-        self.left.split(' ').count()
+        word
     }
 
     /// The words that are left.
-    pub fn rest(&mut self) -> Result<Vec<&'a str>, Wrong> {
-        let mut rest = Vec::new(self.alloc);
-        let left = mem::replace(&mut self.left, "");
-        if !left.is_empty() {
-            for word in left.split(' ') {
-                rest.push(word)?;
-            }
+    pub fn rest(&mut self) -> &'a str {
+        mem::replace(&mut self.left, "")
+    }
+
+    /// Whether no word is left.
+    pub fn is_empty(&self) -> bool {
+        self.left.is_empty()
+    }
+
+    /// How many bytes are left.
+    pub fn len(&self) -> usize {
+        self.left.len()
+    }
+
+    /// Fails if a word is left.
+    pub fn end(&mut self) {
+        if !self.left.is_empty() {
+            self.fail(Wrong::Value);
         }
-        Ok(rest)
     }
 
-    /// The words that are left, as steps of an iterator.
-    pub fn steps(&mut self) -> Result<Vec<Step>, Wrong> {
-        let mut steps = Vec::new(self.alloc);
-        for word in self.rest()? {
-            steps.push(Step::read(word)?)?;
+    /// Whether the words begin so.
+    pub fn follows(&self, start: &str) -> bool {
+        self.left.starts_with(start)
+    }
+
+    /// Whether words follow, the first of which has to be this one. It is read then.
+    pub fn goes_on(&mut self, word: &str) -> bool {
+        if self.left.is_empty() {
+            return false;
         }
-        Ok(steps)
+        if self.word() != word {
+            self.fail(Wrong::Value);
+        }
+        true
     }
 
-    pub fn index(&mut self) -> Result<usize, Wrong> {
-        index_of(self.word()?)
+    // What was read of a word, or a default.
+    fn got<T: Default + Drop>(&mut self, read: Option<T>) -> T {
+        if read.is_none() {
+            self.fail(Wrong::Value);
+        }
+        read.unwrap_or_default()
     }
 
-    pub fn number(&mut self) -> Result<i32, Wrong> {
+    pub fn item<T: Read>(&mut self) -> T {
+        let read = T::read(self.alloc, self.word());
+        self.got(read)
+    }
+
+    /// A number of items, or `MAX`.
+    pub fn index(&mut self) -> usize {
+        self.item::<usize>()
+    }
+
+    pub fn number(&mut self) -> i32 {
         self.item::<i32>()
     }
 
-    pub fn item<T: Read>(&mut self) -> Result<T, Wrong> {
-        T::read(self.alloc, self.word()?)
+    /// Appends an item.
+    pub fn add<T: Read>(&mut self, items: &mut Vec<T>) {
+        let item = self.item::<T>();
+        self.push(items, item);
     }
 
-    /// A list in brackets: `[1,2]`.
-    pub fn items<T: Read>(&mut self) -> Result<Vec<T>, Wrong> {
-        items_of(self.alloc, inside(self.word()?, '[', ']')?)
+    /// Appends an item that was read.
+    pub fn push<T: Drop>(&mut self, items: &mut Vec<T>, item: T) {
+        if items.push(item).is_err() {
+            self.fail(Wrong::Memory);
+        }
     }
 
-    /// A list and the slots after it: `[1,2|0,0]`.
-    pub fn slots<T: Read>(&mut self) -> Result<(Vec<T>, Vec<T>), Wrong> {
-        let text = inside(self.word()?, '[', ']')?;
+    /// Appends the items of a list in brackets: `[1,2]`.
+    pub fn add_items<T: Read>(&mut self, items: &mut Vec<T>) {
+        let word = self.word();
+        let text = self.inside(word, '[', ']');
+        self.add_of(text, ',', items);
+    }
+
+    // Appends the items of a text, with a letter between two.
+    fn add_of<T: Read>(&mut self, text: &str, between: char, items: &mut Vec<T>) {
+        if text.is_empty() {
+            return;
+        }
+        for word in text.split(between) {
+            let read = T::read(self.alloc, word);
+            let item = self.got(read);
+            self.push(items, item);
+        }
+    }
+
+    /// Appends a list and the slots after it, `[1,2|0,0]`, and returns the length of the list.
+    pub fn add_slots<T: Read>(&mut self, items: &mut Vec<T>) -> usize {
+        let word = self.word();
+        let text = self.inside(word, '[', ']');
         let (list, spare) = text.split_once('|').unwrap_or((text, ""));
-        Ok((items_of(self.alloc, list)?, items_of(self.alloc, spare)?))
+        self.add_of(list, ',', items);
+        let len = items.len();
+        self.add_of(spare, ',', items);
+        len
     }
 
-    /// Bytes in hexadecimal, in angle brackets: `<c3a9>`. Texts come so.
-    pub fn bytes(&mut self) -> Result<Vec<u8>, Wrong> {
+    // A word without what it begins and ends with.
+    fn inside<'w>(&mut self, word: &'w str, open: char, close: char) -> &'w str {
+        let inside = word.strip_prefix(open).unwrap_or("").strip_suffix(close);
+        if inside.is_none() {
+            self.fail(Wrong::Value);
+        }
+        inside.unwrap_or("")
+    }
+
+    /// Appends the words that are left, as steps of an iterator.
+    pub fn add_steps(&mut self, steps: &mut Vec<Step>) {
+        let text = self.rest();
+        self.add_of(text, ' ', steps);
+    }
+
+    /// Appends bytes in hexadecimal, in angle brackets: `<c3a9>`. Texts come so.
+    pub fn add_bytes(&mut self, bytes: &mut Vec<u8>) {
+        let word = self.word();
+        self.add_bytes_of(word, bytes);
+    }
+
+    /// Appends the bytes of a word.
+    pub fn add_bytes_of(&mut self, word: &str, bytes: &mut Vec<u8>) {
+        for pair in self.inside(word, '<', '>').as_bytes().chunks(2) {
+            let read = u8::from_str_radix(str::from_utf8(pair).unwrap_or(""), 16).ok();
+            let byte = self.got(read);
+            self.push(bytes, byte);
+        }
+    }
+
+    /// Appends a text.
+    pub fn add_text(&mut self, text: &mut String) {
         let mut bytes = Vec::new(self.alloc);
-        for pair in inside(self.word()?, '<', '>')?.as_bytes().chunks(2) {
-            match u8::from_str_radix(str::from_utf8(pair).unwrap_or(""), 16) {
-                Ok(byte) if pair.len() == 2 => bytes.push(byte)?,
-                _ => return Err(Wrong::Value),
-            }
-        }
-        Ok(bytes)
-    }
-
-    pub fn text(&mut self) -> Result<String, Wrong> {
-        let bytes = self.bytes()?;
-        match str::from_utf8(bytes.as_slice()) {
-            Ok(text) => Ok(text.to_string(self.alloc)?),
-            Err(_) => Err(Wrong::Value),
-        }
-    }
-
-    /// A text of one character.
-    pub fn letter(&mut self) -> Result<char, Wrong> {
-        let text = self.text()?;
-        let mut letters = text.chars();
-        match (letters.next(), letters.next()) {
-            (Some(letter), None) => Ok(letter),
-            _ => Err(Wrong::Value),
+        self.add_bytes(&mut bytes);
+        if text
+            .push_str(str::from_utf8(bytes.as_slice()).unwrap_or("?"))
+            .is_err()
+        {
+            self.fail(Wrong::Memory);
         }
     }
 
     /// A range as Rust writes it. `>1..` starts after 1.
-    pub fn span(&mut self) -> Result<Span, Wrong> {
-        let Some((start, end)) = self.word()?.split_once("..") else {
-            return Err(Wrong::Value);
-        };
-        Ok((bound(start, '>')?, bound(end, '=')?))
+    pub fn span(&mut self) -> Span {
+        let (start, end) = self.word().split_once("..").unwrap_or(("?", ""));
+        (self.start(start), self.end_of(end))
     }
-}
 
-// The bound is excluded as a start where the mark precedes it, and is included as an end.
-fn bound(text: &str, mark: char) -> Result<Bound<usize>, Wrong> {
-    if text.is_empty() {
-        return Ok(Bound::Unbounded);
+    fn start(&mut self, text: &str) -> Bound<usize> {
+        if text.is_empty() {
+            return Bound::Unbounded;
+        }
+        let after = text.strip_prefix('>');
+        let index = self.index_of(after.unwrap_or(text));
+        if after.is_some() {
+            return Bound::Excluded(index);
+        }
+        Bound::Included(index)
     }
-    match text.strip_prefix(mark) {
-        Some(text) if mark == '>' => Ok(Bound::Excluded(index_of(text)?)),
-        None if mark == '=' => Ok(Bound::Excluded(index_of(text)?)),
-        Some(text) => Ok(Bound::Included(index_of(text)?)),
-        None => Ok(Bound::Included(index_of(text)?)),
-    }
-}
 
-/// A number of items, or `MAX`.
-pub fn index_of(text: &str) -> Result<usize, Wrong> {
-    if text == "MAX" {
-        return Ok(usize::MAX);
+    fn end_of(&mut self, text: &str) -> Bound<usize> {
+        if text.is_empty() {
+            return Bound::Unbounded;
+        }
+        let last = text.strip_prefix('=');
+        let index = self.index_of(last.unwrap_or(text));
+        if last.is_some() {
+            return Bound::Included(index);
+        }
+        Bound::Excluded(index)
     }
-    text.parse::<usize>().map_err(|_| Wrong::Value)
-}
 
-fn inside(text: &str, open: char, close: char) -> Result<&str, Wrong> {
-    match text.strip_prefix(open) {
-        Some(rest) => rest.strip_suffix(close).ok_or(Wrong::Value),
-        None => Err(Wrong::Value),
+    fn index_of(&mut self, text: &str) -> usize {
+        let read = usize::read(self.alloc, text);
+        self.got(read)
     }
-}
 
-fn items_of<T: Read>(alloc: Global, text: &str) -> Result<Vec<T>, Wrong> {
-    let mut items = Vec::new(alloc);
-    if !text.is_empty() {
-        for word in text.split(',') {
-            items.push(T::read(alloc, word)?)?;
+    /// What the next word names.
+    pub fn name(&mut self) -> Name {
+        named(self.word())
+    }
+
+    /// Makes room for more items.
+    pub fn reserve<T: Drop>(&mut self, items: &mut Vec<T>, more: usize) {
+        if items.reserve(more).is_err() {
+            self.fail(Wrong::Memory);
         }
     }
-    Ok(items)
 }

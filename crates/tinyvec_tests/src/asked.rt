@@ -4,9 +4,8 @@ ghost use Rattle.std.specs.Prelude.{◌≡◌, ⊤};
 ghost use Rattle.std.specs.Iterator.{at_most};
 ghost use Rattle.std.specs.declared.ops.Bound.TheVariants.{Included, Excluded};
 
-use crate::lists::is_granted;
-use crate::steps::{all_steps, counted};
-use std::alloc::{AllocError, Global};
+use crate::steps::{all_right, all_steps, counted, first, granted};
+use std::alloc::Global;
 use std::cell::Cell;
 use std::fmt;
 use std::fmt::{Display, Write};
@@ -73,61 +72,77 @@ fn three<T: Copy>(item: T, asked: &Cell<usize>, promised: usize) -> Hinting<'_, 
 
 const PROMISED: [usize; 3] = [0, 4, usize::MAX];
 
-#[test]
-fn hints_of_what_fills_an_array(rt: HostRuntime) -> Result<(), Fail> {
-    let asked = Cell::new(0);
-    for promised in PROMISED {
-        let mut v = ArrayVec::<[i32; 7]>::new();
-        let is_extended = v.extend(three(5, &asked, promised)).is_ok();
-        let is_filled = v.fill(three(5, &asked, promised)).is_ended & (v.len() == 6);
-        let is_spliced = v.splice_all(.., three(5, &asked, promised)).is_ok() & (v.len() == 3);
-        all_steps(&[
-            is_extended & is_filled & is_spliced,
-            ArrayVec::<[i32; 3]>::from_iter(three(5, &asked, promised)).is_ok(),
-            asked.get() == 0,
-        ])?;
-    }
-    Ok(())
+fn fills_an_array(asked: &Cell<usize>, promised: usize) -> bool {
+    let mut v = ArrayVec::<[i32; 7]>::new();
+    let is_extended = v.extend(three(5, asked, promised)).is_ok();
+    let is_filled = v.fill(three(5, asked, promised)).is_ended & (v.len() == 6);
+    let is_spliced = v.splice_all(.., three(5, asked, promised)).is_ok() & (v.len() == 3);
+    is_extended & is_filled & is_spliced
+}
+
+fn fills_lent_slots(asked: &Cell<usize>, promised: usize) -> bool {
+    let mut slots = [0; 6];
+    let mut v = SliceVec::from_slice_len(&mut slots, 0);
+    let is_filled = v.fill(three(5, asked, promised)).is_ended & (v.len() == 3);
+    is_filled & v.extend(three(5, asked, promised)).is_ok() & (v.len() == 6)
 }
 
 #[test]
-fn hints_of_what_fills_lent_slots(rt: HostRuntime) -> Result<(), Fail> {
+fn hints_of_what_fills_slots(rt: HostRuntime) -> Result<(), Fail> {
     let asked = Cell::new(0);
+    let mut wrong = 0;
     for promised in PROMISED {
-        let mut slots = [0; 6];
-        let mut v = SliceVec::from_slice_len(&mut slots, 0);
-        all_steps(&[
-            v.fill(three(5, &asked, promised)).is_ended & (v.len() == 3),
-            v.extend(three(5, &asked, promised)).is_ok() & (v.len() == 6),
-            asked.get() == 0,
-        ])?;
+        let is_made = ArrayVec::<[i32; 3]>::from_iter(three(5, &asked, promised)).is_ok();
+        wrong = first(wrong, 1, fills_an_array(&asked, promised));
+        wrong = first(wrong, 2, fills_lent_slots(&asked, promised));
+        wrong = first(wrong, 3, is_made & (asked.get() == 0));
     }
-    Ok(())
+    all_right(wrong)
 }
 
-fn collected(alloc: Global, items: Hinting<'_, i32>) -> Result<TinyVec<[i32; 3]>, AllocError> {
-    Ok(TinyVec::from_iter(alloc, items)?)
+// `None` says that memory was refused.
+fn fills_a_tiny_vec(alloc: Global, asked: &Cell<usize>, promised: usize) -> Option<bool> {
+    match TinyVec::from_iter(alloc, three(5, asked, promised)) {
+        Ok(mut v) => extends(&mut v, asked, promised),
+        Err(_) => None,
+    }
+}
+
+fn extends(v: &mut TinyVec<[i32; 3]>, asked: &Cell<usize>, promised: usize) -> Option<bool> {
+    let is_refused = v.extend(three(5, asked, promised)).is_err();
+    let is_extended = v.len() == 6;
+    if is_refused || v.splice_all(.., three(5, asked, promised)).is_err() {
+        return None;
+    }
+    Some(is_extended & (v.len() == 3))
 }
 
 #[test]
 fn hints_of_what_fills_a_tiny_vec(rt: HostRuntime) -> Result<(), Fail> {
     let asked = Cell::new(0);
+    let mut wrong = 0;
     for promised in PROMISED {
-        let mut v = collected(rt.alloc(), three(5, &asked, promised))?;
-        let is_extended = is_granted(v.extend(three(5, &asked, promised)))? & (v.len() == 6);
-        let is_spliced = is_granted(v.splice_all(.., three(5, &asked, promised)))? & (v.len() == 3);
-        all_steps(&[is_extended & is_spliced, asked.get() == 0])?;
+        wrong = granted(wrong, 1, fills_a_tiny_vec(rt.alloc(), &asked, promised));
+        wrong = first(wrong, 2, asked.get() == 0);
     }
-    Ok(())
+    all_right(wrong)
 }
 
 #[test]
 fn hints_of_what_fills_a_text(rt: HostRuntime) -> Result<(), Fail> {
     let asked = Cell::new(0);
-    let mut text: InlineText<8> = three('é', &asked, 0).collect(rt.alloc())?;
-    text.extend(three('y', &asked, 0))?;
-    text.extend(three("a", &asked, 0))?;
-    all_steps(&[asked.get() == 0, text.as_str() == "éééyyyaaa"])
+    let filled = match three('é', &asked, 0).collect(rt.alloc()) {
+        Ok(mut text) => extends_text(&mut text, &asked),
+        Err(_) => None,
+    };
+    all_right(first(granted(0, 1, filled), 2, asked.get() == 0))
+}
+
+fn extends_text(text: &mut InlineText<8>, asked: &Cell<usize>) -> Option<bool> {
+    if text.extend(three('y', asked, 0)).is_err() || text.extend(three("a", asked, 0)).is_err() {
+        return None;
+    }
+    Some(text.as_str() == "éééyyyaaa")
 }
 
 /// A closure of a text that is called once more would pass the check too: no clause counts calls.
@@ -135,9 +150,9 @@ fn hints_of_what_fills_a_text(rt: HostRuntime) -> Result<(), Fail> {
 fn closure_of_a_text(rt: HostRuntime) -> Result<(), Fail> {
     let count = Cell::new(0);
     let mut text = InlineText::<4>::new(rt.alloc());
-    text.push_str("héy")?;
+    let is_pushed = text.push_str("héy").is_ok();
     text.retain(|_| counted(&count) == 2);
-    all_steps(&[count.get() == 3, text.as_str() == "é"])
+    all_steps(&[is_pushed, count.get() == 3, text.as_str() == "é"])
 }
 
 // How often each bound of a range was asked for.
@@ -282,14 +297,16 @@ fn is_written<V: Display>(v: &V, items: usize) -> bool {
 #[test]
 fn pieces_of_texts(rt: HostRuntime) -> Result<(), Fail> {
     let mut v = ArrayVec::<[Mark; 3]>::new();
+    let mut is_right = true;
     for items in 0..3_usize {
-        all_steps(&[is_written(&v, items), v.try_push(Mark(1)).is_none()])?;
+        is_right &= is_written(&v, items) & v.try_push(Mark(1)).is_none();
     }
-    let heap = TinyVec::<[Mark; 1]>::from_slice(rt.alloc(), v.as_slice())?;
-    all_steps(&[
-        is_written(&v, 3),
-        is_written(&TinyVec::Inline(v, rt.alloc()), 3),
-        is_written(&heap, 3),
-        is_written(&SliceVec::from_slice(v.as_mut_slice()), 3),
-    ])
+    let heap = TinyVec::<[Mark; 1]>::from_slice(rt.alloc(), v.as_slice());
+    let on_the_heap = match heap {
+        Ok(heap) => Some(is_written(&heap, 3)),
+        Err(_) => None,
+    };
+    is_right &= is_written(&v, 3) & is_written(&TinyVec::Inline(v, rt.alloc()), 3);
+    is_right &= is_written(&SliceVec::from_slice(v.as_mut_slice()), 3);
+    all_right(first(granted(0, 1, on_the_heap), 2, is_right))
 }

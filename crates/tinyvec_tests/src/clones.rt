@@ -189,7 +189,7 @@ impl Case {
             }
             Resize if self.count <= v.capacity() => v.resize(self.count, one).is_ok(),
             FromSlice => List::try_from_slice(source.as_slice()).is_ok(),
-            _ => return false,
+            _ => false,
         };
         self.is(&clones, is_granted, v.as_slice(), v.grab_spare_slice())
     }
@@ -206,7 +206,7 @@ impl Case {
                 v.extend_from_slice(source.as_slice()).is_ok()
             }
             Resize if self.count <= v.capacity() => v.resize(self.count, one).is_ok(),
-            _ => return false,
+            _ => false,
         };
         self.is(&clones, is_granted, v.as_slice(), v.grab_spare_slice())
     }
@@ -217,9 +217,7 @@ impl Case {
         let origins = clones.origins();
         let source = list(&origins, SOURCE, self.count);
         let mut v = TinyVec::Inline(list(&origins, OWN, self.len), alloc);
-        if !inline && v.move_to_the_heap_and_reserve(SLOTS).is_err() {
-            return None;
-        }
+        let is_placed = inline || v.move_to_the_heap_and_reserve(SLOTS).is_ok();
         let one = Small(origins.first());
         let is_granted = match self.call {
             Call::Clone => v.clone().is_ok(),
@@ -231,9 +229,7 @@ impl Case {
             }
             FromSlice => TinyVec::<[Small; 1]>::from_slice(alloc, source.as_slice()).is_ok(),
         };
-        if !is_granted && clones.asked.get() == 0 && self.needed() != 0 {
-            return None;
-        }
+        let is_asked = is_granted || clones.asked.get() != 0 || self.needed() == 0;
         let is_right = match &v {
             TinyVec::Inline(list, _) => {
                 self.is(
@@ -245,7 +241,7 @@ impl Case {
             }
             TinyVec::Heap(list) => self.is(&clones, is_granted, list.as_slice(), &[]),
         };
-        Some(is_right & (v.is_inline() == inline))
+        (is_placed && is_asked).then_some(is_right & (v.is_inline() == inline))
     }
 
     fn is_right(&self, alloc: Global) -> Option<bool> {

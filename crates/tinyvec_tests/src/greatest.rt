@@ -1,6 +1,6 @@
 //! A call that goes through items one by one where the greatest number makes that impossible would pass the check: it bounds no
 //! time. Of items of no bytes there may be as many as a number counts.
-use crate::steps::{all_right, all_steps, counted, first};
+use crate::steps::{all_right, all_steps, counted, first, granted_steps};
 use std::cell::Cell;
 use std::ops::Bound;
 use std::test::Fail;
@@ -26,14 +26,18 @@ fn skips_past_the_end(rt: HostRuntime) -> Result<(), Fail> {
 // No item is made for a length that there is no room for.
 #[test]
 fn more_items_than_memory_holds(rt: HostRuntime) -> Result<(), Fail> {
-    let mut heap: TinyVec<[i32; 1]> = TinyVec::from_slice(rt.alloc(), &[1, 2, 3])?;
-    let mut text: InlineText<1> = InlineText::from_str(rt.alloc(), "ab")?;
+    let mut heap = TinyVec::from_array(rt.alloc(), [1, 2, 3]);
+    let mut text = InlineText::<1>::new(rt.alloc());
+    let is_refused = heap.move_to_the_heap().is_err() | text.push_str("ab").is_err();
     let count = Cell::new(0);
-    all_steps(&[
-        heap.resize_with(usize::MAX, || counted(&count)).is_err(),
-        text.reserve(usize::MAX).is_err(),
-        count.get() == 0,
-    ])
+    granted_steps(
+        is_refused,
+        &[
+            heap.resize_with(usize::MAX, || counted(&count)).is_err(),
+            text.reserve(usize::MAX).is_err(),
+            count.get() == 0,
+        ],
+    )
 }
 
 #[test]

@@ -1,5 +1,4 @@
 //! What vectors hold. The first three have no branch, which would be one more case of each later step of a test's proof.
-use std::alloc::AllocError;
 use tinyvec::{Array, ArrayVec, SliceVec, TinyVec};
 
 /// Whether these are the items of an array, and these the spare slots after them.
@@ -39,13 +38,5 @@ where
     match v {
         TinyVec::Inline(array, _) => lies(v, items, true) & holds(array, items, spare),
         TinyVec::Heap(_) => false,
-    }
-}
-
-/// Whether memory was granted. Otherwise the error ends the test.
-pub fn is_granted<E: Drop>(called: Result<(), E>) -> Result<bool, AllocError> {
-    match called {
-        Ok(()) => Ok(true),
-        Err(_) => Err(AllocError),
     }
 }

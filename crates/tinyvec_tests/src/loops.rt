@@ -1,7 +1,7 @@
 //! A loop over a vector that is lent for writing, and that lends a slot twice or not at all, would pass the check: no clause says
 //! what items it leaves.
 use crate::lists::{holds, lies, lies_before};
-use crate::steps::all_steps;
+use crate::steps::{all_steps, granted_steps};
 use std::test::Fail;
 use tinyvec::{Array, ArrayVec, SliceVec, TinyVec};
 
@@ -33,14 +33,18 @@ fn over_an_array(rt: HostRuntime) -> Result<(), Fail> {
 
 #[test]
 fn over_a_tiny_vec(rt: HostRuntime) -> Result<(), Fail> {
-    let mut heap: TinyVec<[i32; 2]> = TinyVec::from_slice(rt.alloc(), &[1, 2, 3])?;
     let mut inline = TinyVec::from_array_len(rt.alloc(), [1, 2, 7], 2);
+    let mut heap = TinyVec::from_array(rt.alloc(), [1, 2, 3]);
+    let is_refused = heap.move_to_the_heap().is_err();
     change_tiny(&mut inline);
     change_tiny(&mut heap);
-    all_steps(&[
-        lies_before(&inline, &[22, 24], &[7]),
-        lies(&heap, &[22, 24, 26], false),
-    ])
+    granted_steps(
+        is_refused,
+        &[
+            lies_before(&inline, &[22, 24], &[7]),
+            lies(&heap, &[22, 24, 26], false),
+        ],
+    )
 }
 
 // Each length of the list, whether or not the iterator is asked.

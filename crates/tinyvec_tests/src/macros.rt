@@ -1,10 +1,11 @@
 //! `array_vec!` and `tiny_vec!` in their forms. One that drops an item, or is not read, would pass the check: a macro has no
 //! contract.
 use crate::lists::{holds, lies, lies_before};
-use crate::steps::{all_steps, counted};
+use crate::steps::{all_steps, counted, granted_steps};
+use std::alloc::AllocError;
 use std::cell::Cell;
 use std::test::Fail;
-use tinyvec::{ArrayVec, TinyVec, array_vec, tiny_vec};
+use tinyvec::{Array, ArrayVec, TinyVec, array_vec, tiny_vec};
 
 #[test]
 fn of_an_array(rt: HostRuntime) -> Result<(), Fail> {
@@ -24,53 +25,85 @@ fn of_an_array(rt: HostRuntime) -> Result<(), Fail> {
     ])
 }
 
+// Whether a list was made of these items, inline before these spare slots.
+fn makes<A: Array, E: Drop>(
+    made: Result<TinyVec<A>, E>,
+    items: &[A::Item],
+    spare: &[A::Item],
+) -> bool
+where
+    A::Item: PartialEq,
+{
+    match made {
+        Ok(v) => lies_before(&v, items, spare),
+        Err(_) => false,
+    }
+}
+
+// The same on the heap.
+fn makes_on_the_heap<A: Array, E: Drop>(made: Result<TinyVec<A>, E>, items: &[A::Item]) -> bool
+where
+    A::Item: PartialEq,
+{
+    match made {
+        Ok(v) => lies(&v, items, false),
+        Err(_) => false,
+    }
+}
+
 #[test]
 fn of_a_tiny_vec_whose_array_is_named(rt: HostRuntime) -> Result<(), Fail> {
     let alloc = rt.alloc();
-    let fewer = tiny_vec!(alloc; [i32; 3] => 1, 2)?;
-    let comma = tiny_vec!(alloc; [i32; 2] => 1, 2,)?;
-    let three = tiny_vec!(alloc; [i32; 2] => 1, 2, 3)?;
-    let listed = tiny_vec!(alloc; [i32; 2] =>)?;
-    let named = tiny_vec!(alloc; [i32; 2])?;
-    all_steps(&[
-        lies_before(&fewer, &[1, 2], &[0]),
-        lies_before(&comma, &[1, 2], &[]),
-        lies(&three, &[1, 2, 3], false),
-        lies_before(&listed, &[], &[0, 0]),
-        lies_before(&named, &[], &[0, 0]),
-    ])
+    let three = tiny_vec!(alloc; [i32; 2] => 1, 2, 3);
+    granted_steps(
+        three.is_err(),
+        &[
+            makes(tiny_vec!(alloc; [i32; 3] => 1, 2), &[1, 2], &[0]),
+            makes(tiny_vec!(alloc; [i32; 2] => 1, 2,), &[1, 2], &[]),
+            makes_on_the_heap(three, &[1, 2, 3]),
+            makes(tiny_vec!(alloc; [i32; 2] =>), &[], &[0, 0]),
+            makes(tiny_vec!(alloc; [i32; 2]), &[], &[0, 0]),
+        ],
+    )
 }
 
-type OfTwo = TinyVec<[i32; 2]>;
+type OfTwo = Result<TinyVec<[i32; 2]>, AllocError>;
 
 #[test]
 fn of_a_tiny_vec_whose_array_is_inferred(rt: HostRuntime) -> Result<(), Fail> {
     let alloc = rt.alloc();
-    let two: OfTwo = tiny_vec!(alloc; 1, 2)?;
-    let three: OfTwo = tiny_vec!(alloc; 1, 2, 3,)?;
-    let empty: OfTwo = tiny_vec!(alloc;)?;
-    let same = tiny_vec!(alloc; 5; 3)?;
-    all_steps(&[
-        lies_before(&two, &[1, 2], &[]),
-        lies(&three, &[1, 2, 3], false),
-        lies_before(&empty, &[], &[0, 0]),
-        lies_before(&same, &[5, 5, 5], &[]),
-    ])
+    let two: OfTwo = tiny_vec!(alloc; 1, 2);
+    let three: OfTwo = tiny_vec!(alloc; 1, 2, 3,);
+    let empty: OfTwo = tiny_vec!(alloc;);
+    granted_steps(
+        three.is_err(),
+        &[
+            makes(two, &[1, 2], &[]),
+            makes_on_the_heap(three, &[1, 2, 3]),
+            makes(empty, &[], &[0, 0]),
+            makes(tiny_vec!(alloc; 5; 3), &[5, 5, 5], &[]),
+        ],
+    )
 }
 
 /// An item that is evaluated twice, or out of turn, would pass the check.
 #[test]
 fn once_each_in_order(rt: HostRuntime) -> Result<(), Fail> {
+    let alloc = rt.alloc();
     let count = Cell::new(0);
     let array: ArrayVec<[i32; 3]> = array_vec!(counted(&count), counted(&count));
     let same = array_vec!(counted(&count); 2);
-    let inline = tiny_vec!(rt.alloc(); [i32; 2] => counted(&count), counted(&count))?;
-    let heap: TinyVec<[i32; 1]> = tiny_vec!(rt.alloc(); counted(&count), counted(&count))?;
-    all_steps(&[
-        holds(&array, &[1, 2], &[0]),
-        holds(&same, &[3, 3], &[]),
-        lies(&inline, &[4, 5], true),
-        lies(&heap, &[6, 7], false),
-        count.get() == 7,
-    ])
+    let inline: OfTwo = tiny_vec!(alloc; counted(&count), counted(&count));
+    let heap: Result<TinyVec<[i32; 1]>, AllocError> =
+        tiny_vec!(alloc; counted(&count), counted(&count));
+    granted_steps(
+        heap.is_err(),
+        &[
+            holds(&array, &[1, 2], &[0]),
+            holds(&same, &[3, 3], &[]),
+            makes(inline, &[4, 5], &[]),
+            makes_on_the_heap(heap, &[6, 7]),
+            count.get() == 7,
+        ],
+    )
 }

@@ -1,6 +1,6 @@
 //! A call whose stack or time grows with its slots, and an index that the compiler cuts short, would pass the check: it bounds
 //! neither. Calls that go through all slots go through 65536.
-use crate::steps::{all_right, all_steps, first};
+use crate::steps::{all_right, all_steps, granted, granted_steps};
 use std::iter;
 use std::test::Fail;
 use tinyvec::{ArrayVec, SliceVec, TinyVec};
@@ -30,17 +30,25 @@ fn of_an_array_and_a_length(rt: HostRuntime) {
 #[test]
 fn an_array_is_filled(rt: HostRuntime) -> Result<(), Fail> {
     let mut v = Many::new();
-    let mut wrong = 0;
-    wrong = first(wrong, 1, v.extend(iter::repeat(6)).is_err());
-    wrong = first(wrong, 2, are(v.as_slice(), SLOTS, 6));
+    let is_full = v.extend(iter::repeat(6)).is_err() & are(v.as_slice(), SLOTS, 6);
     v.truncate(1);
-    wrong = first(wrong, 3, are(v.grab_spare_slice(), SLOTS - 1, 0));
-    wrong = first(wrong, 4, v.resize(SLOTS, 6).is_ok());
-    let copy = v.clone()?;
-    wrong = first(wrong, 5, v.pop_at(0) == Some(6));
-    wrong = first(wrong, 6, v.try_insert(0, 6).is_none());
-    wrong = first(wrong, 7, are(v.as_slice(), SLOTS, 6) & (v == copy));
-    all_right(wrong)
+    let is_vacated = are(v.grab_spare_slice(), SLOTS - 1, 0);
+    let is_grown = v.resize(SLOTS, 6).is_ok() & is_cloned(&v);
+    let is_shifted = (v.pop_at(0) == Some(6)) & v.try_insert(0, 6).is_none();
+    all_steps(&[
+        is_full,
+        is_vacated,
+        is_grown,
+        is_shifted,
+        are(v.as_slice(), SLOTS, 6),
+    ])
+}
+
+fn is_cloned(v: &Many) -> bool {
+    match v.clone() {
+        Ok(copy) => *v == copy,
+        Err(_) => false,
+    }
 }
 
 #[test]
@@ -78,32 +86,58 @@ fn is(v: &Tiny, count: usize, item: u8, inline: bool) -> bool {
 
 #[test]
 fn a_tiny_vec_is_filled(rt: HostRuntime) -> Result<(), Fail> {
-    let mut v = Tiny::from_slice(rt.alloc(), &[7; SLOTS])?;
-    let mut wrong = 0;
-    wrong = first(wrong, 1, is(&v, SLOTS, 7, true));
-    v.insert(0, 7)?;
-    wrong = first(wrong, 2, is(&v, SLOTS + 1, 7, false) & (v == v.clone()?));
-    wrong = first(wrong, 3, v.pop_at(0) == Some(7));
+    let mut v = Tiny::from_array(rt.alloc(), [7; SLOTS]);
+    let mut is_granted = v.insert(0, 7).is_ok();
+    let is_inserted = is(&v, SLOTS + 1, 7, false) & (v.pop_at(0) == Some(7));
     v.shrink_to_fit();
-    wrong = first(wrong, 4, is(&v, SLOTS, 7, true));
+    let is_shrunk = is(&v, SLOTS, 7, true);
     v.clear();
-    v.resize(SLOTS + 1, 9)?;
-    wrong = first(wrong, 5, is(&v, SLOTS + 1, 9, false));
-    let cut = v.split_off(0)?;
-    wrong = first(wrong, 6, is(&cut, SLOTS + 1, 9, false) & v.is_empty());
-    all_right(wrong)
+    is_granted &= v.resize(SLOTS + 1, 9).is_ok();
+    granted_steps(
+        !is_granted,
+        &[is_inserted, is_shrunk, is(&v, SLOTS + 1, 9, false)],
+    )
+}
+
+// Clones, of a slice and of a list on the heap, and what is split off.
+#[test]
+fn a_tiny_vec_is_copied(rt: HostRuntime) -> Result<(), Fail> {
+    let copied = match Tiny::from_slice(rt.alloc(), &[7; SLOTS]) {
+        Ok(mut v) => copied(&mut v),
+        Err(_) => None,
+    };
+    all_right(granted(0, 1, copied))
+}
+
+fn copied(v: &mut Tiny) -> Option<bool> {
+    let is_inline = is(v, SLOTS, 7, true);
+    if v.move_to_the_heap().is_err() {
+        return None;
+    }
+    let is_cloned = match v.clone() {
+        Ok(copy) => copy == *v,
+        Err(_) => return None,
+    };
+    match v.split_off(0) {
+        Ok(cut) => Some(is_inline & is_cloned & is(&cut, SLOTS, 7, false) & v.is_empty()),
+        Err(_) => None,
+    }
 }
 
 #[test]
 fn a_text(rt: HostRuntime) -> Result<(), Fail> {
     let mut t = InlineText::<SLOTS>::new(rt.alloc());
+    let mut is_granted = true;
     for _ in 0..SLOTS {
-        t.push('a')?;
+        is_granted &= t.push('a').is_ok();
     }
     let is_inline = t.is_inline();
-    t.push_str("b")?;
-    all_steps(&[
-        is_inline & !t.is_inline(),
-        (t.pop() == Some('b')) & are(t.as_bytes(), SLOTS, b'a'),
-    ])
+    is_granted &= t.push_str("b").is_ok();
+    granted_steps(
+        !is_granted,
+        &[
+            is_inline & !t.is_inline(),
+            (t.pop() == Some('b')) & are(t.as_bytes(), SLOTS, b'a'),
+        ],
+    )
 }

@@ -1,7 +1,6 @@
 //! A move of a large item that the compiler builds wrong, or that needs too much of the stack, would pass the check: these are
 //! larger than a page of memory.
-use crate::lists::is_granted;
-use crate::steps::{all_right, all_steps, first};
+use crate::steps::{all_right, first, granted_steps};
 use std::test::Fail;
 use tinyvec::{ArrayVec, TinyVec};
 
@@ -41,13 +40,23 @@ fn in_an_array(rt: HostRuntime) -> Result<(), Fail> {
 #[test]
 fn in_a_tiny_vec(rt: HostRuntime) -> Result<(), Fail> {
     let mut v = TinyVec::from_array(rt.alloc(), [page(1), page(2)]);
-    let is_pushed = is_granted(v.push(page(3)))?;
-    let heap = v.clone()?;
+    let is_refused = v.push(page(3)).is_err();
+    let copy = v.clone();
     let is_popped = v.pop() == Some(page(3));
     v.shrink_to_fit();
-    all_steps(&[
-        is_pushed & is_popped,
-        heap.is_heap() & hold(heap.as_slice(), &[1, 2, 3]),
-        v.is_inline() & hold(v.as_slice(), &[1, 2]),
-    ])
+    granted_steps(
+        is_refused | copy.is_err(),
+        &[
+            is_popped,
+            is_copied(copy),
+            v.is_inline() & hold(v.as_slice(), &[1, 2]),
+        ],
+    )
+}
+
+fn is_copied<E: Drop>(copy: Result<TinyVec<[Page; 2]>, E>) -> bool {
+    match copy {
+        Ok(heap) => heap.is_heap() & hold(heap.as_slice(), &[1, 2, 3]),
+        Err(_) => false,
+    }
 }

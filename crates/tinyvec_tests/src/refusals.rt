@@ -22,25 +22,32 @@ enum Call {
 
 const CALLS: [Call; 4] = [Call::Append, Call::Extend, Call::IntoVec, Call::Splice];
 
-fn owned(alloc: Global, number: i32) -> Result<Owned, AllocError> {
-    Ok(Some(Box::new(alloc, number)?))
-}
-
-// A full array.
-fn two(alloc: Global) -> Result<ArrayVec<[Owned; 2]>, AllocError> {
-    Ok(ArrayVec::from_array([owned(alloc, 1)?, owned(alloc, 2)?]))
+// A full array. An item without memory is none.
+fn two(alloc: Global) -> ArrayVec<[Owned; 2]> {
+    ArrayVec::from_array([Box::new(alloc, 1).ok(), Box::new(alloc, 2).ok()])
 }
 
 impl Call {
     // Whether the call is granted memory.
-    fn is_granted(self, alloc: Global, v: &mut Boxes) -> Result<bool, AllocError> {
-        let mut other = TinyVec::Inline(two(alloc)?, alloc);
-        Ok(match self {
+    fn is_granted(self, alloc: Global, v: &mut Boxes) -> bool {
+        let mut other = TinyVec::Inline(two(alloc), alloc);
+        match self {
             Call::Append => v.append(&mut other).is_ok(),
             Call::Extend => v.extend(other).is_ok(),
             Call::IntoVec => other.into_vec().is_ok(),
             Call::Splice => v.splice(..0, other).finish().is_ok(),
-        })
+        }
+    }
+
+    // If the call is refused memory, whether it is granted it then.
+    fn is_granted_then(self, alloc: Global, inline: bool) -> Option<bool> {
+        let mut v = TinyVec::Inline(two(alloc), alloc);
+        let is_placed = inline || v.move_to_the_heap().is_ok();
+        if !is_placed || self.is_granted(alloc, &mut v) {
+            None
+        } else {
+            Some(self.is_granted(alloc, &mut v))
+        }
     }
 }
 
@@ -52,35 +59,29 @@ fn told(rt: &impl Print, is_refused: bool, wrong: u32) -> Result<(), Fail> {
     all_right(wrong)
 }
 
-// Whether a call was refused, and the first one that was refused again, or 0.
-fn refused_once(alloc: Global, inline: bool) -> Result<(bool, u32), AllocError> {
+// Ends a test of all calls.
+fn refused_once(rt: &impl Print, alloc: Global, inline: bool) -> Result<(), Fail> {
     let mut is_refused = false;
     let mut wrong = 0;
     let mut step = 0_u32;
     for call in CALLS {
-        let mut v = TinyVec::Inline(two(alloc)?, alloc);
-        if !inline {
-            v.move_to_the_heap()?;
-        }
         step = step.wrapping_add(1);
-        if !call.is_granted(alloc, &mut v)? {
+        if let Some(is_granted) = call.is_granted_then(alloc, inline) {
             is_refused = true;
-            wrong = first(wrong, step, call.is_granted(alloc, &mut v)?);
+            wrong = first(wrong, step, is_granted);
         }
     }
-    Ok((is_refused, wrong))
+    told(rt, is_refused, wrong)
 }
 
 #[test]
 fn of_an_inline_list(rt: HostRuntime) -> Result<(), Fail> {
-    let (is_refused, wrong) = refused_once(rt.alloc(), true)?;
-    told(&rt, is_refused, wrong)
+    refused_once(&rt, rt.alloc(), true)
 }
 
 #[test]
 fn of_a_list_on_the_heap(rt: HostRuntime) -> Result<(), Fail> {
-    let (is_refused, wrong) = refused_once(rt.alloc(), false)?;
-    told(&rt, is_refused, wrong)
+    refused_once(&rt, rt.alloc(), false)
 }
 
 fn listed(alloc: Global, count: &Cell<i32>) -> Result<TinyVec<[i32; 3]>, AllocError> {

@@ -41,13 +41,22 @@ pub fn all_right(wrong: u32) -> Result<(), Fail> {
 
 /// Ends a test by the number of the first of these steps that went wrong, if there is one.
 pub fn all_steps(steps: &[bool]) -> Result<(), Fail> {
+    all_right(first_of(steps))
+}
+
+/// The same. If a request was refused, that ends the test.
+pub fn granted_steps(is_refused: bool, steps: &[bool]) -> Result<(), Fail> {
+    all_right(if is_refused { REFUSED } else { first_of(steps) })
+}
+
+fn first_of(steps: &[bool]) -> u32 {
     let mut wrong = 0;
     let mut step = 0_u32;
     for is_right in steps {
         step = step.wrapping_add(1);
         wrong = first(wrong, step, *is_right);
     }
-    all_right(wrong)
+    wrong
 }
 
 /// Whether `{}` writes a value so, in up to 128 bytes.

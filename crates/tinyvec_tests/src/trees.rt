@@ -3,8 +3,8 @@
 //! also where each request is refused, and what was built so far is dropped.
 ghost use Rattle.std.specs.Prelude.{◌≡◌};
 
-use crate::steps::{all_steps, is_debugged};
-use std::alloc::{AllocError, Global};
+use crate::steps::{granted_steps, is_debugged};
+use std::alloc::Global;
 use std::test::Fail;
 use tinyvec::{ArrayVec, TinyVec};
 
@@ -34,158 +34,214 @@ enum Square {
 
 type Parts = ArrayVec<[Option<Box<Square>>; 4]>;
 
-// A list in a list, and so on, with so many numbers after each.
-fn nested(alloc: Global, depth: u8, numbers: u64) -> Result<Node, AllocError> {
-    let mut node = Node::Number(7);
-    for _level in 0..depth {
-        let mut items = TinyVec::new(alloc);
-        items.push(node)?;
-        for number in 0..numbers {
-            items.push(Node::Number(number))?;
+// Makes trees, and notes whether a request was refused. A `?` in the tests would drop all that is alive at each.
+#[derive(Drop)]
+struct Maker {
+    alloc: Global,
+    is_refused: bool,
+}
+
+impl Maker {
+    fn new(alloc: Global) -> Maker {
+        Maker {
+            alloc,
+            is_refused: false,
         }
-        node = Node::List(Box::new(alloc, items)?);
     }
-    Ok(node)
+
+    fn boxed<T: Drop>(&mut self, x: T) -> Option<Box<T>> {
+        let boxed = Box::new(self.alloc, x).ok();
+        self.is_refused |= boxed.is_none();
+        boxed
+    }
+
+    fn push(&mut self, items: &mut Nodes, node: Node) {
+        self.is_refused |= items.push(node).is_err();
+    }
+
+    // A list in a list, and so on, with so many numbers after each.
+    fn nested(&mut self, depth: u8, numbers: u64) -> Node {
+        let mut node = Node::Number(7);
+        for _level in 0..depth {
+            node = self.around(node, numbers);
+        }
+        node
+    }
+
+    fn around(&mut self, node: Node, numbers: u64) -> Node {
+        let mut items = TinyVec::new(self.alloc);
+        self.push(&mut items, node);
+        for number in 0..numbers {
+            self.push(&mut items, Node::Number(number));
+        }
+        match self.boxed(items) {
+            Some(items) => Node::List(items),
+            None => Node::default(),
+        }
+    }
+
+    fn push_nested(&mut self, items: &mut Nodes, depth: u8, numbers: u64) {
+        let node = self.nested(depth, numbers);
+        self.push(items, node);
+    }
+
+    // Three lists in the array or on the heap.
+    fn three(&mut self, numbers: u64) -> Nodes {
+        let mut items = TinyVec::new(self.alloc);
+        for depth in 1..4 {
+            self.push_nested(&mut items, depth, numbers);
+        }
+        items
+    }
+
+    // A square in a square, and so on, with two more beside each.
+    fn divided(&mut self, depth: u8) -> Square {
+        let mut square = Square::Plain(true);
+        for _level in 0..depth {
+            square = self.beside(square);
+        }
+        square
+    }
+
+    fn beside(&mut self, square: Square) -> Square {
+        let (square, other) = (self.boxed(square), self.boxed(Square::Plain(false)));
+        match self.boxed(ArrayVec::from_array_len([square, None, other, None], 3)) {
+            Some(parts) => Square::Parts(parts),
+            None => Square::Plain(true),
+        }
+    }
+
+    fn boxed_square(&mut self, depth: u8) -> Option<Box<Square>> {
+        let square = self.divided(depth);
+        self.boxed(square)
+    }
+
+    // Four squares, of these depths.
+    fn four(&mut self, depths: [u8; 4]) -> Parts {
+        let [a, b, c, d] = depths;
+        let squares = [
+            self.boxed_square(a),
+            self.boxed_square(b),
+            self.boxed_square(c),
+            self.boxed_square(d),
+        ];
+        ArrayVec::from_array(squares)
+    }
+
+    fn all_steps(&self, steps: &[bool]) -> Result<(), Fail> {
+        granted_steps(self.is_refused, steps)
+    }
 }
 
-// Three lists in the array or on the heap.
-fn three(alloc: Global, numbers: u64) -> Result<Nodes, AllocError> {
-    let mut items = TinyVec::new(alloc);
-    for depth in 1..4 {
-        items.push(nested(alloc, depth, numbers)?)?;
-    }
-    Ok(items)
-}
-
-// A square in a square, and so on, with two more beside each.
-fn divided(alloc: Global, depth: u8) -> Result<Square, AllocError> {
-    let mut square = Square::Plain(true);
-    for _level in 0..depth {
-        let mut parts = ArrayVec::new();
-        parts.push(Some(Box::new(alloc, square)?));
-        parts.push(None);
-        parts.push(Some(Box::new(alloc, Square::Plain(false))?));
-        square = Square::Parts(Box::new(alloc, parts)?);
-    }
-    Ok(square)
-}
-
-// Four squares.
-fn four(alloc: Global) -> Result<Parts, AllocError> {
-    let mut parts = ArrayVec::new();
-    parts.push(Some(Box::new(alloc, divided(alloc, 0)?)?));
-    parts.push(Some(Box::new(alloc, divided(alloc, 1)?)?));
-    parts.push(Some(Box::new(alloc, divided(alloc, 2)?)?));
-    parts.push(Some(Box::new(alloc, divided(alloc, 3)?)?));
-    Ok(parts)
-}
+const DEPTHS: [u8; 4] = [0, 1, 2, 3];
 
 #[test]
 fn lists_that_are_cut(rt: HostRuntime) -> Result<(), Fail> {
-    let alloc = rt.alloc();
-    let mut items = three(alloc, 1)?;
+    let mut maker = Maker::new(rt.alloc());
+    let mut items = maker.three(1);
     items.truncate(1);
     let is_cut = items.len() == 1;
-    items.push(nested(alloc, 2, 3)?)?;
+    maker.push_nested(&mut items, 2, 3);
     items.clear();
     let is_cleared = items.is_empty();
-    items.push(nested(alloc, 1, 2)?)?;
-    items.push(nested(alloc, 3, 0)?)?;
+    maker.push_nested(&mut items, 1, 2);
+    maker.push_nested(&mut items, 3, 0);
     let is_popped = matches!(items.pop(), Some(Node::List(_)));
-    all_steps(&[is_cut, is_cleared, is_popped, items.len() == 1])
+    maker.all_steps(&[is_cut, is_cleared, is_popped, items.len() == 1])
 }
 
 #[test]
 fn lists_that_lose_an_item(rt: HostRuntime) -> Result<(), Fail> {
-    let alloc = rt.alloc();
-    let mut items = three(alloc, 3)?;
+    let mut maker = Maker::new(rt.alloc());
+    let mut items = maker.three(3);
     let is_drained = items.drain(..).next().is_some();
     let is_left = items.is_empty();
-    items.insert(0, nested(alloc, 2, 1)?)?;
+    let is_inserted = items.insert(0, maker.nested(2, 1)).is_ok();
+    maker.is_refused |= !is_inserted;
     items.retain(|node| matches!(node, Node::Number(_)));
     let is_emptied = items.is_empty();
-    let mut left = three(alloc, 2)?.into_iter();
-    all_steps(&[is_drained, is_left, is_emptied, left.next_back().is_some()])
+    let mut left = maker.three(2).into_iter();
+    maker.all_steps(&[is_drained, is_left, is_emptied, left.next_back().is_some()])
 }
 
 #[test]
 fn a_list_that_is_written_over(rt: HostRuntime) -> Result<(), Fail> {
-    let alloc = rt.alloc();
-    let mut node = nested(alloc, 3, 2)?;
+    let mut maker = Maker::new(rt.alloc());
+    let mut node = maker.nested(3, 2);
     let mut is_written = false;
     if let Node::List(items) = &mut node {
         for item in items.iter_mut() {
-            *item = nested(alloc, 1, 1)?;
+            *item = maker.nested(1, 1);
         }
-        **items = three(alloc, 0)?;
+        **items = maker.three(0);
         is_written = items.len() == 3;
     }
-    all_steps(&[is_written])
+    maker.all_steps(&[is_written])
 }
 
 #[test]
 fn squares_that_are_cut(rt: HostRuntime) -> Result<(), Fail> {
-    let alloc = rt.alloc();
-    let mut parts = four(alloc)?;
+    let mut maker = Maker::new(rt.alloc());
+    let mut parts = maker.four(DEPTHS);
     let is_popped = matches!(parts.pop(), Some(Some(_)));
     parts.truncate(1);
-    let is_cut = parts.len() == 1;
-    let mut parts = four(alloc)?;
+    maker.all_steps(&[is_popped, parts.len() == 1])
+}
+
+#[test]
+fn squares_that_are_drained(rt: HostRuntime) -> Result<(), Fail> {
+    let mut maker = Maker::new(rt.alloc());
+    let mut parts = maker.four(DEPTHS);
     let is_drained = parts.drain(..).next_back().is_some();
     let is_left = parts.is_empty();
-    let mut left = four(alloc)?.into_iter();
-    let square = Square::Parts(Box::new(alloc, four(alloc)?)?);
-    all_steps(&[
-        is_popped,
-        is_cut,
-        is_drained,
-        is_left,
-        left.next().is_some(),
-        matches!(square, Square::Parts(_)),
-    ])
+    let mut left = maker.four(DEPTHS).into_iter();
+    let parts = maker.four(DEPTHS);
+    let square = maker.boxed(parts);
+    maker.all_steps(&[is_drained, is_left, left.next().is_some(), square.is_some()])
 }
 
 // A drain that loses what precedes its range or follows it, or drops twice what was taken, would pass the check.
 #[test]
 fn lists_that_lose_their_middle(rt: HostRuntime) -> Result<(), Fail> {
-    let alloc = rt.alloc();
-    let mut heap = three(alloc, 0)?;
-    heap.push(nested(alloc, 1, 1)?)?;
-    let mut is_taken = false;
-    if heap.len() == 4 {
-        is_taken = matches!(heap.drain(1..3).next(), Some(Node::List(_)));
-    }
-    let mut inline: TinyVec<[Node; 4]> = TinyVec::new(alloc);
-    inline.push(nested(alloc, 2, 0)?)?;
-    inline.push(nested(alloc, 1, 2)?)?;
-    inline.push(nested(alloc, 3, 1)?)?;
-    inline.push(Node::Number(5))?;
-    let mut is_taken_inline = false;
-    if inline.len() == 4 {
-        is_taken_inline = matches!(inline.drain(1..3).next_back(), Some(Node::List(_)));
-    }
-    all_steps(&[
+    let mut maker = Maker::new(rt.alloc());
+    let mut heap = maker.three(0);
+    maker.push_nested(&mut heap, 1, 1);
+    let is_taken = heap.len() == 4 && matches!(heap.drain(1..3).next(), Some(Node::List(_)));
+    maker.all_steps(&[
         is_taken,
         !heap.is_inline(),
         is_debugged(&heap, "[List([Number(7)]), List([Number(7), Number(0)])]"),
-        is_taken_inline,
-        inline.is_inline(),
-        is_debugged(&inline, "[List([List([Number(7)])]), Number(5)]"),
+    ])
+}
+
+#[test]
+fn an_inline_list_that_loses_its_middle(rt: HostRuntime) -> Result<(), Fail> {
+    let mut maker = Maker::new(rt.alloc());
+    let nodes = [
+        maker.nested(2, 0),
+        maker.nested(1, 2),
+        maker.nested(3, 1),
+        Node::Number(5),
+    ];
+    let mut items = TinyVec::from_array(rt.alloc(), nodes);
+    let is_taken = items.len() == 4 && matches!(items.drain(1..3).next_back(), Some(Node::List(_)));
+    maker.all_steps(&[
+        is_taken,
+        items.is_inline(),
+        is_debugged(&items, "[List([List([Number(7)])]), Number(5)]"),
     ])
 }
 
 // So would a drain that leaves an item in its range alive.
 #[test]
 fn lists_that_lose_their_first(rt: HostRuntime) -> Result<(), Fail> {
-    let alloc = rt.alloc();
-    let mut items: Nodes = TinyVec::new(alloc);
-    items.push(nested(alloc, 2, 1)?)?;
-    items.push(nested(alloc, 1, 0)?)?;
-    let mut is_counted = false;
-    if items.len() == 2 {
-        is_counted = items.drain(..1).len() == 1;
-    }
-    all_steps(&[
+    let mut maker = Maker::new(rt.alloc());
+    let mut items: Nodes = TinyVec::from_array(
+        rt.alloc(),
+        [maker.nested(2, 1), maker.nested(1, 0)],
+    );
+    let is_counted = items.len() == 2 && items.drain(..1).len() == 1;
+    maker.all_steps(&[
         is_counted,
         items.is_inline(),
         is_debugged(&items, "[List([Number(7)])]"),
@@ -195,18 +251,14 @@ fn lists_that_lose_their_first(rt: HostRuntime) -> Result<(), Fail> {
 // The same of squares, whose slots hold an option each: a slot that is left has to hold none.
 #[test]
 fn squares_that_lose_their_middle(rt: HostRuntime) -> Result<(), Fail> {
-    let alloc = rt.alloc();
-    let mut parts: Parts = ArrayVec::new();
-    parts.push(Some(Box::new(alloc, divided(alloc, 1)?)?));
-    parts.push(Some(Box::new(alloc, divided(alloc, 2)?)?));
-    parts.push(Some(Box::new(alloc, divided(alloc, 1)?)?));
-    parts.push(Some(Box::new(alloc, divided(alloc, 0)?)?));
-    let is_taken = matches!(parts.drain(1..3).next(), Some(Some(_)));
+    let mut maker = Maker::new(rt.alloc());
+    let mut parts = maker.four([1, 2, 1, 0]);
+    let is_taken = parts.len() == 4 && matches!(parts.drain(1..3).next(), Some(Some(_)));
     let kept = is_debugged(
         &parts,
         "[Some(Parts([Some(Plain(true)), None, Some(Plain(false))])), Some(Plain(true))]",
     );
-    parts.push(None);
-    let is_none = matches!(parts.drain(1..).next_back(), Some(None));
-    all_steps(&[is_taken, kept, is_none, parts.len() == 1])
+    let is_pushed = parts.try_push(None).is_none();
+    let is_none = !parts.is_empty() && matches!(parts.drain(1..).next_back(), Some(None));
+    maker.all_steps(&[is_taken, kept, is_pushed & is_none, parts.len() == 1])
 }

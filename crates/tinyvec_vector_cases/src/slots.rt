@@ -1,16 +1,13 @@
 //! Rows of a vector over slots: of an `ArrayVec` and of a `SliceVec`.
-use crate::array::say_vec;
-use crate::calls::{cut, filter, lend_slots, needs, put_in_slots, ranged, splice};
+use crate::calls::{cut, filter, lend, ranged, say_extended, splice};
 use crate::held::{Copies, Writes, write_text};
 use crate::steps::{Steps, step_at_ends, stepped};
 use crate::vector::Vector;
-use std::alloc::AllocError;
-use std::fmt::Write;
+use std::fmt::{Debug, Write};
 use std::iter::Fuse;
 use std::vec;
 use tinyvec::{ArrayVec, ArrayVecDrain, ArrayVecSplice, Slots, TakesClones};
-use tinyvec_rows::call::{Call, Cut, Drained, Filter, Lend, Pair, Put, Ranged, Writing};
-use tinyvec_rows::{Item, Said, Span, Step, Wrong, done, is_within, say, say_list, say_slots};
+use tinyvec_rows::{Call, Item, Name, Out, Span, Step, Wrong, has_at_most, is_within};
 
 /// The slots of a vector that rows call.
 pub trait Storage: TakesClones {
@@ -18,14 +15,14 @@ pub trait Storage: TakesClones {
     fn call(
         v: &mut ArrayVec<Self>,
         other: &mut ArrayVec<Self>,
-        call: Call<Self::Item>,
-        out: &mut String,
-    ) -> Said;
+        call: &mut Call<Self::Item>,
+        out: &mut Out,
+    );
 }
 
 /// Writes the list and the spare slots. Apart from `Vector`, whose calls need it.
-pub fn say_vector<T: Item, S: Slots<Item = T>>(v: &ArrayVec<S>, out: &mut String) -> Said {
-    say_slots(out, v.as_slice(), v.grab_spare_slice())
+pub fn say_vector<T: Item, S: Slots<Item = T>>(v: &ArrayVec<S>, out: &mut Out) {
+    out.say_slots(v.as_slice(), v.grab_spare_slice());
 }
 
 impl<T: Item, S: Storage<Item = T>> Vector for ArrayVec<S> {
@@ -35,21 +32,12 @@ impl<T: Item, S: Storage<Item = T>> Vector for ArrayVec<S> {
         self.as_slice()
     }
 
-    fn say_state(&self, out: &mut String) -> Said {
-        say_vector(self, out)
+    fn say_state(&self, out: &mut Out) {
+        say_vector(self, out);
     }
 
-    fn call(&mut self, other: &mut ArrayVec<S>, call: Call<T>, out: &mut String) -> Said {
-        match call {
-            Call::Cut(cut) => take_out(self, cut, out),
-            Call::Lend(lend) => look(self, lend, out),
-            Call::Put(put) => put_in(self, put, out),
-            Call::Filter(filter) => keep(self, filter, out),
-            Call::Ranged(ranged) => replace(self, ranged, out),
-            Call::Pair(pair) => both(self, other, pair, out),
-            Call::Drained(drained) => drain_all(self, other, drained, out),
-            call => S::call(self, other, call, out),
-        }
+    fn call(&mut self, other: &mut ArrayVec<S>, call: &mut Call<T>, out: &mut Out) {
+        take_out(self, other, call, out);
     }
 
     fn extract<F: FnMut(&mut T) -> bool>(
@@ -57,119 +45,173 @@ impl<T: Item, S: Storage<Item = T>> Vector for ArrayVec<S> {
         range: Span,
         f: F,
         steps: &[Step],
-        out: &mut String,
-    ) -> Said {
+        out: &mut Out,
+    ) {
         if !is_within(range, self.len()) {
-            return Err(Wrong::Place);
+            return out.fail(Wrong::Place);
         }
-        stepped(&mut self.extract_if(range, f), steps, out)
+        stepped(&mut self.extract_if(range, f), steps, out);
     }
 }
 
-fn take_out<T: Item, S: Slots<Item = T>>(v: &mut ArrayVec<S>, cut: Cut, out: &mut String) -> Said {
-    cut!(v, cut, out)
-}
-
-fn look<T: Item, S: Slots<Item = T>>(v: &mut ArrayVec<S>, lend: Lend<T>, out: &mut String) -> Said {
-    lend_slots!(v, lend, out)
-}
-
-fn put_in<T: Item, S: Slots<Item = T>>(v: &mut ArrayVec<S>, put: Put<T>, out: &mut String) -> Said {
-    put_in_slots!(v, put, out)
-}
-
-fn keep<T: Item, S: Slots<Item = T>>(
+// Each function makes the calls of a kind, and hands others on.
+fn take_out<T: Item, S: Storage<Item = T>>(
     v: &mut ArrayVec<S>,
-    filter: Filter,
-    out: &mut String,
-) -> Said {
-    filter!(v, filter, out)
+    other: &mut ArrayVec<S>,
+    call: &mut Call<T>,
+    out: &mut Out,
+) {
+    cut!(v, call, out, _ => look(v, other, call, out),)
 }
 
-fn replace<T: Item, S: Slots<Item = T>>(
+fn look<T: Item, S: Storage<Item = T>>(
     v: &mut ArrayVec<S>,
-    ranged: Ranged<T>,
-    out: &mut String,
-) -> Said {
-    ranged!(v, ranged, spliced, out,
-        Ranged::DrainEach(range, mut given) => {
-            needs!(is_within(range, v.len()) && v.len() <= given.capacity() - given.len());
-            v.drain_each(range, &mut |x| given.push(x).unwrap_or(()));
-            say_list(out, given.as_slice())
-        }
+    other: &mut ArrayVec<S>,
+    call: &mut Call<T>,
+    out: &mut Out,
+) {
+    lend!(v, call, is_full, out,
+        Name::SetLen if call.index <= v.capacity() => v.set_len(call.index),
+        Name::WriteSpare => out.write_spare(v.grab_spare_slice_mut(), call.items.as_mut_slice()),
+        _ => put_in(v, other, call, out),
     )
 }
 
-fn spliced<T: Item, S: Slots<Item = T>>(
+fn put_in<T: Item, S: Storage<Item = T>>(
     v: &mut ArrayVec<S>,
-    range: Span,
-    replacement: (Vec<T>, Vec<Step>),
-    out: &mut String,
-) -> Said {
-    splice!(v, range, replacement, out)
+    other: &mut ArrayVec<S>,
+    call: &mut Call<T>,
+    out: &mut Out,
+) {
+    let (i, is_full) = (call.index, v.is_full());
+    match call.name {
+        Name::Push if !is_full => v.push(call.item()),
+        Name::PushMut if !is_full => {
+            let y = call.item();
+            out.say_and_set(v.push_mut(call.item()), y);
+        }
+        Name::Insert if i <= v.len() && !is_full => v.insert(i, call.item()),
+        Name::InsertMut if i <= v.len() && !is_full => {
+            let y = call.item();
+            out.say_and_set(v.insert_mut(i, call.item()), y);
+        }
+        Name::TryPush => out.say(&v.try_push(call.item())),
+        Name::TryInsert if i <= v.len() => out.say(&v.try_insert(i, call.item())),
+        _ => append(v, other, call, out),
+    }
+}
+
+fn append<T: Item, S: Storage<Item = T>>(
+    v: &mut ArrayVec<S>,
+    other: &mut ArrayVec<S>,
+    call: &mut Call<T>,
+    out: &mut Out,
+) {
+    let room = v.remaining_capacity();
+    match call.name {
+        Name::Extend => say_extended(v.extend(call.take_items()), out),
+        Name::Fill => {
+            let rest = v.fill(call.take_items());
+            out.say_all(rest.fuse());
+        }
+        Name::ExtendFromSlice if call.items.len() <= room => {
+            out.done(v.extend_from_slice(call.items.as_slice()));
+        }
+        Name::TryExtendFromSlice => out.done(v.try_extend_from_slice(call.items.as_slice())),
+        Name::ExtendFromWithin
+            if is_within(call.range, v.len()) && has_at_most(call.range, v.len(), room) => {
+            out.done(v.extend_from_within(call.range));
+        }
+        _ => keep(v, other, call, out),
+    }
+}
+
+fn keep<T: Item, S: Storage<Item = T>>(
+    v: &mut ArrayVec<S>,
+    other: &mut ArrayVec<S>,
+    call: &mut Call<T>,
+    out: &mut Out,
+) {
+    filter!(v, call, out, _ => replace(v, other, call, out),)
+}
+
+fn replace<T: Item, S: Storage<Item = T>>(
+    v: &mut ArrayVec<S>,
+    other: &mut ArrayVec<S>,
+    call: &mut Call<T>,
+    out: &mut Out,
+) {
+    ranged!(v, call, spliced, out,
+        Name::DrainEach
+            if is_within(call.range, v.len())
+                && v.len() <= call.items.capacity() - call.items.len() => {
+            let (range, mut given) = (call.range, call.take_items());
+            v.drain_each(range, &mut |x| given.push(x).unwrap_or(()));
+            out.say(&given.as_slice());
+        }
+        _ => both(v, other, call, out),
+    )
+}
+
+fn spliced<T: Item, S: Slots<Item = T>>(v: &mut ArrayVec<S>, call: &mut Call<T>, out: &mut Out) {
+    splice!(v, call, out)
 }
 
 fn both<T: Item, S: Storage<Item = T>>(
     v: &mut ArrayVec<S>,
     other: &mut ArrayVec<S>,
-    pair: Pair,
-    out: &mut String,
-) -> Said {
-    match pair {
-        Pair::Append if other.len() <= v.remaining_capacity() => Ok(v.append(other)),
-        Pair::Append => Err(Wrong::Place),
-        Pair::TryAppend => match v.try_append(other) {
-            Some(back) => say_vector(back, out),
-            None => Ok(()),
-        },
-        Pair::AppendIfFits => match v.append_if_fits(other) {
+    call: &mut Call<T>,
+    out: &mut Out,
+) {
+    match call.name {
+        Name::Append if other.len() <= v.remaining_capacity() => v.append(other),
+        Name::TryAppend => {
+            if let Some(back) = v.try_append(other) {
+                say_vector(back, out);
+            }
+        }
+        Name::AppendIfFits => match v.append_if_fits(other) {
             Ok(emptied) => say_vector(emptied, out),
             Err(back) => say_vector(back, out),
         },
-        pair => S::call(v, other, Call::Pair(pair), out),
+        Name::DrainToVec => say_vec(v.drain_to_vec(out.alloc()), out),
+        Name::DrainToVecAndReserve => {
+            say_vec(v.drain_to_vec_and_reserve(out.alloc(), call.index), out);
+        }
+        _ => S::call(v, other, call, out),
     }
 }
 
-fn drain_all<T: Item, S: Storage<Item = T>>(
-    v: &mut ArrayVec<S>,
-    other: &mut ArrayVec<S>,
-    drained: Drained,
-    out: &mut String,
-) -> Said {
-    let alloc = *out.allocator();
-    match drained {
-        Drained::ToVec => say_drained(v.drain_to_vec(alloc), out),
-        Drained::ToVecAndReserve(more) => say_drained(v.drain_to_vec_and_reserve(alloc, more), out),
-        drained => S::call(v, other, Call::Drained(drained), out),
-    }
-}
-
-fn say_drained<T: Item>(drained: Result<Vec<T>, AllocError>, out: &mut String) -> Said {
-    match drained {
-        Ok(vec) => say_vec(&vec, out),
-        Err(error) => say(out, &error),
+// Writes the items that came out, and how much room they have.
+fn say_vec<T: Item, E: Debug + Drop>(made: Result<Vec<T>, E>, out: &mut Out) {
+    match made {
+        Ok(vec) => {
+            out.say(&vec.as_slice());
+            out.say(&vec.capacity());
+        }
+        Err(error) => out.say(&error),
     }
 }
 
 impl<T: Item + Copy, S: Storage<Item = T>> Copies for ArrayVec<S> {
-    fn extend_copies(&mut self, items: &[T], _out: &mut String) -> Said {
+    fn extend_copies(&mut self, items: &[T], out: &mut Out) {
         if items.len() > self.remaining_capacity() {
-            return Err(Wrong::Place);
+            return out.fail(Wrong::Place);
         }
-        Ok(self.extend_from_slice_copy(items))
+        self.extend_from_slice_copy(items);
     }
 
-    fn replace(&mut self, range: Span, items: &[T], out: &mut String) -> Said {
+    fn replace(&mut self, range: Span, items: &[T], out: &mut Out) {
         if !is_within(range, self.len()) {
-            return Err(Wrong::Place);
+            return out.fail(Wrong::Place);
         }
-        done(out, self.replace_range(range, items))
+        out.done(self.replace_range(range, items));
     }
 }
 
 impl<S: TakesClones<Item = u8>> Writes for ArrayVec<S> {
-    fn write(&mut self, writing: Writing, out: &mut String) -> Said {
-        write_text(self, writing, out)
+    fn write(&mut self, call: &Call<u8>, out: &mut Out) {
+        write_text(self, call, out);
     }
 }
 
@@ -178,11 +220,11 @@ impl<'a, T: Item, S: Slots<Item = T>> Steps for ArrayVecDrain<'a, S> {
 
     ghost Ready = { DrainCanStep S.Slots };
 
-    fn step(&mut self, step: Step, out: &mut String) -> Said {
+    fn step(&mut self, step: Step, out: &mut Out) {
         step_at_ends!(self, step, out,
-            Step::Debug => say(out, self),
-            Step::Hint => tinyvec_rows::say_hint(out, self),
-            _ => Err(Wrong::Value),
+            Name::Debug => out.say(self),
+            Name::Hint => out.say_hint(self),
+            _ => out.fail(Wrong::Place),
         )
     }
 }
@@ -192,11 +234,12 @@ impl<'a, T: Item, S: Slots<Item = T>> Steps for ArrayVecSplice<'a, S, Fuse<vec::
 
     ghost Ready = { SpliceCanStep S.Slots };
 
-    fn step(&mut self, step: Step, out: &mut String) -> Said {
+    fn step(&mut self, step: Step, out: &mut Out) {
         step_at_ends!(self, step, out,
-            Step::Debug => Ok(write!(out, "{self:?} ")?),
-            Step::Touches => say(out, &(*self).touches()),
-            _ => Err(Wrong::Value),
+            Name::Debug => drop(write!(out, "{self:?} ")),
+            Name::Touches => out.say(&(*self).touches()),
+            Name::Stop => {}
+            _ => out.fail(Wrong::Place),
         )
     }
 }

@@ -1,13 +1,11 @@
 //! The vectors that rows begin with.
+use crate::array::set;
 use crate::held::HeldBy;
 use crate::slots::Storage;
-use crate::vector::Calls;
-use crate::{array, compare, tiny, vector};
+use crate::vector::{Calls, answer};
 use std::alloc::Global;
-use std::fmt;
-use std::hash::Hash;
-use tinyvec::{Array, ArrayVec, SliceVec, TinyVec};
-use tinyvec_rows::{Item, Read, Said, Wide, Words, Wrong, index_of, say_word};
+use tinyvec::{Array, ArrayVec, SliceVec, Slots, TinyVec};
+use tinyvec_rows::{Item, Read, Wide, Words, Wrong};
 
 type Boxed = Option<Box<i32>>;
 
@@ -15,135 +13,213 @@ type Boxed = Option<Box<i32>>;
 macro_rules! sized {
     ($answer:ident, $item:ty, $count:ident, $words:ident, $calls:ident, $($n:literal)*) => {
         match $count {
-            $($n => $answer::<$item, [$item; $n]>($words, $calls),)*
-            _ => Err(Wrong::Vector),
+            $($n => $answer::<[$item; $n]>($words, $calls),)*
+            _ => $calls.out.fail(Wrong::Vector),
         }
     };
 }
 
 /// Makes the `ArrayVec`s of a row, and answers its calls.
-pub fn answer_array(held: &str, words: &mut Words<'_>, calls: &mut Calls<'_>) -> Said {
-    let (item, count) = array_in(held)?;
+pub fn answer_array(held: &str, words: &mut Words<'_>, calls: &mut Calls<'_>) {
+    let (item, count) = array_in(words.alloc, held);
     match item {
-        "[i32" => sized!(of_array, i32, count, words, calls, 0 3 4 7 8 10 600),
-        "[u8" => sized!(of_array, u8, count, words, calls, 10 600),
-        "[()" => sized!(of_array, (), count, words, calls, 4),
-        "[Box" => sized!(of_array, Boxed, count, words, calls, 4),
-        "[Wide" => sized!(of_array, Wide, count, words, calls, 20),
-        // Items that are only compared and shown.
-        "[u128" => sized!(compare_arrays, u128, count, words, calls, 100),
-        "[f64" => sized!(show_array, f64, count, words, calls, 70),
-        _ => Err(Wrong::Vector),
+        "[i32" => sized!(numbers_in_array, i32, count, words, calls, 0 3 4 7 8 10 600),
+        "[u8" => sized!(bytes_in_array, u8, count, words, calls, 10 600),
+        "[()" if count == 4 => of_array::<(), [(); 4]>(words, calls),
+        "[Box" if count == 4 => of_array::<Boxed, [Boxed; 4]>(words, calls),
+        "[Wide" if count == 20 => of_array::<Wide, [Wide; 20]>(words, calls),
+        "[u128" if count == 100 => of_array::<u128, [u128; 100]>(words, calls),
+        "[f64" if count == 70 => of_array::<f64, [f64; 70]>(words, calls),
+        _ => calls.out.fail(Wrong::Vector),
     }
+}
+
+// A call for each number of items names fewer traits so.
+fn numbers_in_array<A: Array<Item = i32> + Storage>(words: &mut Words<'_>, calls: &mut Calls<'_>) {
+    of_array::<i32, A>(words, calls);
+}
+
+fn bytes_in_array<A: Array<Item = u8> + Storage>(words: &mut Words<'_>, calls: &mut Calls<'_>) {
+    of_array::<u8, A>(words, calls);
 }
 
 /// Makes the `TinyVec`s of a row, and answers its calls.
-pub fn answer_tiny(held: &str, words: &mut Words<'_>, calls: &mut Calls<'_>) -> Said {
-    let (item, count) = array_in(held)?;
+pub fn answer_tiny(held: &str, words: &mut Words<'_>, calls: &mut Calls<'_>) {
+    let (item, count) = array_in(words.alloc, held);
     match item {
-        "[i32" => sized!(of_tiny, i32, count, words, calls, 0 1 2 3 4 10 600),
-        "[u8" => sized!(of_tiny, u8, count, words, calls, 4 600),
-        "[()" => sized!(of_tiny, (), count, words, calls, 2),
-        "[Box" => sized!(of_tiny, Boxed, count, words, calls, 4),
-        "[f64" => sized!(show_tiny, f64, count, words, calls, 2),
-        _ => Err(Wrong::Vector),
+        "[i32" => sized!(numbers_in_tiny, i32, count, words, calls, 0 1 2 3 4 10 600),
+        "[u8" => sized!(bytes_in_tiny, u8, count, words, calls, 4 600),
+        "[()" if count == 2 => of_tiny::<(), [(); 2]>(words, calls),
+        "[Box" if count == 4 => of_tiny::<Boxed, [Boxed; 4]>(words, calls),
+        "[f64" if count == 2 => of_tiny::<f64, [f64; 2]>(words, calls),
+        _ => calls.out.fail(Wrong::Vector),
     }
 }
 
+fn numbers_in_tiny<A: Array<Item = i32>>(words: &mut Words<'_>, calls: &mut Calls<'_>) {
+    of_tiny::<i32, A>(words, calls);
+}
+
+fn bytes_in_tiny<A: Array<Item = u8>>(words: &mut Words<'_>, calls: &mut Calls<'_>) {
+    of_tiny::<u8, A>(words, calls);
+}
+
 /// Makes the `SliceVec`s of a row, and answers its calls.
-pub fn answer_slice(item: &str, words: &mut Words<'_>, calls: &mut Calls<'_>) -> Said {
+pub fn answer_slice(item: &str, words: &mut Words<'_>, calls: &mut Calls<'_>) {
     match item {
         "i32>" => lend::<i32>(words, calls),
         "u8>" => lend::<u8>(words, calls),
         "()>" => lend::<()>(words, calls),
         "Box>" => lend::<Boxed>(words, calls),
-        "f64>" => show_slice(words, calls),
-        _ => Err(Wrong::Vector),
+        "f64>" => lend::<f64>(words, calls),
+        _ => calls.out.fail(Wrong::Vector),
     }
 }
 
 // The item and the length of an array, as in `[i32;4]>`.
-fn array_in(held: &str) -> Result<(&str, usize), Wrong> {
-    let (item, count) = held.split_once(';').ok_or(Wrong::Vector)?;
-    match index_of(count.strip_suffix("]>").unwrap_or("")) {
-        Ok(count) => Ok((item, count)),
-        Err(_) => Err(Wrong::Vector),
-    }
-}
-
-fn compare_arrays<T: Read + Default + Ord + Hash, A: Array<Item = T>>(
-    words: &mut Words<'_>,
-    calls: &mut Calls<'_>,
-) -> Said {
-    if calls.text != "compare" {
-        return Err(Wrong::Call);
-    }
-    let (v, w) = arrays::<T, A>(words.alloc, starts_in(words)?)?;
-    compare::say_compared(&v, &w, v.as_slice(), calls.out)
-}
-
-fn show_array<T: Read + Default + PartialOrd + fmt::Display + fmt::Debug, A: Array<Item = T>>(
-    words: &mut Words<'_>,
-    calls: &mut Calls<'_>,
-) -> Said {
-    let (v, w) = arrays::<T, A>(words.alloc, starts_in(words)?)?;
-    compare::answer(&v, &w, calls.text, calls.out)
-}
-
-fn show_tiny<T: Read + Default + PartialOrd + fmt::Display + fmt::Debug, A: Array<Item = T>>(
-    words: &mut Words<'_>,
-    calls: &mut Calls<'_>,
-) -> Said {
-    let (v, w) = tinies::<T, A>(words.alloc, tiny_starts_in(words)?)?;
-    compare::answer(&v, &w, calls.text, calls.out)
-}
-
-fn show_slice(words: &mut Words<'_>, calls: &mut Calls<'_>) -> Said {
-    let alloc = words.alloc;
-    let (one, two) = starts_in(words)?;
-    let (mut one, len) = all_slots::<f64>(alloc, one)?;
-    let (mut two, other_len) = all_slots::<f64>(alloc, two.unwrap_or("[]"))?;
-    let v = SliceVec::from_slice_at_most(one.as_mut_slice(), len);
-    let w = SliceVec::from_slice_at_most(two.as_mut_slice(), other_len);
-    compare::answer(&v, &w, calls.text, calls.out)
+fn array_in(alloc: Global, held: &str) -> (&str, usize) {
+    let (item, count) = held.split_once(';').unwrap_or((held, ""));
+    let count = usize::read(alloc, count.strip_suffix("]>").unwrap_or(""));
+    (item, count.unwrap_or(usize::MAX))
 }
 
 fn of_array<T: HeldBy<ArrayVec<A>>, A: Array<Item = T> + Storage>(
     words: &mut Words<'_>,
     calls: &mut Calls<'_>,
-) -> Said {
-    let starts = starts_in(words)?;
-    let (mut v, mut other) = arrays::<T, A>(words.alloc, starts)?;
-    vector::answer(&mut v, &mut other, starts.1.is_some(), calls)
+) {
+    let mut v = ArrayVec::<A>::new();
+    let mut other = ArrayVec::<A>::new();
+    start(&mut v, words);
+    let pair = words.goes_on("and");
+    if pair {
+        start(&mut other, words);
+    }
+    words.end();
+    if calls.out.accepts(words) {
+        answer(&mut v, &mut other, pair, calls);
+    }
 }
 
 fn of_tiny<T: HeldBy<TinyVec<A>>, A: Array<Item = T>>(
     words: &mut Words<'_>,
     calls: &mut Calls<'_>,
-) -> Said {
-    let starts = tiny_starts_in(words)?;
-    let (mut v, mut other) = tinies::<T, A>(words.alloc, starts)?;
-    vector::answer(&mut v, &mut other, starts.1.is_some(), calls)
+) {
+    let mut v = TinyVec::<A>::new(words.alloc);
+    let mut other = TinyVec::<A>::new(words.alloc);
+    start_tiny(&mut v, words);
+    let pair = words.goes_on("and");
+    if pair {
+        start_tiny(&mut other, words);
+    }
+    words.end();
+    if calls.out.accepts(words) {
+        answer(&mut v, &mut other, pair, calls);
+    }
+}
+
+/// Reads the slots of a vector, and the length of its list: `[1,2|0]`.
+pub fn start<T: Read, S: Slots<Item = T>>(v: &mut ArrayVec<S>, words: &mut Words<'_>) {
+    let mut items = Vec::new(words.alloc);
+    let len = words.add_slots(&mut items);
+    if !is_filled(v, items.as_mut_slice(), len) {
+        words.fail(Wrong::Value);
+    }
+}
+
+/// Whether a vector has as many slots as these, and at least this length. Then they go there.
+pub fn is_filled<T: Drop, S: Slots<Item = T>>(
+    v: &mut ArrayVec<S>,
+    items: &mut [T],
+    len: usize,
+) -> bool {
+    if items.len() != v.capacity() || len > v.capacity() {
+        return false;
+    }
+    v.as_mut_slots().swap_with_slice(items);
+    if len <= v.capacity() {
+        v.set_len(len);
+    }
+    true
+}
+
+// `inline [1,2|0]`, `heap [1,2]`, or `room 8 [1,2]` with room for eight items.
+fn start_tiny<T: Read, A: Array<Item = T>>(v: &mut TinyVec<A>, words: &mut Words<'_>) {
+    match words.word() {
+        "inline" => start_inline(v, words),
+        "heap" => start_on_the_heap(v, 0, words),
+        "room" => {
+            let room = words.index();
+            start_on_the_heap(v, room, words);
+        }
+        _ => words.fail(Wrong::Value),
+    }
+}
+
+/// Reads a list inline, before the slots after it: `[1,2|0]`.
+pub fn start_inline<T: Read, A: Array<Item = T>>(v: &mut TinyVec<A>, words: &mut Words<'_>) {
+    let mut array = ArrayVec::new();
+    start(&mut array, words);
+    set(v, TinyVec::Inline(array, words.alloc));
+}
+
+fn start_on_the_heap<T: Read, A: Array<Item = T>>(
+    v: &mut TinyVec<A>,
+    room: usize,
+    words: &mut Words<'_>,
+) {
+    let mut items = Vec::new(words.alloc);
+    words.reserve(&mut items, room);
+    words.add_items(&mut items);
+    items.shrink_to(room);
+    set(v, TinyVec::from_vec(items));
 }
 
 // Lends the slots of a row to its vectors. What the first shows of them, their owner has to see.
-fn lend<T: InSlices>(words: &mut Words<'_>, calls: &mut Calls<'_>) -> Said {
-    let alloc = words.alloc;
-    let (one, two) = starts_in(words)?;
-    let (mut slots, len) = all_slots::<T>(alloc, one)?;
-    let (mut others, other_len) = all_slots::<T>(alloc, two.unwrap_or("[]"))?;
-    let mut v = SliceVec::from_slice_at_most(slots.as_mut_slice(), len);
-    let mut other = SliceVec::from_slice_at_most(others.as_mut_slice(), other_len);
-    T::answer(&mut v, &mut other, two.is_some(), calls)?;
-    let shown = v.as_inner().to_vec(alloc)?;
-    say_seen(slots.starts_with(shown.as_slice()), calls.out)
+fn lend<T: InSlices>(words: &mut Words<'_>, calls: &mut Calls<'_>) {
+    let mut slots = Vec::new(words.alloc);
+    let mut others = Vec::new(words.alloc);
+    let len = words.add_slots::<T>(&mut slots);
+    let pair = words.goes_on("and");
+    let other_len = if pair {
+        words.add_slots::<T>(&mut others)
+    } else {
+        0
+    };
+    words.end();
+    if calls.out.accepts(words) {
+        let lent = Lent {
+            len,
+            other_len,
+            pair,
+        };
+        let shown = shown(slots.as_mut_slice(), others.as_mut_slice(), lent, calls);
+        // A list of numbers that are none is not equal to itself.
+        let is_told = shown.as_slice() == shown.as_slice();
+        if is_told && !slots.starts_with(shown.as_slice()) {
+            calls.out.say_word("but the owner of the slots sees others");
+        }
+    }
 }
 
-fn say_seen(is_seen: bool, out: &mut String) -> Said {
-    if is_seen {
-        return Ok(());
-    }
-    say_word(out, "but the owner of the slots sees others")
+// The lengths of the lists in slots that are lent, and whether the row names the other vector.
+#[derive(Clone, Copy)]
+struct Lent {
+    len: usize,
+    other_len: usize,
+    pair: bool,
+}
+
+fn shown<T: InSlices>(
+    slots: &mut [T],
+    others: &mut [T],
+    lent: Lent,
+    calls: &mut Calls<'_>,
+) -> Vec<T> {
+    let mut v = SliceVec::from_slice_at_most(slots, lent.len);
+    let mut other = SliceVec::from_slice_at_most(others, lent.other_len);
+    T::answer(&mut v, &mut other, lent.pair, calls);
+    let alloc = calls.out.alloc();
+    v.as_inner().to_vec(alloc).unwrap_or(Vec::new(alloc))
 }
 
 // What vectors over lent slots hold. No function of every `T` can say so for each lifetime of the slots.
@@ -153,7 +229,7 @@ trait InSlices: Item {
         other: &mut SliceVec<'s, Self>,
         pair: bool,
         calls: &mut Calls<'_>,
-    ) -> Said;
+    );
 }
 
 impl InSlices for i32 {
@@ -162,8 +238,8 @@ impl InSlices for i32 {
         other: &mut SliceVec<'s, i32>,
         pair: bool,
         calls: &mut Calls<'_>,
-    ) -> Said {
-        vector::answer(v, other, pair, calls)
+    ) {
+        answer(v, other, pair, calls);
     }
 }
 
@@ -173,8 +249,8 @@ impl InSlices for u8 {
         other: &mut SliceVec<'s, u8>,
         pair: bool,
         calls: &mut Calls<'_>,
-    ) -> Said {
-        vector::answer(v, other, pair, calls)
+    ) {
+        answer(v, other, pair, calls);
     }
 }
 
@@ -184,8 +260,8 @@ impl InSlices for () {
         other: &mut SliceVec<'s, ()>,
         pair: bool,
         calls: &mut Calls<'_>,
-    ) -> Said {
-        vector::answer(v, other, pair, calls)
+    ) {
+        answer(v, other, pair, calls);
     }
 }
 
@@ -195,91 +271,18 @@ impl InSlices for Boxed {
         other: &mut SliceVec<'s, Boxed>,
         pair: bool,
         calls: &mut Calls<'_>,
-    ) -> Said {
-        vector::answer(v, other, pair, calls)
+    ) {
+        answer(v, other, pair, calls);
     }
 }
 
-// The list of each vector that a row names.
-type Starts<'a> = (&'a str, Option<&'a str>);
-
-fn starts_in<'a>(words: &mut Words<'a>) -> Result<Starts<'a>, Wrong> {
-    let one = words.word()?;
-    let two = if words.goes_on("and")? {
-        Some(words.word()?)
-    } else {
-        None
-    };
-    words.end()?;
-    Ok((one, two))
-}
-
-// A place, a room, and a list, of each.
-type TinyStart<'a> = (&'a str, usize, &'a str);
-
-fn tiny_starts_in<'a>(
-    words: &mut Words<'a>,
-) -> Result<(TinyStart<'a>, Option<TinyStart<'a>>), Wrong> {
-    let one = tiny_start_in(words)?;
-    let two = if words.goes_on("and")? {
-        Some(tiny_start_in(words)?)
-    } else {
-        None
-    };
-    words.end()?;
-    Ok((one, two))
-}
-
-// `inline [1,2|0]`, `heap [1,2]`, or `room 8 [1,2]` with room for eight items.
-fn tiny_start_in<'a>(words: &mut Words<'a>) -> Result<TinyStart<'a>, Wrong> {
-    let place = words.word()?;
-    let room = if place == "room" { words.index()? } else { 0 };
-    Ok((place, room, words.word()?))
-}
-
-fn arrays<T: Read + Default, A: Array<Item = T>>(
-    alloc: Global,
-    starts: Starts<'_>,
-) -> Result<(ArrayVec<A>, ArrayVec<A>), Wrong> {
-    let v = array::made::<T, A>(Words::new(alloc, starts.0).slots()?)?;
-    let other = match starts.1 {
-        Some(start) => array::made::<T, A>(Words::new(alloc, start).slots()?)?,
-        None => ArrayVec::new(),
-    };
-    Ok((v, other))
-}
-
-fn tinies<T: Read + Default, A: Array<Item = T>>(
-    alloc: Global,
-    starts: (TinyStart<'_>, Option<TinyStart<'_>>),
-) -> Result<(TinyVec<A>, TinyVec<A>), Wrong> {
-    let v = tiny_of::<T, A>(alloc, starts.0)?;
-    let other = match starts.1 {
-        Some(start) => tiny_of::<T, A>(alloc, start)?,
-        None => TinyVec::new(alloc),
-    };
-    Ok((v, other))
-}
-
-fn tiny_of<T: Read + Default, A: Array<Item = T>>(
-    alloc: Global,
-    start: TinyStart<'_>,
-) -> Result<TinyVec<A>, Wrong> {
-    let (place, room, list) = start;
-    let mut list = Words::new(alloc, list);
-    match place {
-        "inline" => tiny::inline(alloc, list.slots()?),
-        "heap" | "room" => tiny::heap(alloc, list.items()?, room),
-        _ => Err(Wrong::Value),
+impl InSlices for f64 {
+    fn answer<'s>(
+        v: &mut SliceVec<'s, f64>,
+        other: &mut SliceVec<'s, f64>,
+        pair: bool,
+        calls: &mut Calls<'_>,
+    ) {
+        answer(v, other, pair, calls);
     }
-}
-
-// All slots, and how many of them are the list.
-fn all_slots<T: Read>(alloc: Global, start: &str) -> Result<(Vec<T>, usize), Wrong> {
-    let (mut slots, spare) = Words::new(alloc, start).slots::<T>()?;
-    let len = slots.len();
-    for x in spare {
-        slots.push(x)?;
-    }
-    Ok((slots, len))
 }

@@ -1,7 +1,6 @@
 //! The trait of the vectors that rows call, and what answers their calls.
 use crate::held::HeldBy;
-use tinyvec_rows::call::{Call, Extract};
-use tinyvec_rows::{Item, Said, Span, Step, window};
+use tinyvec_rows::{Call, Item, Name, Out, Span, Step, Words, window};
 
 /// A vector that rows call.
 pub trait Vector {
@@ -10,10 +9,10 @@ pub trait Vector {
     fn items(&self) -> &[Self::Item];
 
     /// Writes the list, and what else the vector shows of itself.
-    fn say_state(&self, out: &mut String) -> Said;
+    fn say_state(&self, out: &mut Out);
 
     /// Makes a call and writes what it answers. One whose condition does not hold is not made.
-    fn call(&mut self, other: &mut Self, call: Call<Self::Item>, out: &mut String) -> Said;
+    fn call(&mut self, other: &mut Self, call: &mut Call<Self::Item>, out: &mut Out);
 
     /// Does steps of `extract_if`.
     fn extract<F: FnMut(&mut Self::Item) -> bool>(
@@ -21,8 +20,8 @@ pub trait Vector {
         range: Span,
         f: F,
         steps: &[Step],
-        out: &mut String,
-    ) -> Said
+        out: &mut Out,
+    )
         requires { (g : F) → F.IsAlwaysCallable g };
 }
 
@@ -30,71 +29,65 @@ pub trait Vector {
 #[derive(Drop)]
 pub struct Calls<'r> {
     pub text: &'r str,
-    pub out: &'r mut String,
+    pub out: &'r mut Out,
 }
 
 /// Answers the calls of a row one after the other: what each answers and leaves. `pair` tells whether the row names the
 /// other vector.
-pub fn answer<V: Vector>(v: &mut V, other: &mut V, pair: bool, calls: &mut Calls<'_>) -> Said
+pub fn answer<V: Vector>(v: &mut V, other: &mut V, pair: bool, calls: &mut Calls<'_>)
 where
     V::Item: HeldBy<V>,
 {
     let out = &mut *calls.out;
     for call in calls.text.split('\t') {
-        answer_call(v, other, call, out)?;
-        say_states(v, other, pair, out)?;
+        answer_call(v, other, call, out);
+        if V::Item::is_left() {
+            say_states(v, other, pair, out);
+        }
+        out.put("\t");
     }
-    Ok(())
 }
 
-fn say_states<V: Vector>(v: &V, other: &V, pair: bool, out: &mut String) -> Said {
-    v.say_state(out)?;
+fn say_states<V: Vector>(v: &V, other: &V, pair: bool, out: &mut Out) {
+    v.say_state(out);
     if pair {
-        out.push_str("and ")?;
-        other.say_state(out)?;
+        out.put("and ");
+        other.say_state(out);
     }
-    Ok(out.push('\t')?)
 }
 
-fn answer_call<V: Vector>(v: &mut V, other: &mut V, call: &str, out: &mut String) -> Said
+fn answer_call<V: Vector>(v: &mut V, other: &mut V, call: &str, out: &mut Out)
 where
     V::Item: HeldBy<V>,
 {
-    let alloc = *out.allocator();
-    let (refused, mut words) = window::read(alloc, call)?;
-    // No request of the row's own falls into the window.
-    out.reserve(1 << 15)?;
-    let call = Call::read(&mut words)?;
-    window::open(alloc, refused);
-    let answered = made(v, other, call, out);
-    window::close(alloc);
-    answered
+    let alloc = out.alloc();
+    let mut words = Words::new(alloc, call);
+    let refused = window::read(&mut words);
+    let mut call = Call::read(&mut words);
+    out.reserve(1 << 15);
+    if out.accepts(&words) {
+        window::open(alloc, refused);
+        V::Item::call(v, other, &mut call, out);
+        window::close(alloc);
+    }
 }
 
-fn made<V: Vector>(v: &mut V, other: &mut V, call: Call<V::Item>, out: &mut String) -> Said
-where
-    V::Item: HeldBy<V>,
-{
-    match call {
-        Call::Held(held) => V::Item::call(v, other, held, out),
-        Call::Extract(extract) => extracted(v, extract, out),
-        call => v.call(other, call, out),
+/// Makes a call that every vector has.
+pub fn make<V: Vector>(v: &mut V, other: &mut V, call: &mut Call<V::Item>, out: &mut Out) {
+    match call.name {
+        Name::ExtractIf => extracted(v, call, out),
+        _ => v.call(other, call, out),
     }
 }
 
 // The closure borrows, so a vector takes it where it is of a type parameter.
-fn extracted<V: Vector>(v: &mut V, extract: Extract, out: &mut String) -> Said {
-    let Extract {
-        range,
-        mut closure,
-        more,
-        steps,
-    } = extract;
+fn extracted<V: Vector>(v: &mut V, call: &mut Call<V::Item>, out: &mut Out) {
+    let (closure, more) = (&mut call.closure, call.number);
     v.extract(
-        range,
+        call.range,
         |x| closure.asks_and_adds(x, more),
-        steps.as_slice(),
+        call.steps.as_slice(),
         out,
-    )?;
-    closure.say(out)
+    );
+    call.closure.say(out);
 }
