@@ -174,6 +174,8 @@ class Outcomes:
             said = outcome(fact)
             found += [said + f" after `{kind}`" * bool(kind)] if said else []
             more += [] if said else [path]
+        # What holds always is not said again under a premise.
+        found = [it for it in found if it.partition(", if ")[0] not in found or ", if " not in it]
         more = [f"`{it}`" for it in more if not it.endswith("same_reference")]
         then = f" Then {' and '.join(dict.fromkeys(found))}." if found else ""
         return then + (f" {listed(more)} {'says' if len(more) == 1 else 'say'} more." if more else "")
@@ -227,7 +229,7 @@ def outcome(fact):
 
 
 def english(fact):
-    fact = tidy(by_name(fact))
+    fact = tidy(by_name(fact).replace(" + 0", ""))
     for pattern, said in PHRASES:
         if found := pattern.fullmatch(fact):
             return said.format(*(bare(it or "") for it in found.groups()))
