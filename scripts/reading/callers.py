@@ -49,13 +49,18 @@ class Caller:
             yield f"{self.known.owner(of, found[2])}::{found[2]}" if found[1] and of in self.known.types else found[2], found.start()
 
     def around(self, call):
-        """The line that makes a call, between its neighbours in the body, or all of a shorter function but its clauses."""
+        """The line that makes a call, between its neighbours in the body or as few lines as close their brackets, or all of a
+        shorter function but its clauses."""
         first = self.lines.index("{") + 1 if "{" in self.lines else 1
         if len(self.lines) - first <= 3:
             is_signature = lambda it: not it.lstrip().startswith(("requires", "ensures"))
             return "\n".join([*itertools.takewhile(is_signature, self.lines[: first - 1]), *self.lines[first - 1 :]])
-        at = min(max(self.calls[call], first + 1), len(self.lines) - 3)
-        return textwrap.dedent("\n".join(self.lines[at - 1 : at + 2]))
+        made, last = self.calls[call], len(self.lines) - 1
+        at = min(max(made, first + 1), last - 2)
+        parts = ((start, end) for start in range(first, made + 1) for end in range(max(made + 1, start + 3), last + 1))
+        closed = (it for it in parts if is_closed(self.lines[slice(*it)]))
+        shown = min(closed, key=lambda it: abs(it[0] - at + 1) + abs(it[1] - at - 2), default=(first, last))
+        return textwrap.dedent("\n".join(self.lines[slice(*shown)]))
 
     def link(self):
         return f"[`{self.path}`](../../{self.path}#L{self.at}-L{self.at + len(self.lines) - 1})"
@@ -127,6 +132,12 @@ class Known:
     def type_named(self, text):
         head = exports.head_of(text or "")
         return self.aliases.get(head, head)
+
+
+def is_closed(lines):
+    """Whether the lines open each bracket that they close, and close each that they open."""
+    depths = list(itertools.accumulate(exports.balance(it) for it in lines))
+    return not any(it < 0 for it in depths) and depths[-1] == 0
 
 
 def parameters(text):
