@@ -41,5 +41,27 @@ def question(chance):
     return f"{chance.randrange(72000)} {'.'.join(labels)} {chance.choice([*TYPES, 'ANY'])}"
 
 
+def nodes(chance):
+    """Nested lists of numbers. One line in four is a sum, a few have a bracket too many or too few, or a byte of no meaning."""
+    line = " ".join(node(chance, 3) for _ in range(chance.randint(1, 8)))
+    return line + chance.choice(["", "", "", "", "", "", "", "", "", "", "", "", ")", "(", "x", *["+"] * 5])
+
+
+def node(chance, depth):
+    if depth == 0 or chance.random() < 0.6:
+        return str(chance.randrange(10 ** chance.randint(1, 9)))
+    return f"({' '.join(node(chance, depth - 1) for _ in range(chance.randint(0, 5)))})"
+
+
+def record(chance):
+    """A command of a stream of records, which is often cut so that it stays short. Some are refused."""
+    samples = ",".join(str(chance.randrange(66000)) for _ in range(chance.randint(1, 8))) if chance.random() < 0.9 else "-"
+    note = " ".join(chance.choice(WORDS) for _ in range(chance.choice([0, 1, 2, 3, 8])))
+    add = f"add {chance.randrange(1 << 32)} {samples} {note}"
+    return chance.choice([*[add] * 6, "read", "read", "copy", "hex 520700", f"cut {chance.randint(0, 60)}", "cut 0", "nonsense"])
+
+
 # By the program that reads them.
-MAKERS = {"tv": command, "example_tidy": text, "example_dns_query": question}
+MAKERS = {
+    "tv": command, "example_tidy": text, "example_dns_query": question, "example_nodes": nodes, "example_records": record,
+}

@@ -50,8 +50,10 @@ INLINE = COPIED | {
     r"\bmade\.push": "made.try_push",
     r"\bmade\.as_bytes\(\)": "made.as_str().as_bytes()",
 }
-NOT_INLINE = (
-    r"mod (form|growth|nodes|slices|splicing|text_calls);|\bof_(arrays|forms|lists|nodes|slices|text_calls)\b"
+# Rows that the toolchain's vectors do not have.
+OF_OWN = r"\bof_(lent|long_lists|slice_edits|slots|text_own|tiny_calls|tiny_forms)\b|mod (long|prints|slot_calls|text_own|tiny_(calls|own));"
+NOT_INLINE = OF_OWN + (
+    r"|mod (calls|form|growth|nodes|slices|splicing|text_calls|text_more);|\bof_(arrays|forms|lists|nodes|slices|text_calls)\b"
     r"|of_cuts::<R, ArrayVec|\bsplices\b|\"(extract_half|splice_more)\"|of_texts::<R, (2|8|32)>"
 )
 
@@ -66,8 +68,11 @@ STD = COPIED | {
     r"self\.replace_range\((.*), numbers\)": r"self.splice(\1, numbers.iter().copied())",
     r"alloc, Place::Inline\b": "alloc, Place::Heap",
     r"InlineText<\w+>|InlineText": "String",
+    # A `String` does not tell how many bytes an array has.
+    r"\bof_more_texts\(": "of_more_texts::<R, N>(",
+    r"\bMoreTexts \{": "MoreTexts::<N> {",
 }
-NOT_STD = r"mod (arrays|form|growth|nodes|slices);|\bof_(arrays|forms|lists|nodes|slices)\b|\"extract_half\""
+NOT_STD = OF_OWN + r"|mod (arrays|form|growth|nodes|slices);|\bof_(arrays|forms|lists|nodes|slices)\b|\"extract_half\""
 
 # Texts are printed into an `ArrayVec` of this library on each side.
 UNCHANGED = "src/printing.rt"

@@ -9,7 +9,7 @@ toolchain's and Rust's, and prints a table of each. With none of the four words 
 --growth        the time an item against the number of items, and that of tv against the number of lines
 --quick         fewer and shorter runs
 --results       writes what is printed into bench/results, the programs and the means into docs/PERFORMANCE.md, the numbers
-                that documents quote, and what --growth measured into docs/pictures
+                that documents quote, and what --growth measured into docs/pictures, and names the rows that rose by 3 %
 """
 import contextlib
 import io
@@ -21,6 +21,7 @@ import instructions
 import kit
 import plots
 import quotes
+import rises
 import tables
 import times
 import whole
@@ -76,9 +77,13 @@ def result(name, is_kept):
         describe(max(CORE))
         yield
         return
-    with open(TOP / f"bench/results/{name}.md", "w", encoding="utf-8") as file, contextlib.redirect_stdout(file):
+    path = TOP / f"bench/results/{name}.md"
+    before = path.read_text(encoding="utf-8")
+    with open(path, "w", encoding="utf-8") as file, contextlib.redirect_stdout(file):
         describe(max(CORE))
         yield
+    if name in ("rust", kit.CPU):
+        rises.put(name, before, path.read_text(encoding="utf-8"))
 
 
 def measure_rows(name, programs, parts, effort, is_kept):

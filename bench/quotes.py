@@ -1,13 +1,16 @@
 """Numbers of bench/results that documents quote, each before a comment that names its cell: a row, its capacity and the
 peer, as 3.7<!-- rust tiny_long_push 64 tinyvec -->, or a line of means and a capacity, as
-0.6<!-- rust ArrayVec over tinyvec 4 -->. There `least` and `most` stand for those over all capacities."""
+0.6<!-- rust ArrayVec over tinyvec 4 -->. There `least` and `most` stand for those over all capacities. What PERFORMANCE has in the
+form of a cell, as 77.5: 0.98, is one of a table of bench/results."""
 import functools
 import re
 
 import tables
 
-DOCUMENTS = ("README.md", "docs/PERFORMANCE.md")
-QUOTED = re.compile(r"(\d+(?:\.(\d+))?)<!-- (\w+) (.+?) -->")
+DOCUMENTS = ("*.md", "docs/*.md", "docs/reference/*.md", "bench/*.md", "crates/*/*.md")
+CELL = re.compile(r"\d[\d.]*: (?:\d+\.\d\d|–)(?: (?:\d+\.\d\d|–))*")
+# Other comments name tests.
+QUOTED = re.compile(r"(\d+(?:\.(\d+))?)<!-- (?!test |rows |run )(\w+) (.+?) -->")
 MEANS = re.compile(r"\| Instructions of \| (.*) \| cells above .*\n.*\n((?:\|.*\n)+)")
 
 
@@ -35,16 +38,23 @@ def measured(quote):
     return None if number == tables.NOTHING else f"{float(number):.{digits}f}"
 
 
+def documents():
+    return [it for pattern in DOCUMENTS for it in sorted(tables.TOP.glob(pattern))]
+
+
 def faults():
-    for name in DOCUMENTS:
-        for quote in QUOTED.finditer(tables.read(tables.TOP / name)):
+    for file in documents():
+        for quote in QUOTED.finditer(tables.read(file)):
             if measured(quote) != quote[1]:
+                name = file.relative_to(tables.TOP)
                 yield f"{name}: {quote[0]} is {measured(quote)} in bench/results, which bench/tables.py writes there"
+    known = {cell for file in tables.RESULTS.glob("*.md") for cell in re.findall(r"(?<=\| )[^|\n]+(?= \|)", tables.read(file))}
+    found = CELL.findall(tables.read(tables.PERFORMANCE))
+    yield from (f"docs/PERFORMANCE.md: no table of bench/results has the cell {it}" for it in found if it not in known)
 
 
 def put():
     """Writes what is measured into the documents."""
-    for name in DOCUMENTS:
-        text = tables.read(tables.TOP / name)
-        text = QUOTED.sub(lambda it: f"{measured(it) or it[1]}{it[0].removeprefix(it[1])}", text)
-        (tables.TOP / name).write_text(text, encoding="utf-8")
+    for file in documents():
+        text = QUOTED.sub(lambda it: f"{measured(it) or it[1]}{it[0].removeprefix(it[1])}", tables.read(file))
+        file.write_text(text, encoding="utf-8")

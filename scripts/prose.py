@@ -4,19 +4,22 @@
 usage: scripts/prose.py [DOCUMENT..]
        scripts/prose.py --comments [CRATE..]
 
-The sentences of all documents together have at most MOST words. Code, tables, CHANGELOG, bench/*.md and what scripts write
-(docs/reference, bench/results) are left out. A sentence or a cell of a table is named if it has more than LONGEST words, or one
-of the words of ODD; code is left out of that. `--comments` names such sentences of the comments in crates/*/src and
-crates/*/specs, which the pages of docs/reference show. At the end it counts what Rust says otherwise (RUST).
+The sentences of all documents together have at most MOST words, without code, tables and CHANGELOG. With these the documents have
+at most MOST_IN_ALL, as far as they and docs/reference are written by hand, and each of ALONE at most its own number. A sentence
+or a cell of a table is named if it has more than LONGEST words, or one of the words of ODD; code is left out of that.
+`--comments` names such sentences of the comments in crates/*/src and crates/*/specs, which the pages of docs/reference show. At
+the end it counts what Rust says otherwise (RUST).
 """
 import pathlib
 import re
 import sys
 
 TOP = pathlib.Path(__file__).resolve().parent.parent
-MOST = 13500
+MOST, MOST_IN_ALL, ALONE = 13500, 30000, {"README.md": 1300}
 LONGEST = 35
 WHERE = ("*.md", "docs/*.md", "crates/*/*.md")
+# What follows this on a page of docs/reference is not written by hand.
+WRITTEN = "<!-- scripts/pages/"
 # A list of what has changed grows with each version.
 UNCOUNTED = ("CHANGELOG.md",)
 
@@ -54,11 +57,10 @@ def main():
         text = read(name)
         found = hard(text)
         show(f"{name}: {words_in(text)} words, {len(found)} hard sentences", found if arguments else [])
-    words = total()
     for name, count in others(arguments or documents()):
         print(f"{name}: {count}")
-    print(f"prose: {len(documents())} documents, {words} words of {MOST}")
-    sys.exit(words > MOST)
+    print(f"prose: {len(documents())} documents, {total()} words of {MOST} in sentences, {in_all()} of {MOST_IN_ALL} in all")
+    sys.exit(any(too_long()))
 
 
 def show(line, sentences):
@@ -70,13 +72,30 @@ def documents():
     return [str(it.relative_to(TOP)) for pattern in WHERE for it in sorted(TOP.glob(pattern))]
 
 
+def references():
+    return [str(it.relative_to(TOP)) for it in sorted(TOP.glob("docs/reference/*.md"))]
+
+
 def read(name):
-    """The text, without comments behind a number."""
-    return re.sub(r"(?<=\d)<!--.*?-->", "", (TOP / name).read_text(encoding="utf-8"))
+    """The text, without comments behind a number, and those that name a test."""
+    return re.sub(r"(?<=\d)<!--.*?-->|<!-- (?:test|rows|run) .*?-->", "", (TOP / name).read_text(encoding="utf-8"))
 
 
 def total():
     return sum(words_in(read(it)) for it in documents() if it not in UNCOUNTED)
+
+
+def in_all(names=None):
+    """How many words with a letter or a digit are written by hand."""
+    texts = (read(it).partition(WRITTEN)[0] for it in names or [*documents(), *references()])
+    return sum(bool(re.search(r"\w", it)) for text in texts for it in text.split())
+
+
+def too_long():
+    """What has more words than a maintainer reads in a morning, or a newcomer in ten minutes."""
+    for name, words, most in (("sentences", total(), MOST), ("documents", in_all(), MOST_IN_ALL), *((it, in_all([it]), most) for it, most in ALONE.items())):
+        if words > most:
+            yield f"{name}: {words} words, and {most} at most: scripts/prose.py counts them"
 
 
 def words_in(text):
@@ -107,14 +126,12 @@ def unended():
 
 def named():
     """The hard sentences of the documents and of the pages that show the comments of the sources."""
-    pages = [str(it.relative_to(TOP)) for it in sorted(TOP.glob("docs/reference/*.md"))]
-    yield from (f"{name}: hard to read: {it}" for name in [*documents(), *pages] for it in hard(read(name)))
+    yield from (f"{name}: hard to read: {it}" for name in [*documents(), *references()] for it in hard(read(name)))
 
 
 def faults():
-    """What tests/docs refuses: more words than a maintainer reads in an hour."""
-    if (words := total()) > MOST:
-        yield f"the documents have {words} words, and {MOST} at most: scripts/prose.py counts them"
+    """What tests/docs refuses."""
+    yield from too_long()
     yield from unended()
 
 

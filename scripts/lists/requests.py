@@ -9,12 +9,15 @@ from rows import rows
 TABLE = exports.TOP / "tests/requests.txt"
 # The types of these hold no allocator, so only a call that is passed one may request memory.
 WITHOUT_ALLOCATOR = ("tinyvec_slots", "tinyvec_array")
+# But these hold a vector that may hold one.
+HOLDING = ("Splice",)
 # The forms of numbers and lists are those of the traits.
 FORMS = ("BorshSerialize", "BorshDeserialize")
 # The types whose calls the rows of a kind show.
 SHOWN = {
     "streams": ("Counted", "BorshSerialize", "BorshError"),
-    "TinyVec": ("TinyVec", "TinyVecDrain", "TinyVecSplice"),
+    "TinyVec": ("TinyVec", "TinyVecDrain", "Splice"),
+    "InlineText": ("InlineText", "InlineTextDrain"),
 }
 
 
@@ -55,8 +58,10 @@ def calls_of(crate):
     for it in exports.Crate(crate).exports():
         members = [it.item] if it.item.kind == "fn" else exports.item_members(it.item)
         for one in members:
-            if one.kind == "fn" and (crate not in WITHOUT_ALLOCATOR or "alloc: " in one.signature()):
-                yield owner(it, crate), one.name
+            holder = owner(it, crate)
+            holds = crate not in WITHOUT_ALLOCATOR or holder in HOLDING
+            if one.kind == "fn" and (holds or "alloc: " in one.signature()):
+                yield holder, one.name
 
 
 def owner(export, crate):

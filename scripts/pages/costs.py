@@ -10,9 +10,10 @@ class Cost:
         self.names = names.split()
 
     def said(self):
+        """What an entry says. That a call never allocates is in the table alone."""
         if self.allocates.startswith("only "):
             return f"{self.time}. {self.allocates.capitalize()} allocate."
-        return f"{self.time}. It {'never allocates' if self.allocates == 'never' else f'allocates {self.allocates}'}."
+        return f"{self.time}." + f" It allocates {self.allocates}." * (self.allocates != "never")
 
 
 def costs():

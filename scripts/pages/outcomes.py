@@ -34,7 +34,7 @@ BY_NAME = [
 PHRASES = [
     (re.compile(pattern), english)
     for pattern, english in (
-        (r"(?:self|vec)\.new ≡ (?:self|vec)\.old|Unchanged \(tiny_view self\.old\) \(tiny_view self\.new\)", "nothing changes"),
+        (r"(?:self|vec)\.new ≡ (?:self|vec)\.old|Unchanged \(t\w+_view self\.old\) \(t\w+_view self\.new\)", "nothing changes"),
         (r"other\.new ≡ other\.old", "`other` is unchanged"),
         (r"(?:tiny_)?items self\.new ≡ (?:tiny_)?items self\.old", "the list is unchanged"),
         (r"list_of (\(?.*)self\.new\)? ≡ list_of \1self\.old\)?", "the list is unchanged"),
@@ -53,12 +53,18 @@ PHRASES = [
         (r"IntoIterYields \S+ \S+ (\w+) (\w+)", "`{}` is known to yield `{}`"),
         (r"R\.has_bounds range", "`range` has bounds"),
         (r"IsRangeOf \(.*self\.old\) \(R\.start_bound range\) \(R\.end_bound range\)", "`range` is in the list"),
+        (r"range_start \(R\.start_bound range\) ≤ range_end \(R\.end_bound range\) \(text_len self\.old\)", "it does not end before it starts"),
+        (r"IsBoundary \(text_chars self\.old\) \(range_start \(R\.start_bound range\)\)", "it starts at a boundary"),
+        (r"IsBoundary \(text_chars self\.old\) \(range_end \(R\.end_bound range\) \(text_len self\.old\)\)", "it ends at a boundary"),
         (
             r"\(x : \S+\) → slice_get .* ≡ Some x → FnOnceTakesAtMut F\.FnOnce (\w+) x",
             "`{}` may be called with the last item, if there is one",
         ),
-        (r"SpliceCanNext \w+\.Slots I\.can_next(?:_back)? self(?:\.old)?", "the replacement may be iterated"),
-        (r"FusedFinite I\.remaining \(splice_replacement self\)", "the replacement ends"),
+        (r"SpliceCanNext V\.items I\.can_next(?:_back)? self(?:\.old)?", "the replacement may be iterated"),
+        (
+            r"MatchBool V\.must_end \(FusedFinite I\.remaining \(splice_replacement self\)\) ⊤",
+            "the replacement ends, if the vector is a `TinyVec`",
+        ),
         (r"\w+\.IsAlwaysCallable (\w+)(?:\.old)?", "`{}` may be called with each argument, again and again"),
         (r"\(it : (\w+)\.IntoIter\) → \1\.into_iter_gives (\w+) it → \1\.IntoIter\.can_next it", "`{1}` may be iterated"),
         (
@@ -147,10 +153,21 @@ class Outcomes:
         is_own = {path for path, _, _ in self.only if "." not in path}
         only = [it for it in self.only if not (it[0].partition(".")[2] in is_own)]
         cases = [*map(self.case, self.exact), *map(self.needs, only)]
+        error = self.error()
+        name = f" with {article(error)} `{error}`" if error else ""
+        return f"- *Fails*{name}{',' * bool(name and cases)}{' ' * bool(cases)}{', '.join(cases)}.{self.left()}\n"
+
+    def error(self):
+        """The name of the error, if it has one."""
         parts = exports.split_top(self.returned[self.returned.find("<") + 1 : -1], ", ")
         error = exports.head_of(parts[2]) if parts[1] else self.returned.replace("Result", "Error").partition("<")[0]
-        name = f" with {article(error)} `{error.removeprefix('(')}`" if ERROR.fullmatch(exports.head_of(error)) else ""
-        return f"- *Fails*{name}{',' * bool(name and cases)}{' ' * bool(cases)}{', '.join(cases)}.{self.left()}\n"
+        return error.removeprefix("(") if ERROR.fullmatch(exports.head_of(error)) else ""
+
+    def failure(self):
+        """How it fails, in a word."""
+        if not self.can_fail():
+            return "as its `Option` says" if self.of == "Option" else "never"
+        return f"with {article(self.error())} `{self.error()}`" if self.error() else "with what was passed"
 
     def case(self, fact):
         path, kind, text = fact
@@ -181,12 +198,9 @@ class Outcomes:
         return then + (f" {listed(more)} {'says' if len(more) == 1 else 'say'} more." if more else "")
 
     def cannot_fail(self):
-        """When it cannot fail: of what returns no `Result`, whatever the values."""
-        if self.of == "Option":
-            return ""
+        """When what returns a `Result` cannot fail."""
         if not self.can_fail():
-            reason = f"the clause `{self.always}` says so" if self.always else "it returns no `Result`"
-            return f"- *Cannot fail*: {reason}.\n"
+            return f"- *Cannot fail*: the clause `{self.always}` says so.\n" if self.always else ""
         premises = [frozenset(english(bare(it)) for it in top_split(text, " → ")) for _, _, text in self.never]
         kept = [it for it, own in zip(self.never, premises) if not any(other < own for other in premises)]
         cases = dict.fromkeys(f"if {condition(text, path)}" for path, _, text in kept)

@@ -1,26 +1,33 @@
 """Writes the reference, docs/reference/*.md: all that the library crates export, with contracts, callers and what differs in Rust.
 
 An entry has a signature, the `///`, what it requires, when it fails, when it cannot and what holds then (read off the clauses
-by scripts/pages/outcomes.py), what it costs (docs/reference/costs.txt), a caller, and the contract.
+by scripts/pages/outcomes.py), what it costs (docs/reference/costs.txt), an example (docs/reference/examples.txt) or else a
+caller, and the contract.
 
-`tests/docs` names the pages that differ from what this would write, exports that are on no page or on two, comments that are
-missing, and calls without a caller. What precedes the line MARK of a page is written by hand, and stays.
+`tests/docs` names the pages that differ from what this would write or have more than MOST lines, exports that are on no page or
+on two, comments that are missing, and calls without a caller. What precedes the line MARK of a page is written by hand, and
+stays.
 """
 import functools
 import re
 
-from pages import costs, outcomes
+from pages import costs, examples, outcomes
 from reading import callers, exports
 
 TOP = exports.TOP
 FOLDER = TOP / "docs/reference"
 MARK = "<!-- scripts/pages/reference.py writes what follows -->"
 
+# A page has at most so many lines.
+MOST = 2000
+
 # The crate of each page, and the type whose methods are named without it. Of a crate of two pages the first has what is of no other's.
 PAGES = {
     "ARRAY_VEC": ("tinyvec_array", "ArrayVec"),
+    "ARRAY_VEC_BULK": ("tinyvec_array", "ArrayVec"),
     "SLICE_VEC": ("tinyvec_array", "SliceVec"),
     "TINY_VEC": ("tinyvec", "TinyVec"),
+    "TINY_VEC_BULK": ("tinyvec", "TinyVec"),
     "INLINE_TEXT": ("tinyvec_text", "InlineText"),
     "BORSH": ("tinyvec_borsh", None),
     "COUNTED": ("tinyvec_io", "Counted"),
@@ -35,22 +42,26 @@ COLUMNS = ("ARRAY_VEC", "SLICE_VEC", "TINY_VEC", "INLINE_TEXT")
 # Of a caller of more lines than this, and of one that the page has shown, only the line of the call is shown, between its neighbours.
 LONGEST = 8
 
+# The sections that a type with two pages has on the second, whose name ends so.
+SECOND = "_BULK"
+BULK = ("extending", "drain", "splice", "filters", "clones", "into_iter")
+
 # A note is shown on the first of its pages in this order.
-ORDER = ("TINY_VEC", "ARRAY_VEC", "SLICE_VEC", "INLINE_TEXT", "BORSH", "COUNTED", "SCRIPT", "SLOTS")
+ORDER = ("TINY_VEC", "TINY_VEC_BULK", "ARRAY_VEC", "ARRAY_VEC_BULK", "SLICE_VEC", "INLINE_TEXT", "BORSH", "COUNTED", "SCRIPT", "SLOTS")
 
 # The sections of all pages, in the order of std's pages: what makes a value, its capacity, what reads it, what changes it,
 # what takes it apart, the types that calls return, errors, traits.
 SECTIONS = (
     *("form", "serialize", "deserialize", "making", "capacity", "reading", "writing", "edits", "extending", "drain"),
-    *("splice", "filters", "extracting", "clones", "taking", "call", "command", "runs", "driving", "array", "tiny", "lent"),
-    *("script", "storage", "into_iter", "owned", "no_room", "no_memory", "capacity_error", "try_from_slice_error", "from_utf8_error"),
+    *("splice", "filters", "extracting", "clones", "taking", "call", "command", "runs", "driving", "in_array", "in_slice"),
+    *("script", "slots", "into_iter", "owned", "no_room", "no_memory", "capacity_error", "try_from_slice_error", "from_utf8_error"),
     "borsh_error",
     *("array_vec", "tiny_vec", "inline_text", "numbers", "traits", "parts"),
 )
 # The modules whose section is another's.
-TOGETHER = {"array": "storage", "bound": "storage", "takes_clones": "storage"}
+TOGETHER = {"array": "slots", "bound": "slots", "takes_clones": "slots"}
 TITLES = {
-    "storage": "What a vector is over",
+    "slots": "What a vector is over",
     "making": "Making one",
     "edits": "Pushing, inserting, removing",
     "extending": "Growing",
@@ -100,8 +111,9 @@ def faults():
     yield from (f"crates/{it}: a library that scripts/reading/exports.py does not list" for it in unlisted)
     for page, found in library.pages.items():
         shown = " ".join(written[page].split())
+        yield from [f"docs/reference/{page}.md: more than {MOST} lines: give a section to its second page"] * (written[page].count("\n") > MOST)
         for it in found:
-            marks = {name: it.mark(main_of(page) if name == page else None) for name in written}
+            marks = {name: it.mark(main_of(page) if main_of(name) == main_of(page) else None) for name in written}
             places = [name for name, text in written.items() for _ in range(text.count(marks[name]))]
             yield from [f"{it.source.path}: {it.key()} is on {len(places)} pages of docs/reference: {', '.join(places)}"] * (len(places) != 1)
             yield from (f"{it.source.path}: not on {page}: {line}" for line in it.said() if line not in shown)
@@ -111,19 +123,30 @@ def faults():
             if it.key() in library.uncalled and not it.is_part:
                 yield f"docs/reference/{page}.md: no caller of {it.key()}: write one in crates/tinyvec_examples/src"
     yield from costs.faults(library.calls)
+    yield from examples.faults(library.keys, library.calls)
     sections = {it.section(main_of(page)) for page, found in library.pages.items() for it in found}
     yield from (f"scripts/pages/reference.py: in which place is the section {it}?" for it in sorted(sections - set(SECTIONS)))
     for page, found in library.pages.items():
-        for it in (it for it in found if it.key() in library.calls - library.uncalled):
+        for it in (it for it in found if it.key() in library.calls - library.uncalled - library.examples.keys()):
             entry = written[page].partition(it.mark(main_of(page)))[2].partition("\n##")[0]
             shown = re.search(r"\nA caller,[^\n]*\n\n```\n(.*?)\n```\n", entry, re.S)
             is_short = not shown or shown[1].count("\n") < 2
             yield from [f"docs/reference/{page}.md: {it.key()} shows fewer than three lines of a caller"] * is_short
+    yield from (f"docs/reference/{page}.md: {it}" for page, text in written.items() for it in said_twice(text))
     yield from wrong_errors(library)
     yield from (f"docs/DIFFERENCES.md: no such call: {it}" for it in library.notes if it not in library.keys)
     for cells in differences():
         bare = [it for it in re.findall(r"`([^`]*)`", cells[2]) if not NAMES.fullmatch(it)]
         yield from (f"docs/DIFFERENCES.md: a call without its type: {it}" for it in bare)
+
+
+def said_twice(text):
+    """Sentences that an entry has twice, and phrases that a sentence of a failure has twice."""
+    for entry in re.split(r"\n(?=### )", re.sub(r"^(?:```.*?^```|\|.*)$", "", text, flags=re.M | re.S)):
+        sentences = [it for line in entry.splitlines() for it in re.split(r"(?<=[.:])\s", line)]
+        phrases = [it.strip(" .") for line in sentences if line.startswith("Then ") for it in re.split(r" and |, |^Then ", line)]
+        for it in (one for found in (sentences, phrases) for one in dict.fromkeys(found) if found.count(one) > 1):
+            yield from [f"said twice: {entry.partition(chr(10))[0]}: {it}"] * (len(it.split()) > 2)
 
 
 def wrong_errors(library):
@@ -150,7 +173,8 @@ UNLIKE = ("as_inner", "as_mut_inner", "capacity", "drain", "from_slice", "split_
 def named():
     """Calls of several vectors whose `///` begin with different sentences."""
     library, found = Library(), {}
-    for it in (it for page in COLUMNS[:3] for it in library.pages[page] if it.kind == "method" and it.of == main_of(page)):
+    vectors = [main_of(it) for it in COLUMNS[:3]]
+    for it in (it for entries in library.pages.values() for it in entries if it.kind == "method" and it.of in vectors):
         said = re.split(r"(?<=\.)\s", " ".join(it.item.comment))[0]
         found.setdefault(it.name, {}).setdefault(said, it)
     for name, said in found.items():
@@ -159,7 +183,7 @@ def named():
 
 
 def main_of(page):
-    return PAGES[page][1]
+    return PAGES[page][1] if page in PAGES else None
 
 
 def pages():
@@ -183,17 +207,17 @@ class Library:
         self.passed_on = {it for crate in self.crates for it in crate.passed_on}
         self.passed_on |= {(self.crates[0].name, it) for crate in self.crates for it in crate.aliases.values()}
         by_crate = {it.name: [Entry(export) for export in it.exports()] for it in self.crates}
+        for it in (it for found in by_crate.values() for it in found):
+            it.is_part = self.is_part(it)
         self.pages = {page: [it for it in by_crate[crate] if page_of(crate, it) == page] for page, (crate, _) in PAGES.items()}
         self.keys = {it.key() for found in self.pages.values() for it in found}
-        for it in (it for found in self.pages.values() for it in found):
-            it.is_part = self.is_part(it)
         self.callers = {}
         for caller in callers.callers(callers.Known(self.crates)):
             for it in caller.calls:
                 self.callers[it] = min(self.callers.get(it, caller), caller, key=lambda one: len(one.text))
         self.uncalled = {it for it in self.keys if is_call(it)} - self.callers.keys()
         self.calls = {it.key() for found in self.pages.values() for it in found if is_call(it.key()) and not it.is_part}
-        self.costs = dict(costs.costs())
+        self.costs, self.examples = dict(costs.costs()), dict(examples.examples())
         self.notes = notes()
         # Where a note is shown.
         self.noted = {}
@@ -226,9 +250,10 @@ class Library:
 
     def others(self):
         """What each page has that is no call and no trait of the four types."""
+        types = [main_of(it) for it in COLUMNS]
         for page, found in self.pages.items():
             main = main_of(page)
-            is_listed = lambda it: it.is_part or it.kind == "impl" or it.name == main or page in COLUMNS and it.of == main
+            is_listed = lambda it: it.is_part or it.kind == "impl" or it.name == main or it.of in types and it.of == main
             others = (it for it in found if not is_listed(it))
             yield page, [f"[`{it.heading(main).strip('`')}`]({page}.md#{it.anchor(main)})" for it in others]
 
@@ -238,10 +263,11 @@ def page_title(page):
 
 
 def page_of(crate, export):
-    """The page of an export: that of its type, or the first of the crate."""
+    """The page of an export: that of its type or, if its section is there, the second one, or the first of the crate."""
     found = [page for page, (of, _) in PAGES.items() if of == crate]
     named = (export.of or export.name).lstrip("&").removeprefix("mut ")
-    return next((page for page in found if main_of(page) and named.startswith(main_of(page))), found[0])
+    page = next((page for page in found if main_of(page) and named.startswith(main_of(page))), found[0])
+    return page + SECOND if page + SECOND in found and export.section(main_of(page)) in BULK else page
 
 
 def is_call(key):
@@ -330,6 +356,18 @@ class Entry(exports.Export):
             return [it for it in self.item.members() if it.kind == "fn" and it.name != "fmt" and has_contract(it)]
         return [self.item] if self.kind in ("fn", "method") else []
 
+    def outcomes(self):
+        """What the clauses of each of these functions tell."""
+        known = exports.imported(self.source.file.read_text(encoding="utf-8"))
+        return [(it.name, outcomes.Outcomes(it, known)) for it in self.functions()]
+
+    def failure(self):
+        """How a call fails, in a word. Of a macro its comment tells."""
+        if self.kind == "macro_rules!":
+            error = re.search(r"`(\w+Error)`", " ".join(self.item.comment))
+            return f"with an `{error[1]}`" if error else "never"
+        return next(it.failure() for _, it in self.outcomes())
+
     def words(self):
         """The words that its contract cites, with the path that defines each, but for operators, variants, proofs and std's prelude."""
         known = exports.imported(self.source.file.read_text(encoding="utf-8"))
@@ -410,18 +448,25 @@ class Page:
     def place(self, it):
         is_own = it.kind == "method" and it.of == self.main
         is_elsewhere = is_own and it.source.file.stem != snake(self.main)
-        return (not is_own, is_elsewhere, it.kind in ("impl", "method"), self.entries.index(it)) if self.main else ()
+        return (not is_own, it.name != "new", is_elsewhere, it.kind in ("impl", "method"), self.entries.index(it)) if self.main else ()
 
     def title(self, section):
         title = TITLES.get(section) or self.sections[section][0].source.title.replace("`", "")
         return title.partition(". ")[0]
 
+    def contents(self, place=""):
+        """A row for each section, of a page at a place."""
+        for section in self.order:
+            shown = (it for it in self.sections[section] if not it.is_part)
+            links = ", ".join(f"[`{it.trait or it.heading(self.main).strip('`')}`]({place}#{it.anchor(self.main)})" for it in shown)
+            yield f"| [{self.title(section)}]({place}#{anchor(self.title(section))}) | {links} |\n"
+
     def text(self):
-        rows, below, cited = [], [], {}
+        below, cited, rows = [], {}, [*self.contents()]
+        if self.name + SECOND in PAGES:
+            rows += Page(self.library, self.name + SECOND).contents(f"{self.name}{SECOND}.md")
         for section in self.order:
             found = self.sections[section]
-            links = ", ".join(f"[`{it.trait or it.heading(self.main).strip('`')}`](#{it.anchor(self.main)})" for it in found if not it.is_part)
-            rows.append(f"| [{self.title(section)}](#{anchor(self.title(section))}) | {links} |\n")
             below.append(f"\n## {self.title(section)}\n")
             # Each word has a link in the first section that cites it.
             words = [word for it in found if not it.is_part for word in it.words() if cited.setdefault(word, section) == section]
@@ -437,9 +482,9 @@ class Page:
         for key, cost in self.library.costs.items():
             if key in calls:
                 it = calls[key]
-                rows.setdefault(cost, []).append(f"[`{it.heading(self.main).strip('`')}`](#{it.anchor(self.main)})")
-        lines = [f"| {', '.join(links)} | {cost.time} | {cost.allocates} |\n" for cost, links in rows.items()]
-        return "| Calls | Time for | Allocate |\n|---|---|---|\n" + "".join(lines) + "\n## Contents\n\n" if lines else ""
+                rows.setdefault((cost, it.failure()), []).append(f"[`{it.heading(self.main).strip('`')}`](#{it.anchor(self.main)})")
+        lines = [f"| {', '.join(links)} | {cost.time} | {cost.allocates} | {failure} |\n" for (cost, failure), links in rows.items()]
+        return "| Calls | Time for | Allocate | Fail |\n|---|---|---|---|\n" + "".join(lines) + "\n## Contents\n\n" if lines else ""
 
     def parts(self, found):
         yield "\nVectors are written with these; their contracts are in the sources.\n\n"
@@ -453,7 +498,7 @@ class Page:
         yield from ["\n| Impl | Defines |\n|---|---|\n", *rows] if rows else ()
 
     def entry(self, it):
-        """What it is called as, what it does, a caller, and its contract, which is folded."""
+        """What it is called as, what it does, an example or a caller, and its contract, which is folded."""
         yield f"\n### {it.heading(self.main)}\n"
         code, twin, instead = it.code(), *self.twin(it)
         # A comment at its end is of what follows.
@@ -464,11 +509,16 @@ class Page:
         notes = self.notes(it) if twin is it or it.kind == "impl" else ()
         yield from (f"\n{note}\n" for note in notes)
         yield from self.facts(it)
-        yield from self.caller(it) if is_call(it.key()) else ()
+        caller, example = self.library.callers.get(it.key()), self.library.examples.get(it.key())
+        proved = f" [A proved caller]({caller.place()})." if caller and example else ""
+        if example:
+            yield f"\n```\n{example}\n```\n"
+        elif caller and is_call(it.key()):
+            yield from self.caller(it, caller)
         if twin is not it:
-            yield f"\nIts contract is that of [`{twin.trait or twin.name}`](#{twin.anchor(self.main)}){instead}.\n"
+            yield f"\nIts contract is that of [`{twin.trait or twin.name}`](#{twin.anchor(self.main)}){instead}.{proved}\n"
         elif head != code:
-            yield f"\n<details><summary>Contract</summary>\n\n```\n{code}\n```\n\n</details>\n"
+            yield f"\n<details><summary>Contract</summary>\n\n```\n{code}\n```\n{proved and f'{chr(10)}{proved.strip()}{chr(10)}'}\n</details>\n"
 
     def aliased(self, it):
         """The calls and traits of the type that an alias names, as a table if these are in several sections."""
@@ -490,18 +540,14 @@ class Page:
     def facts(self, it):
         """What a call requires, when it fails and when it cannot, and what it costs."""
         lines = []
-        for item in it.functions():
-            found = outcomes.Outcomes(item, exports.imported(it.source.file.read_text(encoding="utf-8")))
+        for name, found in it.outcomes():
             own = [found.conditions(), found.fails(), found.cannot_fail() if it.kind != "impl" or found.can_fail() else ""]
-            lines += [line.replace("* ", f"* (`{item.name}`) ", 1) if it.kind == "impl" else line for line in own if line]
+            lines += [re.sub(r"^- \*[^*]*\*", rf"\g<0> (`{name}`)", line) if it.kind == "impl" else line for line in own if line]
         if cost := self.library.costs.get(it.key()):
             lines.append(f"- *Cost*: {cost.said()}\n")
         yield from ["\n", *lines] if lines else ()
 
-    def caller(self, it):
-        caller = self.library.callers.get(it.key())
-        if not caller:
-            return
+    def caller(self, it, caller):
         if caller.text.count("\n") > LONGEST or caller.text in self.shown:
             yield f"\nA caller, `{caller.name}` in {caller.link()}:\n\n```\n{caller.around(it.key())}\n```\n"
         else:

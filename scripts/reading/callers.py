@@ -63,7 +63,10 @@ class Caller:
         return textwrap.dedent("\n".join(self.lines[slice(*shown)]))
 
     def link(self):
-        return f"[`{self.path}`](../../{self.path}#L{self.at}-L{self.at + len(self.lines) - 1})"
+        return f"[`{self.path}`]({self.place()})"
+
+    def place(self):
+        return f"../../{self.path}#L{self.at}-L{self.at + len(self.lines) - 1}"
 
     def type_of(self, text):
         """The type of an expression, where it is a variable or a chain of calls whose types are known."""

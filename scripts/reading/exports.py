@@ -171,7 +171,8 @@ class Crate:
             self.names.update({it.name: (source, it) for source, it in macros if it.is_public})
 
     def resolve(self, module, path, name):
-        inner = (*module, *(it for it in path if it not in ("crate", "self")))
+        above = () if path[0] == "crate" else module
+        inner = (*above, *(it for it in path if it not in ("crate", "self")))
         source = self.sources.get(inner)
         if source is None:
             self.passed_on.append((path[0], name))

@@ -2,7 +2,7 @@
 from rows import swept
 from models.calls import Calls, listed, spelled
 from models.vector_calls import into_vec, shrink_to_fit
-from models.vectors import DOUBLES, FOR, Vector, word
+from models.vectors import DOUBLES, EXACTLY, FOR, Vector, word
 
 SLOTS = (0, 4, 20)
 # Characters of one to four bytes.
@@ -118,6 +118,19 @@ def part(t, start, end=None):
         return f"{'inline' if t.is_inline else f'heap {len(text)}'} {swept.told(text)}"
 
 
+def drained(t, start, end, is_from_back):
+    """What is removed, how many characters it may have, the one at an end before the rest, and those of the rest."""
+    text = bytes(t.list[start:end])
+    if not t.asks(len(text) > t.slots):
+        return None
+    t.becomes(t.list[:start] + t.list[end:])
+    letters = text.decode()
+    end, rest = (letters[-1:], letters[:-1]) if is_from_back else (letters[:1], letters[1:])
+    taken = f"Some('{end}')" if end else "None"
+    answers = [f"InlineTextDrain({told(letters)})", f"({-(-len(text) // 4)}, Some({len(text)}))", f"({taken}, {told(rest)})"]
+    return " ".join([*answers, *(f"'{it}'" for it in rest)])
+
+
 def without(t, i):
     """Removes the character at `i`, and tells it."""
     letter = bytes(t.list[i:]).decode()[0]
@@ -179,7 +192,9 @@ calls("extend_chars T")(lambda t, text: t.adds(text, are_pushed=True))
 calls("extend_words T")(lambda t, text: t.adds(text.split(" ")))
 calls("push_reserved C")(reserved)
 calls("push_str_reserved T")(reserved)
+calls("extend_from_within R")(lambda t, span: t.adds([bytes(t.list[slice(*span)]).decode()]))
 calls("reserve N")(lambda t, n: "" if t.makes_room(len(t.list) + n) else None)
+calls("reserve_exact N")(lambda t, n: "" if t.makes_room(len(t.list) + n, EXACTLY) else None)
 
 # What changes it elsewhere, or moves it.
 calls("pop")(lambda t: f"Some({without(t, t.boundaries()[-2])})" if t.list else "None")
@@ -191,6 +206,8 @@ calls("insert_str B T")(lambda t, i, text: t.puts(i, i, text))
 calls("replace_range R T")(lambda t, span, text: t.puts(*span, text))
 calls("retain_not C")(retain_not)
 calls("split_off B")(lambda t, i: part(t, i, i))
+calls("drain R")(lambda t, span: drained(t, *span, False))
+calls("drain_from_back R")(lambda t, span: drained(t, *span, True))
 calls("clone")(lambda t: part(t, 0))
 calls("shrink_to_fit")(shrink_to_fit)
 calls("shrink_to N")(shrink_to)

@@ -1,7 +1,6 @@
 //! `example_dns_query` over `tinyvec`: the DNS query that each line asks for, built in a lent slice.
 
-use crate::unbuffered;
-use std::io::{self, Write};
+use std::io;
 use tinyvec::SliceVec;
 
 /// The longest message.
@@ -137,27 +136,26 @@ fn hex_digit(number: u8) -> u8 {
     }
 }
 
-/// Writes the message in hexadecimal, or why there is none, and a line feed.
-fn write_answer(writer: &mut impl Write, line: &[u8]) -> io::Result<()> {
-    let mut slice = [0; ROOM];
-    match answer_line(&mut slice, line.strip_suffix(b"\r").unwrap_or(line)) {
+fn write_answer(slice: &mut [u8; ROOM], out: &mut Vec<u8>, line: &[u8]) {
+    match answer_line(slice, line) {
         Ok(len) => {
-            let mut text = [0; 2 * ROOM];
-            for (pair, byte) in text.chunks_exact_mut(2).zip(&slice[..len]) {
+            let start = out.len();
+            out.resize(start + 2 * len, 0);
+            for (pair, byte) in out[start..].chunks_exact_mut(2).zip(&slice[..len]) {
                 pair[0] = hex_digit(byte / 16);
                 pair[1] = hex_digit(byte % 16);
             }
-            writer.write_all(&text[..2 * len])?;
         }
         Err(fault) => {
-            writer.write_all(b"error: ")?;
-            writer.write_all(fault.as_bytes())?;
+            out.extend_from_slice(b"error: ");
+            out.extend_from_slice(fault.as_bytes());
         }
     }
-    writer.write_all(b"\n")
+    out.push(b'\n');
 }
 
 /// Answers each line of standard input on standard output.
 pub fn run() -> io::Result<()> {
-    unbuffered::answer_lines(|writer, line| write_answer(writer, line))
+    let mut slice = [0; ROOM];
+    crate::lines::answer_lines(|out, line| write_answer(&mut slice, out, line))
 }

@@ -1,9 +1,10 @@
-//! The benchmarks of `crates/tinyvec_bench` over the crates that users would pick instead, and three programs over
+//! The benchmarks of `crates/tinyvec_bench` over the crates that users would pick instead, and five programs, most over
 //! `tinyvec`. The first argument is `tinyvec`, `smallvec`, `arrayvec` or `vec`, or the name of a program. The benchmarks
 //! print checksums, with `rows ROUNDS` times too, and with `growth` in the place of `rows` those of the same calls at many
 //! lengths. A program reads standard input and writes standard output.
 
 mod benchmarks;
+mod calls;
 mod comparing;
 mod dates;
 mod dns_query;
@@ -11,10 +12,13 @@ mod fnv;
 mod form;
 mod growing;
 mod growth;
+mod lines;
+mod node_lines;
 mod nodes;
 mod number;
 mod peers;
 mod printing;
+mod records;
 mod report;
 mod rows;
 mod slices;
@@ -39,6 +43,8 @@ fn program(name: &str) -> Option<fn() -> io::Result<()>> {
         "tv" => Some(tv::run),
         "example_tidy" => Some(tidy::run),
         "example_dns_query" => Some(dns_query::run),
+        "example_nodes" => Some(node_lines::run),
+        "example_records" => Some(records::run),
         _ => None,
     }
 }

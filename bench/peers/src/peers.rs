@@ -1,10 +1,12 @@
 //! Which rows a peer has, over which types.
 
+use crate::calls::{of_arrayvec, of_smallvec, of_tinyvec_array, of_tinyvec_slice, of_tinyvec_tiny, of_vec};
 use crate::growth::{of_arrays, of_lists};
 use crate::nodes::Node;
 use crate::report::Report;
 use crate::rows::{
-    of_bytes, of_dates, of_few, of_forms, of_heap, of_inline, of_long, of_nodes, of_slices, of_spilling, of_texts, of_words,
+    of_bytes, of_dates, of_few, of_forms, of_heap, of_inline, of_long, of_long_array, of_long_lists, of_nodes, of_slice_edits,
+    of_slices, of_spilling, of_texts, of_words,
 };
 
 /// The lengths of a list that grows.
@@ -115,22 +117,55 @@ pub fn rows_of(peer: Option<&str>, report: Report) -> bool {
             fixed!(report, tinyvec_array);
             at_each_capacity!(of_slices, report, tinyvec_array, []);
             growing!(report, tinyvec_tiny);
+            of_tinyvec_array::<64>(&report);
+            of_tinyvec_array::<16384>(&report);
+            of_long_array::<tinyvec::ArrayVec<[u64; 16384]>, 16384>(&report);
+            let slices = report.with_prefix("slice_");
+            of_tinyvec_slice::<64>(&slices);
+            of_tinyvec_slice::<16384>(&slices);
+            of_slice_edits::<16384>(&report);
+            of_tinyvec_tiny::<64>(&report.with_prefix("tiny_"), 64);
+            let long = report.with_prefix("tiny_long_");
+            of_tinyvec_tiny::<4>(&long, 64);
+            of_tinyvec_tiny::<4>(&long, 16384);
+            of_long_lists::<tinyvec::TinyVec<[u64; 4]>>(&long);
             of_forms::<16>(&report);
+            of_forms::<64>(&report);
+            of_forms::<16384>(&report);
             of_forms::<1024>(&report);
             of_dates::<tinyvec::TinyVec<[u8; 64]>>(&report);
         }
         Some("smallvec") => {
             fixed!(report, smallvec);
             growing!(report, smallvec);
+            of_smallvec::<64>(&report, 64, false);
+            of_smallvec::<16384>(&report, 16384, false);
+            of_long_array::<smallvec::SmallVec<[u64; 16384]>, 16384>(&report);
+            of_smallvec::<64>(&report.with_prefix("tiny_"), 64, true);
+            let long = report.with_prefix("tiny_long_");
+            of_smallvec::<4>(&long, 64, true);
+            of_smallvec::<4>(&long, 16384, true);
+            of_long_lists::<smallvec::SmallVec<[u64; 4]>>(&long);
             of_dates::<smallvec::SmallVec<[u8; 64]>>(&report);
         }
         Some("arrayvec") => {
             fixed!(report, arrayvec);
+            of_arrayvec::<64>(&report);
+            of_arrayvec::<16384>(&report);
+            of_long_array::<arrayvec::ArrayVec<u64, 16384>, 16384>(&report);
             of_dates::<arrayvec::ArrayString<64>>(&report);
         }
         Some("vec") => {
             fixed!(report, vec_of);
             growing!(report, vec_of);
+            of_vec(&report, 64, false);
+            of_vec(&report, 16384, false);
+            of_long_array::<Vec<u64>, 16384>(&report);
+            of_vec(&report.with_prefix("tiny_"), 64, true);
+            let long = report.with_prefix("tiny_long_");
+            of_vec(&long, 64, true);
+            of_vec(&long, 16384, true);
+            of_long_lists::<Vec<u64>>(&long);
             of_texts(&report, 4);
             of_texts(&report, 16);
             of_texts(&report, 64);

@@ -1,6 +1,7 @@
 //! The rows, benchmark by benchmark, at one capacity.
 
 use crate::benchmarks::*;
+use crate::calls::runs_of;
 use crate::comparing::{compare, equal, hash, hash_key};
 use crate::dates::{text_iso_date, text_mail_date, Letters};
 use crate::form::{borsh_read, borsh_write};
@@ -34,16 +35,69 @@ fn of_made_words<V: Vector<u64, N>, const N: usize>(report: &Report, make: fn([u
     looks_at_words(report, make);
 }
 
+/// Those at a capacity that no other row has.
+pub fn of_long_array<V: Vector<u64, N>, const N: usize>(report: &Report) {
+    report.row(made::<N>(), N, |x| last(two_pushes::<u64, V, N>(x).as_slice()));
+    edits_of_words(report, V::from_array);
+    cuts_of_words(report, V::from_array);
+}
+
+/// Those of long lists out of four slots.
+pub fn of_long_lists<V: Growing<u64, 4>>(report: &Report) {
+    of_long_list::<V>(report, 64);
+    of_long_list::<V>(report, 16384);
+}
+
+fn of_long_list<V: Growing<u64, 4>>(report: &Report, n: usize) {
+    let source = runs_of(n);
+    let count = n as u64;
+    let mut vec = V::collected(source.iter().copied());
+    moves(report, n, &mut vec);
+    report.row("extend_from_slice", n, |x| extend_from_slice(&mut vec, &source, x));
+    report.row("drain_taken", n, |x| drain_taken(&mut vec, &source, x));
+    report.row("drain_dropped", n, |x| drain_dropped(&mut vec, &source, x));
+    report.row("retain_half", n, |x| retain_half(&mut vec, &source, x));
+    special_cuts(report, n, &mut vec, &source, &source, count);
+}
+
+// An item in or out of a full list, which stays so.
+fn moves<V: Vector<u64, N>, const N: usize>(report: &Report, n: usize, vec: &mut V) {
+    report.row("insert_front", n, |x| insert_front(vec, x));
+    report.row("insert_middle", n, |x| insert_middle(vec, x));
+    report.row("remove_front", n, |x| remove_front(vec, x));
+    report.row("remove_middle", n, |x| remove_middle(vec, x));
+    report.row("swap_remove", n, |x| swap_remove(vec, x));
+}
+
+// Calls that some lack.
+fn special_cuts<V: Vector<u64, N>, const N: usize>(
+    report: &Report,
+    n: usize,
+    vec: &mut V,
+    source: &[u64],
+    runs: &[u64],
+    count: u64,
+) {
+    if V::HAS_DEDUP {
+        report.row("dedup", n, |x| dedup(vec, runs, x));
+    }
+    if V::HAS_SPLICE {
+        report.row("splice_as_many", n, |x| splice(vec, source, count / 4, x));
+        report.row("splice_fewer", n, |x| splice(vec, source, count / 8, x));
+        report.row("splice_more", n, |x| splice(vec, source, count / 2, x));
+        report.row("replace_range", n, |x| replace_range(vec, source, x));
+    }
+    if V::HAS_EXTRACT {
+        report.row("extract_half", n, |x| extract_half(vec, runs, x));
+    }
+}
+
 fn edits_of_words<V: Vector<u64, N>, const N: usize>(report: &Report, make: fn([u64; N]) -> V) {
     let source = scattered::<u64, N>();
     let mut vec = make(source);
     report.row("fill_and_empty", N, |x| fill_and_empty(&mut vec, x));
     vec = make(source);
-    report.row("insert_front", N, |x| insert_front(&mut vec, x));
-    report.row("insert_middle", N, |x| insert_middle(&mut vec, x));
-    report.row("remove_front", N, |x| remove_front(&mut vec, x));
-    report.row("remove_middle", N, |x| remove_middle(&mut vec, x));
-    report.row("swap_remove", N, |x| swap_remove(&mut vec, x));
+    moves(report, N, &mut vec);
     report.row("truncate_and_refill", N, |x| truncate_and_refill(&mut vec, x));
 }
 
@@ -57,18 +111,7 @@ fn cuts_of_words<V: Vector<u64, N>, const N: usize>(report: &Report, make: fn([u
     report.row("drain_taken", N, |x| drain_taken(&mut vec, &source, x));
     report.row("drain_dropped", N, |x| drain_dropped(&mut vec, &source, x));
     report.row("retain_half", N, |x| retain_half(&mut vec, &runs, x));
-    if V::HAS_DEDUP {
-        report.row("dedup", N, |x| dedup(&mut vec, &runs, x));
-    }
-    if V::HAS_SPLICE {
-        report.row("splice_as_many", N, |x| splice(&mut vec, &source, count / 4, x));
-        report.row("splice_fewer", N, |x| splice(&mut vec, &source, count / 8, x));
-        report.row("splice_more", N, |x| splice(&mut vec, &source, count / 2, x));
-        report.row("replace_range", N, |x| replace_range(&mut vec, &source, x));
-    }
-    if V::HAS_EXTRACT {
-        report.row("extract_half", N, |x| extract_half(&mut vec, &runs, x));
-    }
+    special_cuts(report, N, &mut vec, &source, &runs, count);
     vec = make(source);
     let odd = make(runs);
     report.row("clone", N, |x| last(clone_of(&vec, &odd, x).as_slice()));
@@ -153,6 +196,12 @@ pub fn of_few<V: Vector<u64, N>, const N: usize>(report: &Report) {
 
 /// The benchmarks of a vector over a lent slice of `u64`.
 pub fn of_slices<const N: usize>(report: &Report) {
+    of_slice_edits::<N>(report);
+    looks_at_slices::<N>(report);
+}
+
+/// Those that change it.
+pub fn of_slice_edits<const N: usize>(report: &Report) {
     let source = scattered::<u64, N>();
     let runs = pairs::<N>();
     let mut slots = source;
@@ -161,7 +210,9 @@ pub fn of_slices<const N: usize>(report: &Report) {
     report.row("slice_remove", N, |x| slice_remove(&mut slots, x));
     report.row("slice_drain", N, |x| slice_drain(&mut slots, &source, x));
     report.row("slice_retain", N, |x| slice_retain(&mut slots, &runs, x));
-    looks_at_slices::<N>(report);
+    report.row("slice_split_off", N, |x| slice_split_off(&mut slots, x));
+    report.row("slice_resize", N, |x| slice_resize(&mut slots, x));
+    report.row("slice_resize_with", N, |x| slice_resize_with(&mut slots, x));
 }
 
 fn looks_at_slices<const N: usize>(report: &Report) {

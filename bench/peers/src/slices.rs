@@ -71,3 +71,30 @@ pub fn slice_retain(slots: &mut [u64], source: &[u64], x: u64) -> u64 {
     vec.retain(|y| *y % 2 == 1);
     x.wrapping_add(vec.len() as u64)
 }
+
+/// Takes the second half off, as a vector of its own.
+#[inline(never)]
+pub fn slice_split_off(slots: &mut [u64], x: u64) -> u64 {
+    let len = slots.len();
+    let mut vec = SliceVec::from_slice_len(slots, len);
+    let tail = vec.split_off(len / 2);
+    x.wrapping_add(tail.len() as u64)
+}
+
+/// Makes an empty list as long as the slice.
+#[inline(never)]
+pub fn slice_resize(slots: &mut [u64], x: u64) -> u64 {
+    let len = slots.len();
+    let mut vec = SliceVec::from_slice_len(slots, 0);
+    vec.resize(len, x);
+    vec.len() as u64
+}
+
+/// The same, by a call for each item.
+#[inline(never)]
+pub fn slice_resize_with(slots: &mut [u64], x: u64) -> u64 {
+    let len = slots.len();
+    let mut vec = SliceVec::from_slice_len(slots, 0);
+    vec.resize_with(len, || 1);
+    x.wrapping_add(vec.len() as u64)
+}

@@ -135,7 +135,7 @@ puts_numbers old new word numbers (answers.Spliced given rest) held behind no_le
     let more : items_len old - items_len new ≡ 0 = omega (arith, ap length held, ap length made.list_is) in
     let used : items_len new - items_len old ≡ 2 = omega (arith, ap length held, ap length made.list_is) in
     let none : spare new ≡ [] =
-    spare_is old new step.1.1.slot_rule
+    spare_is old new step.1.1.grown
     ∙ ap (λ n. replicate n (pos 0) ++ drop (items_len new - items_len old) (spare old)) more
     ∙ ap (λ n. drop n (spare old)) used
     ∙ ap (drop 2) behind in

@@ -4,7 +4,7 @@ use Rattle.std.specs.List.{remove_range}
 use Rattle.std.specs.Iterator.{SkipsThenYields}
 use Rattle.std.specs.Iterator.Runs.{YieldsInOrder, YieldsInReverse}
 use Rattle.tinyvec_slots.proofs.AnyDrainLemmas.{runs_in_order, runs_in_reverse, step_keeps, step_back_keeps, nth_keeps, takes_any_word}
-use Rattle.tinyvec_array.specs.declared.storage.Slots as Storage
+use Rattle.tinyvec_array.specs.declared.slots.Slots as Storage
 use Rattle.tinyvec.specs.View.{Becomes}
 use Rattle.tinyvec.specs.TinyVec.{tiny_items_of, tiny_view_of}
 use Rattle.tinyvec.specs.FrameLaws.{FrameOf, tiny_items-with, tiny_framed-with}

@@ -10,7 +10,7 @@ use Rattle.tinyvec.specs.Following.{Follows, FillsRoom}
 use Rattle.tinyvec_slots.specs.Slots.{items, spare, split_at}
 use Rattle.tinyvec_array.specs.ArrayVec.{view_of, items_of, spare_of, slots_of, len_of, SameLender, Grows}
 use Rattle.tinyvec_array.specs.declared.array_vec.ArrayVec.{ArrayVec}
-use Rattle.tinyvec_array.specs.declared.storage.Slots as Storage
+use Rattle.tinyvec_array.specs.declared.slots.Slots as Storage
 use Rattle.tinyvec_array.proofs.ViewLemmas.{SameLender-then, put_back, slots_of-back, back_lender}
 use Rattle.tinyvec_slots.proofs.FillingLemmas.{drained, refused, drained_all, refused_early}
 

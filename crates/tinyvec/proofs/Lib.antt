@@ -2,7 +2,6 @@ pub mod TinyLemmas
 pub mod DrainLemmas
 pub mod CloneLemmas
 pub mod RefusedLemmas
-pub mod SpliceLemmas
 pub mod FillingLemmas
 pub mod ExtendingLemmas
 pub mod FrameLemmas

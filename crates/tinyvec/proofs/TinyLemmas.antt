@@ -7,16 +7,16 @@ use Rattle.std.proofs.lemmas.List.Edits.{length-insert, length-remove}
 use Rattle.std.proofs.lemmas.List.Elements.{All-drop, All-nil}
 use Rattle.tinyvec_slots.specs.Slots.{Slots, Vacates, SlotRule, items, items_len, spare}
 use Rattle.tinyvec_slots.proofs.SlotsLemmas.{slots_used, slots_freed, defaults_are, items-with_slot, spare-with_slot}
-use Rattle.tinyvec.specs.View.{in_array, on_heap, Place, lies_inline, capacity_in, TinyView, view_len, view_inline, ViewInline, TinySlotRule, SameFrame, Unchanged, IsNew}
+use Rattle.tinyvec.specs.View.{in_array, on_heap, Place, lies_inline, capacity_in, TinyView, view_len, view_inline, ViewInline, TinySlotRule, Unchanged, IsNew}
 use Rattle.tinyvec.specs.Room.{Grows, Collects}
 use Rattle.tinyvec_array.specs.ArrayVec.{view_of, items_of, slots_of}
 use Rattle.tinyvec_array.proofs.ViewLemmas.{view_of-at}
-use Rattle.tinyvec_array.specs.declared.storage.Slots as Storage
+use Rattle.tinyvec_array.specs.declared.slots.Slots as Storage
 use Rattle.tinyvec.specs.TinyVec.{tiny_items_of, tiny_len_of}
 use Rattle.tinyvec.specs.Lends.{tiny_with_item}
 use Rattle.tinyvec.specs.declared.tiny_vec.TinyVec.{TinyVec}
 use Rattle.tinyvec.specs.declared.tiny_vec.TinyVec.TheVariants.{Inline, Heap}
-pub use Rattle.tinyvec.specs.FrameLaws.{FrameOf, capacity_inline, SameFrame-refl, tiny_items-with, tiny_framed-with, tiny_slots_framed, tiny_slots_then_framed}
+pub use Rattle.tinyvec.specs.FrameLaws.{FrameOf, capacity_inline, SameFrame-refl, SameFrame-then, tiny_items-with, tiny_framed-with, tiny_slots_framed, tiny_slots_then_framed}
 
 -- what is seen of an array, and of a list on the heap
 abbrev pub array_view : {T : Type 0} → Slots T → TinyView T
@@ -35,15 +35,6 @@ same_place slots (on_heap m) (on_heap n) same room = ap on_heap room
 -- what did not change looks the same
 pub view_unchanged : {T : Type 0} (old new : TinyView T) → Unchanged old new → new ≡ old
 view_unchanged old new h i = record { items = h.items i; spare = h.spare i; place = same_place 0 old.place new.place h.place (h.capacity 0) i }
-
-module _ {T : Type 0} where
-  pub SameFrame-then : (u v w : TinyView T) → SameFrame u v → SameFrame v w → SameFrame u w
-  SameFrame-then u v w h k = record {
-    len = k.len ∙ h.len;
-    spare = k.spare ∙ h.spare;
-    place = k.place ∙ h.place;
-    capacity = λ slots. k.capacity slots ∙ h.capacity slots;
-  }
 
 module _ {A T L : Type 0} (g : Storage.Ghosts A T L) where
   -- a write of one item writes that item

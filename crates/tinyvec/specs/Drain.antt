@@ -4,7 +4,7 @@ use Rattle.std.specs.Borrow.{GName, MutBor}
 use Rattle.std.specs.Iterator.Runs.{YieldsInOrder, YieldsInReverse}
 use Rattle.std.specs.List.{remove_range}
 use Rattle.tinyvec_slots.specs.AnyDrain.{Steps, StepsBack, TakesAnyWord}
-use Rattle.tinyvec_array.specs.declared.storage.Slots as Storage
+use Rattle.tinyvec_array.specs.declared.slots.Slots as Storage
 use Rattle.tinyvec.specs.View.{Becomes, SameFrame}
 use Rattle.tinyvec.specs.TinyVec.{tiny_items_of, tiny_len_of, tiny_view_of}
 use Rattle.tinyvec.specs.declared.tiny_vec.TinyVec.{TinyVec}

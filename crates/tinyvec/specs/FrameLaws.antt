@@ -1,7 +1,7 @@
 -- What has the same frame: the same vector, and one whose items were written. The slot rule reads no more of a vector.
 use Rattle.std.proofs.Common.{◌≡◌, ◌≤◌, ℕ, List, length, drop, refl, sym, ap, ◌∙◌, subst, take_at}
 use Rattle.tinyvec_array.specs.CutLaws.{written_of}
-use Rattle.tinyvec_array.specs.declared.storage.Slots as Storage
+use Rattle.tinyvec_array.specs.declared.slots.Slots as Storage
 use Rattle.tinyvec.specs.View.{Place, in_array, on_heap, lies_inline, capacity_in, TinyView, view_inline, ViewInline, view_capacity, PlaceRule, TinySlotRule, SameFrame}
 use Rattle.tinyvec.specs.TinyVec.{tiny_view_of, tiny_items_of, tiny_len_of}
 use Rattle.tinyvec.specs.Lends.{tiny_with_items}
@@ -15,6 +15,14 @@ FrameOf g old new = SameFrame (tiny_view_of g old) (tiny_view_of g new)
 module _ {T : Type 0} where
   pub SameFrame-refl : (v : TinyView T) → SameFrame v v
   SameFrame-refl v = record { len = refl; spare = refl; place = refl; capacity = λ slots. refl }
+
+  pub SameFrame-then : (u v w : TinyView T) → SameFrame u v → SameFrame v w → SameFrame u w
+  SameFrame-then u v w h k = record {
+    len = k.len ∙ h.len;
+    spare = k.spare ∙ h.spare;
+    place = k.place ∙ h.place;
+    capacity = λ slots. k.capacity slots ∙ h.capacity slots;
+  }
 
   module _ (D : T → Type 0) where
     -- the slot rule reads no more of the old vector than its frame

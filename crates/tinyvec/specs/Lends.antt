@@ -4,7 +4,7 @@ use Rattle.std.specs.Borrow.{Lends, LendsSoOk, Fml, RattleType, MutBor, Array}
 use Rattle.std.specs.Vec as vec
 use Rattle.tinyvec_array.specs.ArrayVec.{slots_of}
 use Rattle.tinyvec_array.specs.Lends.{at_slots, with_items_of}
-use Rattle.tinyvec_array.specs.declared.storage.Slots as Storage
+use Rattle.tinyvec_array.specs.declared.slots.Slots as Storage
 use Rattle.tinyvec.specs.View.{Unchanged}
 use Rattle.tinyvec.specs.TinyVec.{tiny_view_of, tiny_items_of, tiny_len_of}
 use Rattle.tinyvec.specs.Room.{MakesRoom}

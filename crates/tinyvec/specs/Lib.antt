@@ -9,12 +9,12 @@ pub use Rattle.tinyvec_slots.specs.Clones
 pub use Rattle.tinyvec_slots.specs.Texts
 pub use Rattle.tinyvec_slots.specs.Fused
 pub use Rattle.tinyvec_slots.specs.AnySplice
+pub use Rattle.tinyvec_slots.specs.Splice
 pub use Rattle.tinyvec_slots.specs.SplicedByWord
 pub use Rattle.tinyvec_slots.specs.Replacing
 pub use Rattle.tinyvec_array.specs.ArrayVec
 pub use Rattle.tinyvec_array.specs.SliceVec
 pub use Rattle.tinyvec_array.specs.IntoIter
-pub use Rattle.tinyvec_array.specs.Splice
 pub mod View
 pub mod TinyVec
 pub mod Lends
@@ -23,7 +23,6 @@ pub mod Refused
 pub mod OnHeap
 pub mod Room
 pub mod IterMut
-pub mod TinyVecSplice
 pub mod FrameLaws
 pub mod SpliceLaws
 pub mod Following

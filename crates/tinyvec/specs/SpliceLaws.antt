@@ -1,17 +1,23 @@
 -- The laws of a splice of a `TinyVec`: what its calls leave of spare slots, place and room.
 use Rattle.std.proofs.Common.{◌≡◌, ℕ, ◌≤◌, List, length, refl, sym, ap, ◌∙◌, arith}
-use Rattle.tinyvec_array.specs.declared.storage.Slots as Storage
+use Rattle.tinyvec_array.specs.declared.slots.Slots as Storage
 use Rattle.tinyvec.specs.View.{Place, in_array, on_heap, lies_inline, capacity_in, TinyView, view_len, view_inline, view_capacity, Becomes, StaysInPlace, SameFrame}
-use Rattle.tinyvec.specs.TinyVec.{tiny_items_of, tiny_len_of}
+use Rattle.tinyvec.specs.TinyVec.{tiny_view_of, tiny_items_of, tiny_len_of}
 use Rattle.tinyvec.specs.Lends.{tiny_with_items}
-use Rattle.tinyvec.specs.Room.{Grows}
-use Rattle.tinyvec.specs.TinyVecSplice.{items_moved}
-use Rattle.tinyvec.specs.FrameLaws.{FrameOf, tiny_items-with, tiny_framed-with, tiny_slots_framed, tiny_slots_then_framed, place_kept}
+use Rattle.tinyvec.specs.Room.{Grows, items_moved}
+use Rattle.tinyvec.specs.FrameLaws.{FrameOf, SameFrame-refl, SameFrame-then, tiny_items-with, tiny_framed-with, tiny_slots_framed, tiny_slots_then_framed, place_kept}
 use Rattle.tinyvec.specs.declared.tiny_vec.TinyVec.{TinyVec}
 
 pub tiny_written : {A T L : Type 0} (g : Storage.Ghosts A T L) (v : TinyVec A T L) (ws : List T) → length ws ≡ tiny_len_of g v
     → (tiny_items_of g (tiny_with_items g v ws) ≡ ws) × FrameOf g v (tiny_with_items g v ws)
 tiny_written g v ws e = (tiny_items-with g v ws e, tiny_framed-with g v ws e)
+
+module _ {A T L : Type 0} (g : Storage.Ghosts A T L) where
+  pub frame_refl : (v : TinyVec A T L) → FrameOf g v v
+  frame_refl v = SameFrame-refl (tiny_view_of g v)
+
+  pub frame_then : (u v w : TinyVec A T L) → FrameOf g u v → FrameOf g v w → FrameOf g u w
+  frame_then u v w = SameFrame-then (tiny_view_of g u) (tiny_view_of g v) (tiny_view_of g w)
 
 -- a list that fits where it was did not move
 stays_in : (slots n : ℕ) (p q : Place) → (lies_inline p ≡ lies_inline in_array → n ≤ slots → lies_inline q ≡ lies_inline in_array)

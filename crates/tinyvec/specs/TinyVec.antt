@@ -3,7 +3,7 @@ use Rattle.std.specs.Prelude.{ℕ, List, [], length, Bool, IsTrue, vec_capacity}
 use Rattle.std.specs.Global.{Global}
 use Rattle.std.specs.Vec.{vec_allocator}
 use Rattle.tinyvec_array.specs.By.{items_by, spare_by}
-use Rattle.tinyvec_array.specs.declared.storage.Slots as Storage
+use Rattle.tinyvec_array.specs.declared.slots.Slots as Storage
 use Rattle.tinyvec_array.specs.declared.bound.UpTo.{UpTo}
 use Rattle.tinyvec.specs.View.{Place, in_array, on_heap, lies_inline, capacity_in, TinyView}
 use Rattle.tinyvec.specs.declared.tiny_vec.TinyVec.{TinyVec}

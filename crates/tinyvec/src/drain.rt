@@ -12,7 +12,7 @@ use std::fmt;
 use std::iter::FusedIterator;
 use std::ops::RangeBounds;
 use tinyvec_array::Array;
-use tinyvec_slots::{close_gap, resolve_range, subslice, write_named};
+use tinyvec_slots::authors::{close_gap, resolve_range, subslice, write_named};
 
 /// Yields the items of a range. When it is dropped, the list is what preceded and followed the range, in its place.
 pub struct TinyVecDrain<'a, A: Array> {

@@ -3,8 +3,10 @@ ghost use Rattle.std.specs.Prelude.{◌≤◌, length, codes, All};
 
 use crate::TinyVec;
 use std::alloc::AllocError;
+use std::mem;
 use tinyvec_array::Array;
-use tinyvec_slots::{OwnedItems, OwnsItems};
+use tinyvec_slots::OwnedItems;
+use tinyvec_slots::authors::OwnsItems;
 
 /// Yields the items of a vector from both ends.
 pub type TinyVecIterator<A> = OwnedItems<TinyVec<A>>;
@@ -19,13 +21,12 @@ impl<A: Array> OwnsItems for TinyVec<A> {
     }
 
     #[inline]
-    fn as_slice(&self) -> &[A::Item] {
-        self.as_slice()
-    }
-
-    #[inline]
     fn take_at(&mut self, i: usize) -> A::Item {
-        self.take_at(i)
+        // Each variant for itself: LLVM then knows that a write to the heap changes neither variant nor indices.
+        match self {
+            TinyVec::Inline(_, _) => self.take_at(i),
+            TinyVec::Heap(v) => mem::take(&mut v.as_mut_slice()[i]),
+        }
     }
 
     // The clones are inline if they fit.

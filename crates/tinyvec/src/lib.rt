@@ -16,4 +16,6 @@ pub use tinyvec_array::{
     Array, ArrayVec, ArrayVecDrain, ArrayVecIterator, ArrayVecSplice, SliceVec, SliceVecDrain,
     Slots, TakesClones, TryFromSliceError, array_vec,
 };
-pub use tinyvec_slots::{CapacityError, ExtractIf, FromIterRest, NoMemory, NoRoom, SpliceRest};
+pub use tinyvec_slots::{
+    CapacityError, ExtractIf, FromIterRest, NoMemory, NoRoom, Splice, SpliceRest,
+};

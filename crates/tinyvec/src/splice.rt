@@ -1,55 +1,30 @@
 //! The splice: what replaces a range of items by those of an iterator.
-ghost use Rattle.std.specs.Prelude.{◌≡◌, length, false, codes, Some, IfSome, ◌+◌, ◌-◌, ◌<◌, ◌≤◌, ◌∷◌, ◌++◌, List, take, drop, IsOk, OnErr, IfErr, MatchResult, OnOk, true};
-ghost use Rattle.std.specs.Fmt.{debug_list, debug_variant};
-ghost use Rattle.std.specs.Iterator.{UpTo, MakesProgress, at_most, IsFinite, Drains, YieldsThen};
+ghost use Rattle.std.specs.Prelude.{◌≡◌, length, false, codes, Some, ◌+◌, ◌-◌, ◌<◌, ◌≤◌, ◌∷◌, ◌++◌, List, take, drop, IsOk, OnErr, IfErr, MatchResult, OnOk, true};
+ghost use Rattle.std.specs.Iterator.{IsFinite, Drains, YieldsThen};
 ghost use Rattle.std.specs.Iterator.Adapters.{fuse_done, fuse_source, fuse_steps};
-ghost use Rattle.std.specs.Iterator.SizeHint.{IsWithinCount};
-ghost use Rattle.tinyvec_slots.specs.Fused.{FusedFinite, FusedCan, fused_rest};
+ghost use Rattle.tinyvec_slots.specs.Fused.{FusedCan, fused_rest};
 ghost use Rattle.tinyvec_slots.specs.Ranges.{IsRangeOf, before, removed, after};
 ghost use Rattle.tinyvec.specs.TinyVec.{tiny_items_of, tiny_len_of, is_inline, tiny_capacity, tiny_view_of};
 ghost use Rattle.tinyvec.specs.View.{TinySlotRule, StaysInPlace, Becomes, Unchanged};
 ghost use Rattle.tinyvec_slots.specs.Filling.{IntoIterYields, ShowsItems};
 ghost use Rattle.tinyvec_slots.specs.Replacing.{PutsBetween};
-ghost use Rattle.tinyvec_slots.specs.AnySplice.{SpliceBegins, FinishTouches};
+ghost use Rattle.tinyvec_slots.specs.AnySplice.{SpliceBegins};
 ghost use Rattle.tinyvec.specs.Room.{KeepsRoom, Grows, MakesRoom};
-ghost use Rattle.tinyvec.specs.TinyVecSplice.{items_moved};
+ghost use Rattle.tinyvec.specs.Room.{items_moved};
 
 use crate::TinyVec;
 use std::alloc::AllocError;
-use std::fmt;
-use std::iter::{Fuse, FusedIterator};
+use std::iter::Fuse;
 use std::ops::{Range, RangeBounds};
 use tinyvec_array::Array;
-use tinyvec_slots::{
-    CanCut, CanSplice, Gap, NoRoom, SpliceRest, resolve_range, splice_finish, splice_next,
-    splice_next_back, splice_stop, write_named,
-};
+use tinyvec_slots::authors::{CanCut, CanSplice, resolve_range, splice_over};
+use tinyvec_slots::{NoRoom, Splice};
 
-/// Yields the items of a range, and puts those of `replacement` in their place. Each item taken from one end is replaced by
-/// one item of `replacement` from that end. A splice must be finished by `finish`, `finish_counted` or `stop`.
-pub struct TinyVecSplice<'a, A: Array, I: Drop> {
-    vec: &'a mut TinyVec<A>,
-    gap: Gap,
-    replacement: I,
-    // Always true, so the destructor's precondition cannot be proved: a splice must be finished, not dropped.
-    unspent: bool,
-}
-
-impl<'a, A: Array, I: Drop> Drop for TinyVecSplice<'a, A, I> {
-    fn drop(self)
-        requires { self.unspent ≡ false }
-    {
-        let TinyVecSplice {
-            vec: _,
-            gap: _,
-            replacement: _,
-            unspent: _,
-        } = self;
-    }
-}
+/// Yields the items of a range of a `TinyVec`, and puts those of `replacement` in their place.
+pub type TinyVecSplice<'a, A, I> = Splice<'a, TinyVec<A>, I>;
 
 impl<A: Array> TinyVec<A> {
-    ghost use Rattle.tinyvec.specs.TinyVecSplice.{splice_view, splice_len, splice_replacement, splice_vec, splice_lender, SpliceCanStep};
+    ghost use Rattle.tinyvec_slots.specs.Splice.{splice_view, splice_len, splice_replacement, splice_vec, splice_lender, SpliceCanStep};
 
     /// Removes the range, yields its items from both ends, and puts those of `replacement` in their place.
     ///
@@ -63,20 +38,16 @@ impl<A: Array> TinyVec<A> {
         requires in_list { IsRangeOf (tiny_items_of A.Slots self.old) (R.start_bound range) (R.end_bound range) }
         ensures begins { SpliceBegins (before (tiny_items_of A.Slots self.old) (R.start_bound range))
             (removed (tiny_items_of A.Slots self.old) (R.start_bound range) (R.end_bound range))
-            (after (tiny_items_of A.Slots self.old) (R.end_bound range)) (splice_view A.Slots result) (splice_len result) }
+            (after (tiny_items_of A.Slots self.old) (R.end_bound range)) (splice_view (tiny_items_of A.Slots) result)
+            (splice_len result) }
         ensures replacement { I.into_iter_gives replacement (fuse_source (splice_replacement result)) }
         ensures unasked { fuse_done (splice_replacement result) ≡ false }
         ensures vec { splice_vec result ≡ self.old }
         ensures same_reference { splice_lender result ≡ self.entry.ghost_name }
-        ensures ready { SpliceCanStep A.Slots result }
+        ensures ready { SpliceCanStep (tiny_items_of A.Slots) result }
     {
         let part = resolve_range(range, self.len());
-        TinyVecSplice {
-            vec: self,
-            gap: Gap::new(part.start, part.end),
-            replacement: replacement.into_iter().fuse(),
-            unspent: true,
-        }
+        splice_over(self, part.start, part.end, replacement.into_iter())
     }
 
     /// Puts the items of `replacement` in the place of the range, whose items it drops: `splice` and `finish` in one. If an
@@ -88,7 +59,7 @@ impl<A: Array> TinyVec<A> {
         &mut self,
         range: R,
         replacement: I,
-    ) -> Result<(), SpliceRest<A::Item, Fuse<I::IntoIter>>>
+    ) -> Result<(), NoRoom<A::Item, Fuse<I::IntoIter>>>
         requires not_exhausted { R.has_bounds range }
         requires in_list { IsRangeOf (tiny_items_of A.Slots self.old) (R.start_bound range) (R.end_bound range) }
         requires can { (it : I.IntoIter) → I.into_iter_gives replacement it
@@ -185,155 +156,20 @@ impl<A: Array> TinyVec<A> {
     }
 }
 
-impl<'a, A: Array, I: Iterator<Item = A::Item>> Iterator for TinyVecSplice<'a, A, Fuse<I>> {
-    ghost use Rattle.tinyvec.specs.TinyVecSplice.{splice_len, splice_replacement, SpliceCanStep, SpliceCanNext, SpliceSteps};
-
-    type Item = A::Item;
-
-    ghost can_next = { SpliceCanNext A.Slots I.can_next };
-
-    ghost next_gives = { SpliceSteps A.Slots (fuse_steps I.next_gives) };
-
-    ghost remaining = { λ s. at_most (splice_len s) };
-
-    fn next(&mut self) -> Option<A::Item>
-        requires { SpliceCanNext A.Slots I.can_next self.old }
-        ensures steps { SpliceSteps A.Slots (fuse_steps I.next_gives) self.old result self.new }
-        ensures goes { MakesProgress (SpliceCanNext A.Slots I.can_next) (λ s. at_most
-            (splice_len s)) self.old result self.new }
-        ensures ready { SpliceCanStep A.Slots self.new }
-        ensures finite { FusedFinite I.remaining (splice_replacement self.old)
-            → FusedFinite I.remaining (splice_replacement self.new) }
-    {
-        splice_next(self.vec, &mut self.gap, &mut self.replacement)
-    }
-
-    /// Both bounds are the number of removed items that are left.
-    fn size_hint(&self) -> (usize, Option<usize>)
-        ensures lower { IsWithinCount result.0 (at_most (splice_len self.now)) }
-        ensures upper { IfSome result.1 (UpTo (at_most (splice_len self.now))) }
-        ensures exact { (result.0 ≡ splice_len self.now) × (result.1 ≡ Some (splice_len self.now)) }
-    {
-        let len = self.len();
-        (len, Some(len))
-    }
-}
-
-impl<'a, A: Array, I: DoubleEndedIterator<Item = A::Item>> DoubleEndedIterator
-    for TinyVecSplice<'a, A, Fuse<I>> {
-    ghost use Rattle.tinyvec.specs.TinyVecSplice.{splice_len, splice_replacement, SpliceCanStep, SpliceCanNext, SpliceStepsBack};
-
-    ghost can_next_back = { SpliceCanNext A.Slots I.can_next_back };
-
-    ghost next_back_gives = { SpliceStepsBack A.Slots (fuse_steps I.next_back_gives) };
-
-    fn next_back(&mut self) -> Option<A::Item>
-        requires { SpliceCanNext A.Slots I.can_next_back self.old }
-        ensures steps { SpliceStepsBack A.Slots (fuse_steps I.next_back_gives) self.old result self.new }
-        ensures goes { MakesProgress (SpliceCanNext A.Slots I.can_next_back)
-            (λ s. at_most (splice_len s)) self.old result self.new }
-        ensures ready { SpliceCanStep A.Slots self.new }
-        ensures finite { FusedFinite I.remaining (splice_replacement self.old)
-            → FusedFinite I.remaining (splice_replacement self.new) }
-    {
-        splice_next_back(self.vec, &mut self.gap, &mut self.replacement)
-    }
-}
-
-impl<'a, A: Array, I: Iterator<Item = A::Item>> ExactSizeIterator
-    for TinyVecSplice<'a, A, Fuse<I>> {
-    fn len(&self) -> usize {
-        self.gap.len()
-    }
-}
-
-impl<'a, A: Array, I: Iterator<Item = A::Item>> FusedIterator for TinyVecSplice<'a, A, Fuse<I>> {}
-
-impl<'a, A: Array, I: Drop> fmt::Debug for TinyVecSplice<'a, A, I>
-where
-    A::Item: fmt::Debug,
-{
-    ghost use Rattle.tinyvec.specs.TinyVecSplice.{splice_left};
-
-    ghost debug_output = { λ s. debug_variant (codes "TinyVecSplice") (debug_list A.Item.debug_output
-        (splice_left A.Slots s)) };
-
-    fn fmt<W: fmt::Write>(&self, f: &mut fmt::Formatter<W>) -> fmt::Result {
-        write_named(f, "TinyVecSplice", self.gap.left(self.vec.as_slice()))
-    }
-}
-
-impl<'a, A: Array, I: Iterator<Item = A::Item>> TinyVecSplice<'a, A, Fuse<I>> {
-    ghost use Rattle.tinyvec.specs.TinyVecSplice.{splice_view, splice_front, splice_back, splice_replacement, splice_vec, splice_touches, SpliceCanStep, SpliceCanNext, SpliceEnds};
-
-    /// The number of touches since `splice`. A touch takes the item of one slot, which may leave a default there, places
-    /// one item, or swaps two slots. An item that moves to the heap is a touch too.
-    pub fn touches(&self) -> u128
-        ensures { result ≡ splice_touches A.Slots self.now }
-    {
-        self.gap.touches()
-    }
-
-    /// Drops the removed items that are left, and puts the rest of the replacement between what was placed from both ends.
-    /// The rest is pushed item by item, so a list that outgrows its array moves to the heap. If the allocator refuses,
-    /// returns the item that found no room and the rest of the replacement.
-    pub fn finish(self) -> Result<(), SpliceRest<A::Item, Fuse<I>>>
-        requires can { SpliceCanNext A.Slots I.can_next self }
-        requires finite { FusedFinite I.remaining (splice_replacement self) }
-        ensures { SpliceEnds A.Slots A.Item.is_default A.CAPACITY I.Iterator self.entry result self.exit.0.now }
-    {
-        let (finished, _touches) = self.finish_counted();
-        finished
-    }
-
-    /// `finish`, and the number of touches since `splice`.
-    #[inline(always)]
-    pub fn finish_counted(self) -> (Result<(), SpliceRest<A::Item, Fuse<I>>>, u128)
-        requires can { SpliceCanNext A.Slots I.can_next self }
-        requires finite { FusedFinite I.remaining (splice_replacement self) }
-        ensures touches { FinishTouches (splice_view A.Slots self.entry) (tiny_len_of A.Slots (splice_vec self.entry))
-            (items_moved A.CAPACITY (is_inline (splice_vec self.entry)) (is_inline self.exit.0.now))
-            (tiny_items_of A.Slots self.exit.0.now) result.1 }
-        ensures finish { SpliceEnds A.Slots A.Item.is_default A.CAPACITY I.Iterator self.entry result.0 self.exit.0.now }
-    {
-        let TinyVecSplice {
-            vec,
-            gap,
-            replacement,
-            unspent: _,
-        } = self;
-        splice_finish(vec, gap, replacement)
-    }
-
-    /// Drops the removed items that are left, and returns the rest of the replacement without calling `next`. It may be
-    /// infinite.
-    pub fn stop(self) -> Fuse<I>
-        requires { SpliceCanStep A.Slots self }
-        ensures rest { result ≡ splice_replacement self.entry }
-        ensures becomes { Becomes A.Item.is_default A.CAPACITY (tiny_view_of A.Slots (splice_vec self.entry))
-            (tiny_view_of A.Slots self.exit.0.now)
-            (splice_front A.Slots self.entry ++ splice_back A.Slots self.entry) }
-    {
-        let TinyVecSplice {
-            vec,
-            gap: mut unfilled,
-            replacement,
-            unspent: _,
-        } = self;
-        splice_stop(vec, &mut unfilled);
-        replacement
-    }
-}
-
 impl<A: Array> CanSplice for TinyVec<A> {
-    ghost use Rattle.tinyvec.specs.FrameLaws.{SameFrame-refl};
-    ghost use Rattle.tinyvec.specs.SpliceLaws.{frame_grows, frame_moved, stays_grows, stays};
+    ghost use Rattle.tinyvec.specs.SpliceLaws.{frame_refl, frame_then, frame_grows, frame_moved, stays_grows, stays};
 
     ghost moved = { λ v w. items_moved A.CAPACITY (is_inline v) (is_inline w) };
 
     ghost must_end = { true };
 
+    ghost splice_word = { codes "TinyVecSplice" };
+
     ghost Grown = { λ v w. Grows A.Item.is_default A.CAPACITY (tiny_view_of A.Slots v) (tiny_view_of A.Slots w) };
+
+    fn splice_name() -> &'static str {
+        "TinyVecSplice"
+    }
 
     #[inline]
     fn len(&self) -> usize {
@@ -343,18 +179,19 @@ impl<A: Array> CanSplice for TinyVec<A> {
     fn extend_counted<I: Iterator<Item = A::Item>>(
         &mut self,
         iter: I,
-    ) -> (Result<(), SpliceRest<A::Item, I>>, usize) {
+    ) -> (Result<(), NoRoom<A::Item, I>>, usize) {
         let was_inline = self.is_inline();
-        let appended = match self.extend(iter) {
-            Ok(()) => Ok(()),
-            Err(NoRoom { item, rest }) => Err(SpliceRest { item, rest }),
-        };
+        let appended = self.extend(iter);
         (appended, count_move::<A>(was_inline, self.is_inline()))
     }
 
-    ghost kept_same = { λ v. SameFrame-refl (tiny_view_of A.Slots v) };
+    ghost kept_same = { frame_refl A.Slots };
+
+    ghost kept_then = { frame_then A.Slots };
 
     ghost kept_room = { λ v w k. k.capacity A.CAPACITY };
+
+    ghost kept_len = { λ v w k. k.len };
 
     ghost kept_grown = { λ u v w x. frame_grows A.Item.is_default A.CAPACITY (tiny_view_of A.Slots u)
         (tiny_view_of A.Slots v) (tiny_view_of A.Slots w) (tiny_view_of A.Slots x) };
@@ -400,6 +237,11 @@ impl<A: Array> CanCut for TinyVec<A> {
 
     ghost Truncated = { λ v w. StaysInPlace A.Item.is_default A.CAPACITY (tiny_view_of A.Slots v)
         (tiny_view_of A.Slots w) };
+
+    #[inline]
+    fn as_slice(&self) -> &[A::Item] {
+        self.as_slice()
+    }
 
     #[inline]
     fn as_mut_slice(&mut self) -> &mut [A::Item] {

@@ -126,6 +126,7 @@ impl<A: Slots> TinyVec<A> {
     }
 }
 
+// What asks for the number of the slots, which an array's type says, or makes an array.
 impl<A: Array> TinyVec<A> {
     /// The number of items.
     pub fn len(&self) -> usize

@@ -9,7 +9,7 @@ ghost use Rattle.tinyvec.specs.OnHeap.{HeapBecomes, PushesClones};
 
 use std::alloc::AllocError;
 use std::mem;
-use tinyvec_slots::{clone_each, fit_registers};
+use tinyvec_slots::authors::{clone_each, fit_registers};
 
 // Appends clones of `from`, if there is room.
 pub(crate) fn push_clones<T: Clone>(heap: &mut Vec<T>, from: &[T]) -> Result<(), AllocError>

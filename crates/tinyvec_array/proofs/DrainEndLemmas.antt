@@ -7,7 +7,7 @@ use Rattle.tinyvec_slots.proofs.Lists.{length-remove_range, length-slice_range}
 use Rattle.tinyvec_slots.proofs.SlotsLemmas.{slots_are, slots_freed, defaults_are}
 use Rattle.tinyvec_array.specs.ArrayVec.{view_of, items_of, spare_of, len_of, slots_of}
 use Rattle.tinyvec_array.specs.Drain.{DrainLeaves, DrainKeeps, drain_items, drain_kept, drain_count, drain_spare}
-use Rattle.tinyvec_array.specs.declared.storage.Slots as Storage
+use Rattle.tinyvec_array.specs.declared.slots.Slots as Storage
 use Rattle.tinyvec_array.specs.declared.array_vec.ArrayVec.{ArrayVec}
 use Rattle.tinyvec_array.specs.declared.drain.ArrayVecDrain.{ArrayVecDrain}
 

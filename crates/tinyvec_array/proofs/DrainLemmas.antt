@@ -6,7 +6,7 @@ use Rattle.tinyvec_slots.specs.Slots.{Vacates}
 use Rattle.tinyvec_slots.proofs.AnyDrainLemmas.{runs_in_order, runs_in_reverse, step_keeps, step_back_keeps, nth_keeps, takes_any_word}
 use Rattle.tinyvec_array.specs.ArrayVec.{view_of, spare_of}
 use Rattle.tinyvec_array.specs.Drain.{drain_items, drain_count, drain_spare, DrainSteps, DrainStepsBack, DrainsFromEnds, DrainKeeps, DrainLeaves}
-use Rattle.tinyvec_array.specs.declared.storage.Slots as Storage
+use Rattle.tinyvec_array.specs.declared.slots.Slots as Storage
 use Rattle.tinyvec_array.specs.declared.array_vec.ArrayVec.{ArrayVec}
 use Rattle.tinyvec_array.specs.declared.drain.ArrayVecDrain.{ArrayVecDrain}
 

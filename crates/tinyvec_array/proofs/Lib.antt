@@ -4,7 +4,6 @@ pub mod AppendsLemmas
 pub mod DrainLemmas
 pub mod DrainEndLemmas
 pub mod Named
-pub mod SpliceLemmas
 pub mod IntoIterLemmas
 mod ResizingLemmas
 mod Walks

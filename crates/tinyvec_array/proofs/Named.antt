@@ -1,8 +1,7 @@
 -- What `Slots` says of an array and of a lent slice. A proof by name passes it to the lemmas, as `drained D d only (array_slots 4) ..`.
 use Rattle.std.proofs.Common.{◌≡◌, ℕ, List, length, refl}
-use Rattle.std.specs.Prelude.{codes}
 use Rattle.std.specs.Borrow.{GName, MutBor}
-use Rattle.tinyvec_array.specs.declared.storage.Slots as Storage
+use Rattle.tinyvec_array.specs.declared.slots.Slots as Storage
 use Rattle.tinyvec_array.specs.declared.bound.UpTo.{UpTo}
 use Rattle.tinyvec_array.specs.UpTo.{up_to, up_to-len}
 
@@ -20,7 +19,6 @@ array_slots n = record {
   slots_written = λ a xs. refl;
   rewritten = λ a xs ys. refl;
   name_kept = λ a xs. refl;
-  drain_word = codes "ArrayVecDrain";
 }
 
 -- a slice that is lent for writing
@@ -37,5 +35,4 @@ lent_slots = record {
   slots_written = λ lent xs. refl;
   rewritten = λ lent xs ys. refl;
   name_kept = λ lent xs. refl;
-  drain_word = codes "SliceVecDrain";
 }

@@ -49,8 +49,8 @@ use denote.Slice.{MutSlice, Room, slice_val, mut_slice_Tells}
 use denote.Steps.{heard, peeks, only}
 use denote.Triple.Spec.{triple_of}
 use denote.Triple.Statement.{Contract}
-use Rattle.tinyvec_array.specs.declared.storage.Slots as Storage
-use Rattle.tinyvec_array.specs.contracts.storage.Slots.as_slice_mut as AM
+use Rattle.tinyvec_array.specs.declared.slots.Slots as Storage
+use Rattle.tinyvec_array.specs.contracts.slots.Slots.as_slice_mut as AM
 
 -- the parameter, its items and lengths, and what a statement assumes of them
 pub record Par : Type 2 where

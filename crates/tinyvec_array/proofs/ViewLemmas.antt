@@ -15,7 +15,7 @@ use Rattle.tinyvec_array.specs.Lends.{at_slots, with_items_of}
 use Rattle.tinyvec_array.specs.CutLaws.{CutOf}
 use Rattle.tinyvec_array.specs.SpliceLaws.{cut_lender}
 pub use Rattle.tinyvec_array.specs.SpliceLaws.{parts_of, vacated_count}
-use Rattle.tinyvec_array.specs.declared.storage.Slots as Storage
+use Rattle.tinyvec_array.specs.declared.slots.Slots as Storage
 use Rattle.tinyvec_array.specs.declared.array_vec.ArrayVec.{ArrayVec}
 
 -- what was written over the first n slots leaves the list as long as it was

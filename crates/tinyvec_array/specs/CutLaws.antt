@@ -6,7 +6,7 @@ use Rattle.tinyvec_slots.proofs.SlotsLemmas.{written_shortened}
 use Rattle.tinyvec_array.specs.SliceParts.{with_front, with_front-as_long}
 use Rattle.tinyvec_array.specs.ArrayVec.{view_of, items_of, name_of}
 use Rattle.tinyvec_array.specs.Lends.{with_items_of}
-use Rattle.tinyvec_array.specs.declared.storage.Slots as Storage
+use Rattle.tinyvec_array.specs.declared.slots.Slots as Storage
 use Rattle.tinyvec_array.specs.declared.array_vec.ArrayVec.{ArrayVec}
 
 -- A list of n items was written as a slice, which keeps its length. k is the vector's `len`, which may be more than there are

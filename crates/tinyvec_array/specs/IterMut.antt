@@ -3,7 +3,7 @@ use Rattle.std.specs.Borrow.{Fml, RattleType, MutBor, Array, follows}
 use Rattle.std.specs.Slice.Iter.{iter_mut_name}
 use Rattle.std.specs.declared.slice.IterMut.{IterMut}
 use Rattle.tinyvec_array.specs.Lends.{with_items_of}
-use Rattle.tinyvec_array.specs.declared.storage.Slots as Storage
+use Rattle.tinyvec_array.specs.declared.slots.Slots as Storage
 use Rattle.tinyvec_array.specs.declared.array_vec.ArrayVec.{ArrayVec}
 use Rattle.tinyvec_array.specs.contracts.array_vec.ArrayVec.{the_row}
 

@@ -3,7 +3,7 @@ use Rattle.std.specs.Prelude.{ℕ, ◌+◌, ◌++◌, List, length, drop, insert
 use Rattle.std.specs.Borrow.{Lends, Fml, MutBor, RattleType, Array}
 use Rattle.tinyvec_array.specs.SliceParts.{with_front, with_back}
 use Rattle.tinyvec_array.specs.ArrayVec.{items_of, spare_of}
-use Rattle.tinyvec_array.specs.declared.storage.Slots as Storage
+use Rattle.tinyvec_array.specs.declared.slots.Slots as Storage
 use Rattle.tinyvec_array.specs.declared.array_vec.ArrayVec.{ArrayVec}
 use Rattle.tinyvec_array.specs.contracts.array_vec.ArrayVec.{the_row}
 

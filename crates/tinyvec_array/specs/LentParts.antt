@@ -2,7 +2,7 @@
 use Rattle.std.specs.Prelude.{ℕ, List, slice_set}
 use Rattle.std.specs.Borrow.{Lends, Fml, MutBor, RattleType, Array as ListOf}
 use Rattle.tinyvec_array.specs.SliceParts.{with_part}
-use Rattle.tinyvec_array.specs.declared.storage.Slots as Storage
+use Rattle.tinyvec_array.specs.declared.slots.Slots as Storage
 
 module _ (S I : RattleType) {L : Type 0} (g : Storage.Ghosts S.Denot I.Denot L) (s : MutBor S.Denot) where
   -- once the borrow r ends, the slots from i up to j are those that r shows last

@@ -9,6 +9,7 @@ pub use Rattle.tinyvec_slots.specs.Clones
 pub use Rattle.tinyvec_slots.specs.Texts
 pub use Rattle.tinyvec_slots.specs.Fused
 pub use Rattle.tinyvec_slots.specs.AnySplice
+pub use Rattle.tinyvec_slots.specs.Splice
 pub use Rattle.tinyvec_slots.specs.SplicedByWord
 pub use Rattle.tinyvec_slots.specs.Replacing
 pub mod SliceParts
@@ -23,6 +24,5 @@ pub mod IntoIter
 pub mod Making
 pub mod Appends
 pub mod CutLaws
-pub mod Splice
 pub mod SpliceLaws
 pub mod UpTo

@@ -4,7 +4,7 @@ use Rattle.tinyvec_slots.specs.Slots.{SlotRule}
 use Rattle.tinyvec_slots.proofs.SlotsLemmas.{shortened}
 use Rattle.tinyvec_array.specs.ArrayVec.{view_of, items_of, spare_of, slots_of, SameLender, VacatesOf, Changes}
 use Rattle.tinyvec_array.specs.CutLaws.{KeptOf, CutOf}
-use Rattle.tinyvec_array.specs.declared.storage.Slots as Storage
+use Rattle.tinyvec_array.specs.declared.slots.Slots as Storage
 use Rattle.tinyvec_array.specs.declared.array_vec.ArrayVec.{ArrayVec}
 
 module _ {S T L : Type 0} (g : Storage.Ghosts S T L) where
@@ -13,6 +13,9 @@ module _ {S T L : Type 0} (g : Storage.Ghosts S T L) where
 
   pub kept_refl : (v : ArrayVec S L) → KeptOf g v v
   kept_refl v = (refl, (refl, refl))
+
+  pub kept_then : (u v w : ArrayVec S L) → KeptOf g u v → KeptOf g v w → KeptOf g u w
+  kept_then u v w h k = (k.0 ∙ h.0, (k.1.0 ∙ h.1.0, k.1.1 ∙ h.1.1))
 
   -- a write of the list leaves as many slots
   pub kept_count : (v w : ArrayVec S L) → KeptOf g v w → length (slots_of g w) ≡ length (slots_of g v)

@@ -8,20 +8,21 @@ ghost use Rattle.tinyvec_array.specs.ArrayVec.{view_of, items_of, spare_of, slot
 ghost use Rattle.tinyvec_array.specs.Lends.{lends_items, lends_inner, lends_spare};
 ghost use Rattle.tinyvec_slots.specs.Filling.{Iterates, IteratesMut};
 
-mod array;
 mod edits;
 mod extending;
 mod filters;
-mod lent;
+mod in_array;
+mod in_slice;
 mod traits;
 
 use crate::Slots;
 use crate::parts::part_of;
 use crate::places::bounded_index;
+use crate::tuned::resetting::fill_default;
+use crate::tuned::shifting::move_to_end_below;
 use std::alloc::AllocError;
 use std::convert::AsSlice;
 use std::{mem, slice};
-use tinyvec_slots::{fill_default, move_to_end_below};
 
 /// A list in slots: in an array, or in a slice that is lent for writing. The slots after the list are its spare slots: they
 /// hold values too, and vacated ones hold defaults. When a vector in a lent slice is dropped, the owner of the slots sees
@@ -47,6 +48,7 @@ impl<S: Drop + Copy, L: Drop + Copy> Clone for ArrayVec<S, L> {
     }
 }
 
+// What needs no default, so that it goes for an item that holds such a vector too.
 impl<S: Slots> ArrayVec<S> {
     /// The number of items.
     pub fn len(&self) -> usize
@@ -198,6 +200,7 @@ impl<S: Slots> ArrayVec<S> {
     }
 }
 
+// What leaves defaults, for the calls of other files.
 impl<S: Slots> ArrayVec<S>
 where
     S::Item: Default,

@@ -2,7 +2,7 @@
 ghost use Rattle.std.specs.Prelude.{length};
 
 use crate::{ArrayVec, Slots};
-use tinyvec_slots::CanCut;
+use tinyvec_slots::authors::CanCut;
 
 impl<S: Slots> CanCut for ArrayVec<S>
 where
@@ -23,6 +23,11 @@ where
     ghost Kept = { KeptOf S.Slots };
 
     ghost Truncated = { CutOf S.Slots S.Item.is_default };
+
+    #[inline]
+    fn as_slice(&self) -> &[S::Item] {
+        self.as_slice()
+    }
 
     #[inline]
     fn as_mut_slice(&mut self) -> &mut [S::Item] {

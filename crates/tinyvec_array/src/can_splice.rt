@@ -1,21 +1,28 @@
 //! `CanSplice`, which `replace_range` needs.
-ghost use Rattle.std.specs.Prelude.{false, refl};
+ghost use Rattle.std.specs.Prelude.{codes, false, refl};
 
 use crate::{ArrayVec, Slots};
-use tinyvec_slots::{CanSplice, NoRoom, SpliceRest};
+use tinyvec_slots::NoRoom;
+use tinyvec_slots::authors::CanSplice;
 
 impl<S: Slots> CanSplice for ArrayVec<S>
 where
     S::Item: Default,
 {
     ghost use Rattle.tinyvec_array.specs.ArrayVec.{Changes};
-    ghost use Rattle.tinyvec_array.specs.SpliceLaws.{kept_refl, kept_count, changed_around, cut_changes, not_fewer};
+    ghost use Rattle.tinyvec_array.specs.SpliceLaws.{kept_refl, kept_then, kept_count, changed_around, cut_changes, not_fewer};
 
     ghost moved = { λ _ _. 0 };
 
     ghost must_end = { false };
 
+    ghost splice_word = { codes "ArrayVecSplice" };
+
     ghost Grown = { Changes S.Slots S.Item.is_default };
+
+    fn splice_name() -> &'static str {
+        "ArrayVecSplice"
+    }
 
     #[inline]
     fn len(&self) -> usize {
@@ -26,16 +33,17 @@ where
     fn extend_counted<I: Iterator<Item = S::Item>>(
         &mut self,
         iter: I,
-    ) -> (Result<(), SpliceRest<S::Item, I>>, usize) {
-        match self.extend(iter) {
-            Ok(()) => (Ok(()), 0),
-            Err(NoRoom { item, rest }) => (Err(SpliceRest { item, rest }), 0),
-        }
+    ) -> (Result<(), NoRoom<S::Item, I>>, usize) {
+        (self.extend(iter), 0)
     }
 
     ghost kept_same = { kept_refl S.Slots };
 
+    ghost kept_then = { kept_then S.Slots };
+
     ghost kept_room = { kept_count S.Slots };
+
+    ghost kept_len = { λ v w k. k.1.1 };
 
     ghost kept_grown = { changed_around S.Slots S.Item.is_default };
 

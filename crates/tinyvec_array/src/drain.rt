@@ -1,5 +1,5 @@
 //! What moves a range of items out of a vector.
-ghost use Rattle.std.specs.Prelude.{◌≡◌, ◌++◌, length, Some, IfSome, ◌≤◌, ◌+◌, ◌^◌, IsErr, vec_len, vec_capacity};
+ghost use Rattle.std.specs.Prelude.{◌≡◌, ◌++◌, length, Some, IfSome, ◌≤◌, ◌+◌, ◌^◌, codes, IsErr, vec_len, vec_capacity};
 ghost use Rattle.std.specs.Fmt.{debug_list, debug_variant};
 ghost use Rattle.std.specs.Iterator.{at_most, UpTo};
 ghost use Rattle.std.specs.Iterator.SizeHint.{IsWithinCount};
@@ -12,7 +12,7 @@ use std::alloc::{AllocError, Global};
 use std::fmt;
 use std::iter::FusedIterator;
 use std::ops::RangeBounds;
-use tinyvec_slots::{resolve_range, subslice, take_all, write_named};
+use tinyvec_slots::authors::{resolve_range, subslice, take_all, write_named};
 
 /// Yields the items of a range, which the list no longer has. When it is dropped, their slots hold defaults.
 pub struct ArrayVecDrain<'a, S: Slots>
@@ -156,15 +156,16 @@ where
 {
     ghost use Rattle.tinyvec_array.specs.Drain.{drain_items};
 
-    ghost debug_output = { λ d. debug_variant S.Slots.drain_word
+    ghost debug_output = { λ d. debug_variant (codes "ArrayVecDrain")
         (debug_list S.Item.debug_output (drain_items S.Slots d)) };
 
     fn fmt<W: fmt::Write>(&self, f: &mut fmt::Formatter<W>) -> fmt::Result {
         let vacated = self.vec.grab_spare_slice();
-        write_named(f, S::drain_name(), subslice(vacated, self.front, self.back))
+        write_named(f, "ArrayVecDrain", subslice(vacated, self.front, self.back))
     }
 }
 
+// What moves the items out in one call, and returns no drain.
 impl<S: Slots> ArrayVec<S>
 where
     S::Item: Default,

@@ -5,7 +5,8 @@ use crate::places::{bounded_index, knows_slots};
 use crate::{Array, ArrayVec};
 use std::alloc::AllocError;
 use std::mem;
-use tinyvec_slots::{OwnedItems, OwnsItems};
+use tinyvec_slots::OwnedItems;
+use tinyvec_slots::authors::OwnsItems;
 
 /// Yields the items of a vector from both ends.
 pub type ArrayVecIterator<A> = OwnedItems<ArrayVec<A>>;
@@ -17,11 +18,6 @@ impl<A: Array> OwnsItems for ArrayVec<A> {
 
     fn iterator_name() -> &'static str {
         "ArrayVecIterator"
-    }
-
-    #[inline]
-    fn as_slice(&self) -> &[A::Item] {
-        self.as_slice()
     }
 
     #[inline]

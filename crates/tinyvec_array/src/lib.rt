@@ -11,18 +11,21 @@ mod into_iter;
 mod macros;
 mod parts;
 mod places;
+mod slots;
 mod splice;
-mod storage;
 mod takes_clones;
 mod try_from_slice_error;
+mod tuned;
 
 pub use array::Array;
 pub use array_vec::{ArrayVec, SliceVec};
 pub use bound::UpTo;
 pub use drain::{ArrayVecDrain, SliceVecDrain};
 pub use into_iter::ArrayVecIterator;
+pub use slots::Slots;
 pub use splice::ArrayVecSplice;
-pub use storage::Slots;
 pub use takes_clones::TakesClones;
-pub use tinyvec_slots::{CapacityError, ExtractIf, FromIterRest, NoMemory, NoRoom, SpliceRest};
+pub use tinyvec_slots::{
+    CapacityError, ExtractIf, FromIterRest, NoMemory, NoRoom, Splice, SpliceRest,
+};
 pub use try_from_slice_error::TryFromSliceError;

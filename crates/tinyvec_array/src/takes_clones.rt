@@ -3,8 +3,9 @@ ghost use Rattle.std.specs.Prelude.{◌+◌, ◌≤◌, length};
 ghost use Rattle.tinyvec_slots.specs.Clones.{ClonesOverFrom, WritesClones};
 
 use crate::Slots;
+use crate::tuned::cloning::clone_each_from;
 use std::alloc::AllocError;
-use tinyvec_slots::{clone_each_from, clone_over_from};
+use tinyvec_slots::authors::clone_over_from;
 
 /// Slots over which clones are written: those of an array by blocks, which are made on the stack from defaults, those of a
 /// lent slice one by one.

@@ -4,17 +4,21 @@ ghost use Rattle.std.specs.Prelude.{◌*◌, ◌^◌, ◌<◌};
 use crate::cutting::cuts;
 use crate::dates::of_dates;
 use crate::edits::ListBench;
-use crate::form::of_forms;
+use crate::form::{of_forms, of_text_forms, of_tiny_forms};
 use crate::growth::{of_arrays, of_lists};
+use crate::long::of_long_lists;
 use crate::nodes::{Node, of_nodes};
 use crate::report::Report;
 use crate::rows::{of_bytes, of_edits, of_few, of_looks};
-use crate::slices::of_slices;
+use crate::slices::{of_slice_edits, of_slices};
+use crate::slot_calls::{of_lent, of_slots};
 use crate::sources::pairs;
 use crate::spilling::{of_long, of_spilling};
 use crate::splicing::splices;
 use crate::text_calls::of_text_calls;
+use crate::text_own::of_text_own;
 use crate::texts::of_texts;
+use crate::tiny_calls::of_tiny_calls;
 use crate::vector::{Place, Vector, Words};
 use std::alloc::Global;
 use std::fmt::Debug;
@@ -40,9 +44,33 @@ pub fn all_rows<R: Report>(report: &mut R, alloc: Global) {
     of_long(report, alloc, 64);
     of_long(report, alloc, 1024);
     of_long(report, alloc, 16384);
+    of_calls(report, alloc);
     report.set_prefix("");
-    at_capacities!(report, alloc, of_forms: 16 1024);
+    at_capacities!(report, alloc, of_forms: 16 64 1024 16384);
+    of_tiny_forms(report, alloc, 64);
+    of_text_forms(report, alloc, 64);
+    of_tiny_forms(report, alloc, 16384);
+    of_text_forms(report, alloc, 16384);
     in_texts(report, alloc);
+}
+
+// The calls that other rows leave out.
+fn of_calls<R: Report>(report: &mut R, alloc: Global) {
+    report.set_prefix("slice_");
+    at_capacities!(report, alloc, of_lent: 64 16384);
+    report.set_prefix("");
+    at_capacities!(report, alloc, of_slots: 64 16384);
+    of_edits::<R, ArrayVec<[u64; 16384]>, 16384>(report, alloc, Place::Inline);
+    of_cuts::<R, ArrayVec<[u64; 16384]>, 16384>(report, alloc, Place::Inline);
+    report.set_prefix("slice_");
+    of_slice_edits::<R, 16384>(report);
+    report.set_prefix("tiny_");
+    of_tiny_calls::<R, 64>(report, alloc, 64);
+    report.set_prefix("tiny_long_");
+    of_tiny_calls::<R, 4>(report, alloc, 64);
+    of_tiny_calls::<R, 4>(report, alloc, 16384);
+    of_long_lists(report, alloc, 64);
+    of_long_lists(report, alloc, 16384);
 }
 
 // The rows of each vector of `N` slots.
@@ -127,8 +155,13 @@ fn in_texts<R: Report>(report: &mut R, alloc: Global) {
     of_texts::<R, 32>(report, InlineText::new(alloc), alloc, 64);
     of_dates::<R, 64>(report, InlineText::new(alloc), alloc);
     of_text_calls::<R, 128>(report, alloc, 64);
+    of_text_own::<R, 128>(report, alloc, 64);
+    report.set_prefix("heap_");
+    of_text_calls::<R, 16>(report, alloc, 64);
+    report.set_prefix("");
     of_text_calls::<R, 16>(report, alloc, 1024);
     of_text_calls::<R, 16>(report, alloc, 16384);
+    of_text_own::<R, 16>(report, alloc, 16384);
 }
 
 /// The lengths of a list that grows.

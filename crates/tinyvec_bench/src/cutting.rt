@@ -48,9 +48,9 @@ pub fn extend_from_range<V: Words<N>, const N: usize>(vec: &mut V, x: u64) -> u6
     vec.len() as u64
 }
 
-// Fills the vector, and takes the middle half out.
+/// Fills the vector, and takes the middle half out.
 #[inline(never)]
-fn drain_taken<V: Words<N>, const N: usize>(vec: &mut V, source: &[u64], x: u64) -> u64 {
+pub fn drain_taken<V: Words<N>, const N: usize>(vec: &mut V, source: &[u64], x: u64) -> u64 {
     extend_from_slice(vec, source, x);
     let len = vec.len();
     vec.drain_taken(len / 4, len - len / 4, x)
@@ -73,17 +73,17 @@ pub fn retain_half<V: Words<N>, const N: usize>(vec: &mut V, source: &[u64], x: 
     x.wrapping_add(vec.len() as u64)
 }
 
-// Fills the vector with runs, and keeps one of each.
+/// Fills the vector with runs, and keeps one of each.
 #[inline(never)]
-fn dedup<V: Words<N>, const N: usize>(vec: &mut V, runs: &[u64], x: u64) -> u64 {
+pub fn dedup<V: Words<N>, const N: usize>(vec: &mut V, runs: &[u64], x: u64) -> u64 {
     extend_from_slice(vec, runs, x);
     vec.dedup();
     x.wrapping_add(vec.len() as u64)
 }
 
-// Fills the vector, and takes the odd items out.
+/// Fills the vector, and takes the odd items out.
 #[inline(never)]
-fn extract_half<V: Words<N>, const N: usize>(vec: &mut V, source: &[u64], x: u64) -> u64 {
+pub fn extract_half<V: Words<N>, const N: usize>(vec: &mut V, source: &[u64], x: u64) -> u64 {
     extend_from_slice(vec, source, x);
     vec.extract_odd(x)
 }

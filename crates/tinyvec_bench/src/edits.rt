@@ -136,9 +136,9 @@ pub fn insert_front<T: Item, V: Vector<T, N>, const N: usize>(vec: &mut V, x: u6
     last.value()
 }
 
-// Pops an item, and inserts one in the middle.
+/// Pops an item, and inserts one in the middle.
 #[inline(never)]
-fn insert_middle<T: Item, V: Vector<T, N>, const N: usize>(vec: &mut V, x: u64) -> u64 {
+pub fn insert_middle<T: Item, V: Vector<T, N>, const N: usize>(vec: &mut V, x: u64) -> u64 {
     let Some(last) = vec.pop() else {
         return 0;
     };
@@ -162,9 +162,9 @@ pub fn remove_front<T: Item, V: Vector<T, N>, const N: usize>(vec: &mut V, x: u6
     first.value()
 }
 
-// Removes the item in the middle, and pushes one.
+/// Removes the item in the middle, and pushes one.
 #[inline(never)]
-fn remove_middle<T: Item, V: Vector<T, N>, const N: usize>(vec: &mut V, x: u64) -> u64 {
+pub fn remove_middle<T: Item, V: Vector<T, N>, const N: usize>(vec: &mut V, x: u64) -> u64 {
     if vec.len() == 0 {
         return 0;
     }
@@ -176,9 +176,9 @@ fn remove_middle<T: Item, V: Vector<T, N>, const N: usize>(vec: &mut V, x: u64) 
     removed.value()
 }
 
-// Swaps the item in the middle out, and pushes one.
+/// Swaps the item in the middle out, and pushes one.
 #[inline(never)]
-fn swap_remove<T: Item, V: Vector<T, N>, const N: usize>(vec: &mut V, x: u64) -> u64 {
+pub fn swap_remove<T: Item, V: Vector<T, N>, const N: usize>(vec: &mut V, x: u64) -> u64 {
     if vec.len() == 0 {
         return 0;
     }

@@ -3,11 +3,13 @@ ghost use Rattle.std.specs.Prelude.{◌*◌, ◌^◌, ◌<◌};
 
 use crate::number::{Item, Number, last};
 use crate::report::{Bench, Report, run};
-use crate::sources::scattered;
+use crate::sources::{letters_of, scattered};
 use std::alloc::Global;
+use tinyvec::TinyVec;
 use tinyvec_array::ArrayVec;
 use tinyvec_borsh::{BorshDeserialize, BorshSerialize};
 use tinyvec_io::Counted;
+use tinyvec_text::InlineText;
 
 // So many bytes are the count in front of the items.
 const COUNT: usize = 8;
@@ -61,6 +63,70 @@ pub fn of_forms<R: Report, const N: usize>(report: &mut R, alloc: Global)
         form: &mut form,
     };
     forms(report, "borsh_write_u32", "borsh_read_u32", N, &mut numbers);
+}
+
+/// A `TinyVec` of so many bytes, on the heap if there are more than 64.
+pub fn of_tiny_forms<R: Report>(report: &mut R, alloc: Global, n: usize) {
+    let source = letters_of(alloc, n);
+    let mut form = Vec::new(alloc);
+    let mut list: TinyVec<[u8; 64]> = TinyVec::new(alloc);
+    let _refused = list.extend_from_slice(source.as_bytes());
+    let mut bytes = AnyForm {
+        alloc,
+        value: list,
+        form: &mut form,
+    };
+    forms(report, "borsh_write_tiny", "borsh_read_tiny", n, &mut bytes);
+}
+
+/// A text of so many bytes, on the heap if there are more than 64.
+pub fn of_text_forms<R: Report>(report: &mut R, alloc: Global, n: usize) {
+    let source = letters_of(alloc, n);
+    let mut form = Vec::new(alloc);
+    let mut text: InlineText<64> = InlineText::new(alloc);
+    let _refused = text.push_str(source.as_str());
+    let mut texts = AnyForm {
+        alloc,
+        value: text,
+        form: &mut form,
+    };
+    forms(report, "borsh_write_text", "borsh_read_text", n, &mut texts);
+}
+
+/// Any value, and its bytes.
+#[derive(Drop)]
+pub struct AnyForm<'a, V> {
+    pub alloc: Global,
+    pub value: V,
+    pub form: &'a mut Vec<u8>,
+}
+
+impl<V: BorshSerialize + BorshDeserialize + Drop> Bench<Form> for AnyForm<'_, V> {
+    #[inline(always)]
+    fn round(&mut self, benchmark: Form, x: u64) -> u64 {
+        match benchmark {
+            Form::Write => written(&self.value, self.form, x),
+            Form::Read => read(self.alloc, &mut self.value, self.form, x),
+        }
+    }
+}
+
+// Writes the value, and answers how many bytes there are.
+#[inline(never)]
+fn written<V: BorshSerialize>(value: &V, form: &mut Vec<u8>, x: u64) -> u64 {
+    form.clear();
+    let _refused = value.serialize(&mut Counted::new(&mut *form));
+    x.wrapping_add(form.len() as u64)
+}
+
+// Reads the value from its bytes.
+#[inline(never)]
+fn read<V: BorshDeserialize + Drop>(alloc: Global, value: &mut V, form: &[u8], x: u64) -> u64 {
+    let Ok(made) = V::deserialize_reader(alloc, &mut Counted::new(form)) else {
+        return 0;
+    };
+    *value = made;
+    x
 }
 
 fn forms<R: Report, S: Bench<Form>>(

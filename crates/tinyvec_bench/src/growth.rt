@@ -37,13 +37,13 @@ impl<V: Words<N>, const N: usize> Bench<Growth> for ListBench<'_, u64, V, N> {
     }
 }
 
-// A list over four slots, one like those that are made, and what they are filled with.
+/// A list over four slots, one like those that are made, and what they are filled with.
 #[derive(Drop)]
-struct GrowBench<'a, V: Words<4>> {
-    alloc: Global,
-    vec: &'a mut V,
-    like: &'a TinyVec<[u64; 4]>,
-    source: &'a [u64],
+pub struct GrowBench<'a, V: Words<4>> {
+    pub alloc: Global,
+    pub vec: &'a mut V,
+    pub like: &'a TinyVec<[u64; 4]>,
+    pub source: &'a [u64],
 }
 
 impl<V: Words<4>> Bench<Growth> for GrowBench<'_, V> {

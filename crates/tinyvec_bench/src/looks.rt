@@ -61,10 +61,15 @@ pub fn looks_at<'v, R: Report, V: PartialOrd + Hash + fmt::Debug>(
 
 /// The same, of a vector that has the others.
 pub fn looks<R: Report, S: Bench<Look>>(report: &mut R, n: usize, look: &mut S) {
+    compared(report, n, look);
+    run(report, "debug_print", n, Look::DebugPrint, look);
+}
+
+/// The same without its print.
+pub fn compared<R: Report, S: Bench<Look>>(report: &mut R, n: usize, look: &mut S) {
     run(report, "equal", n, Look::Equal, look);
     run(report, "compare", n, Look::Compare, look);
     run(report, "hash", n, Look::Hash, look);
-    run(report, "debug_print", n, Look::DebugPrint, look);
 }
 
 /// Compares the vector to the one that is higher at its start.

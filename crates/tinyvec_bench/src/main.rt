@@ -5,6 +5,7 @@
 
 mod all;
 mod arrays;
+mod calls;
 mod comparing;
 mod cutting;
 mod dates;
@@ -12,19 +13,25 @@ mod edits;
 mod fnv;
 mod form;
 mod growth;
+mod long;
 mod looks;
 mod nodes;
 mod number;
 mod printing;
+mod prints;
 mod report;
 mod rows;
 mod slices;
+mod slot_calls;
 mod sources;
 mod spilling;
 mod splicing;
 mod text_calls;
+mod text_own;
 mod texts;
 mod tiny;
+mod tiny_calls;
+mod tiny_own;
 mod vector;
 
 use crate::all::{all_growth, all_rows};

@@ -106,7 +106,7 @@ impl<R: Runtime> Report for Printer<'_, R> {
         self.prefix = prefix;
     }
 
-    // If the time is taken, long lists have fewer rounds.
+    // Long lists have fewer rounds.
     #[inline(never)]
     fn begin_rounds(&mut self, capacity: usize) -> u64 {
         if self.is_timed {
@@ -125,6 +125,10 @@ impl<R: Runtime> Report for Printer<'_, R> {
                     };
                 }
             }
+        }
+        // For a checksum, two of the longest are enough.
+        if capacity > 1024 && !self.is_timed {
+            return 2;
         }
         self.begun.rounds
     }

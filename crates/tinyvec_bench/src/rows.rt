@@ -88,15 +88,20 @@ fn edits<R: Report, S: Bench<Cut> + Bench<Edit>>(
     made(report, n, place, list);
     run(report, "fill_and_empty", n, Edit::FillAndEmpty, list);
     list.round(Edit::ExtendFromSlice, 0);
+    moves(report, n, list);
+    refills(report, n, list);
+    list.round(Edit::ExtendFromSlice, 0);
+    copies(report, n, list);
+    run(report, "retain_half", n, Cut::RetainHalf, list);
+}
+
+/// An item in or out of a full list, which stays so.
+pub fn moves<R: Report, S: Bench<Edit>>(report: &mut R, n: usize, list: &mut S) {
     run(report, "insert_front", n, Edit::InsertFront, list);
     run(report, "insert_middle", n, Edit::InsertMiddle, list);
     run(report, "remove_front", n, Edit::RemoveFront, list);
     run(report, "remove_middle", n, Edit::RemoveMiddle, list);
     run(report, "swap_remove", n, Edit::SwapRemove, list);
-    refills(report, n, list);
-    list.round(Edit::ExtendFromSlice, 0);
-    copies(report, n, list);
-    run(report, "retain_half", n, Cut::RetainHalf, list);
 }
 
 fn refills<R: Report, S: Bench<Cut> + Bench<Edit>>(report: &mut R, n: usize, list: &mut S) {
@@ -109,6 +114,11 @@ fn refills<R: Report, S: Bench<Cut> + Bench<Edit>>(report: &mut R, n: usize, lis
     );
     run(report, "extend_from_slice", n, Edit::ExtendFromSlice, list);
     run(report, "extend_from_range", n, Cut::ExtendFromRange, list);
+    drains(report, n, list);
+}
+
+/// The middle half of a full list, taken out or dropped.
+pub fn drains<R: Report, S: Bench<Cut>>(report: &mut R, n: usize, list: &mut S) {
     run(report, "drain_taken", n, Cut::DrainTaken, list);
     run(report, "drain_dropped", n, Cut::DrainDropped, list);
 }

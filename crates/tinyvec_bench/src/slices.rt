@@ -1,6 +1,7 @@
 //! Vectors in a lent slice.
 ghost use Rattle.std.specs.Prelude.{◌*◌, ◌^◌, ◌<◌};
 
+use crate::calls::one;
 use crate::looks::looks_at;
 use crate::number::is_odd;
 use crate::report::{Bench, Report, run};
@@ -15,6 +16,9 @@ pub enum SliceEdit {
     Remove,
     Drain,
     Retain,
+    SplitOff,
+    Resize,
+    ResizeWith,
 }
 
 /// The slots, and what they are filled with: numbers, or runs of them.
@@ -36,12 +40,23 @@ impl<const N: usize> Bench<SliceEdit> for SliceBench<'_, N> {
             SliceEdit::Remove => slice_remove(&mut self.slots, x),
             SliceEdit::Drain => slice_drain(&mut self.slots, source, x),
             SliceEdit::Retain => slice_retain(&mut self.slots, runs, x),
+            SliceEdit::SplitOff => slice_split_off(&mut self.slots, x),
+            SliceEdit::Resize => slice_resize(&mut self.slots, x),
+            SliceEdit::ResizeWith => slice_resize_with(&mut self.slots, x),
         }
     }
 }
 
 /// The benchmarks of a vector in a lent slice of `u64`.
 pub fn of_slices<R: Report, const N: usize>(report: &mut R)
+    requires { N * 64 < 2 ^ 63 }
+{
+    of_slice_edits::<R, N>(report);
+    looks_at_slices(report, scattered::<u64, N>());
+}
+
+/// Those that change it.
+pub fn of_slice_edits<R: Report, const N: usize>(report: &mut R)
     requires { N * 64 < 2 ^ 63 }
 {
     let source = scattered::<u64, N>();
@@ -52,7 +67,6 @@ pub fn of_slices<R: Report, const N: usize>(report: &mut R)
         runs: &runs,
     };
     edits(report, N, &mut slice);
-    looks_at_slices(report, source);
 }
 
 fn edits<R: Report, S: Bench<SliceEdit>>(report: &mut R, n: usize, slice: &mut S) {
@@ -61,6 +75,9 @@ fn edits<R: Report, S: Bench<SliceEdit>>(report: &mut R, n: usize, slice: &mut S
     run(report, "remove", n, SliceEdit::Remove, slice);
     run(report, "drain", n, SliceEdit::Drain, slice);
     run(report, "retain", n, SliceEdit::Retain, slice);
+    run(report, "split_off", n, SliceEdit::SplitOff, slice);
+    run(report, "resize", n, SliceEdit::Resize, slice);
+    run(report, "resize_with", n, SliceEdit::ResizeWith, slice);
 }
 
 fn looks_at_slices<R: Report, const N: usize>(report: &mut R, source: [u64; N]) {
@@ -146,5 +163,32 @@ fn slice_retain(slots: &mut [u64], source: &[u64], x: u64) -> u64 {
     let len = slots.len();
     let mut vec = SliceVec::from_slice_len(slots, len);
     vec.retain(is_odd);
+    x.wrapping_add(vec.len() as u64)
+}
+
+// Takes the second half off, as a vector of its own.
+#[inline(never)]
+fn slice_split_off(slots: &mut [u64], x: u64) -> u64 {
+    let len = slots.len();
+    let mut vec = SliceVec::from_slice_len(slots, len);
+    let tail = vec.split_off(len / 2);
+    x.wrapping_add(tail.len() as u64)
+}
+
+// Makes an empty list as long as the slice.
+#[inline(never)]
+fn slice_resize(slots: &mut [u64], x: u64) -> u64 {
+    let len = slots.len();
+    let mut vec = SliceVec::from_slice_len(slots, 0);
+    let _ = vec.resize(len, x);
+    vec.len() as u64
+}
+
+// The same, by a call for each item.
+#[inline(never)]
+fn slice_resize_with(slots: &mut [u64], x: u64) -> u64 {
+    let len = slots.len();
+    let mut vec = SliceVec::from_slice_len(slots, 0);
+    vec.resize_with(len, one);
     x.wrapping_add(vec.len() as u64)
 }

@@ -1,9 +1,19 @@
 //! The numbers that the lists are filled with.
 
 use crate::number::Number;
+use std::alloc::Global;
 
 /// A text of 64 characters of a byte each.
 pub const LETTERS: &str = "abcdefghijklmnopqrstuvwxyzABCDEFGHIJKLMNOPQRSTUVWXYZ0123456789-_";
+
+/// A text of `n` bytes, if `n` is a multiple of 64.
+pub fn letters_of(alloc: Global, n: usize) -> String {
+    let mut letters = String::new(alloc);
+    for _i in 0..n / 64 {
+        let _refused = letters.push_str(LETTERS);
+    }
+    letters
+}
 
 /// Numbers that look random.
 pub fn scattered<T: Number, const N: usize>() -> [T; N] {

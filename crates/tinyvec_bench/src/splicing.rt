@@ -45,9 +45,9 @@ pub fn splice<V: Words<N>, const N: usize>(vec: &mut V, source: &[u64], count: u
     x.wrapping_add(vec.len() as u64)
 }
 
-// The same, by the numbers of the second half of `source`.
+/// The same, by the numbers of the second half of `source`.
 #[inline(never)]
-fn replace_range<V: Words<N>, const N: usize>(vec: &mut V, source: &[u64], x: u64) -> u64 {
+pub fn replace_range<V: Words<N>, const N: usize>(vec: &mut V, source: &[u64], x: u64) -> u64 {
     let quarter = source.len() / 4;
     extend_from_slice(vec, &source[..3 * quarter], x);
     if vec.len() < 2 * quarter {

@@ -2,7 +2,7 @@
 ghost use Rattle.std.specs.Prelude.{◌*◌, ◌^◌, ◌<◌};
 
 use crate::report::{Bench, Report, run};
-use crate::sources::LETTERS;
+use crate::sources::letters_of;
 use crate::texts::look_at;
 use std::alloc::Global;
 use tinyvec_text::InlineText;
@@ -85,10 +85,7 @@ impl<const N: usize> Bench<TextCopy> for TextCalls<'_, N> {
 pub fn of_text_calls<R: Report, const N: usize>(report: &mut R, alloc: Global, count: usize)
     requires { N * 64 < 2 ^ 63 }
 {
-    let mut source = String::new(alloc);
-    for _i in 0..count / 64 {
-        let _refused = source.push_str(LETTERS);
-    }
+    let source = letters_of(alloc, count);
     let letters = source.as_str();
     let mut calls = TextCalls::<N> {
         text: made::<N>(alloc, letters),

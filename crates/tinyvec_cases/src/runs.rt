@@ -1,7 +1,8 @@
 //! Runs of calls, and driven splices.
 use tinyvec::{Array, ArrayVec, SliceVec, Slots, TinyVec};
 use tinyvec_rows::{Out, Words, Wrong, window};
-use tinyvec_script::{Call, End, drive_array_splice, drive_tiny_splice, run_array, run_tiny};
+use tinyvec_script::{Call, End, drive_splice, run_array, run_tiny};
+use tinyvec_slots::authors::CanSplice;
 use tinyvec_vector_cases::starts::start;
 use tinyvec_vector_cases::vector::Calls;
 
@@ -68,12 +69,12 @@ fn answer_tiny<A: Array<Item = i32>>(v: &mut TinyVec<A>, calls: &mut Calls<'_>) 
 
 // Drives a splice, or runs calls, in a window.
 macro_rules! answer_call {
-    ($v:ident, $call:ident, $out:ident, $drive:ident, $run:ident) => {{
+    ($v:ident, $call:ident, $out:ident, $run:ident) => {{
         let mut words = Words::new($out.alloc(), $call);
         let refused = window::read(&mut words);
         match words.word() {
             "run" => $run($v, refused, &mut words, $out),
-            "drive" => $drive($v, refused, &mut words, $out),
+            "drive" => drive($v, refused, &mut words, $out),
             _ => $out.fail(Wrong::Place),
         }
     }};
@@ -92,26 +93,8 @@ macro_rules! run {
     }};
 }
 
-// The words are a range, a word of ends, and items.
-macro_rules! drive {
-    ($v:ident, $refused:ident, $words:ident, $out:ident, $drive:ident) => {{
-        let (alloc, start, end) = ($out.alloc(), $words.index(), $words.index());
-        let (ends, mut items) = (read_ends($words), Vec::new(alloc));
-        $words.add_items::<i32>(&mut items);
-        $words.end();
-        if start > end || end > $v.len() {
-            $out.fail(Wrong::Place);
-        } else if $out.accepts($words) {
-            window::open(alloc, $refused);
-            let driven = $drive(alloc, $v, start, end, items, ends.as_slice());
-            window::close(alloc);
-            $out.say(&driven);
-        }
-    }};
-}
-
 fn call_slots<S: Slots<Item = i32>>(v: &mut ArrayVec<S>, call: &str, out: &mut Out) {
-    answer_call!(v, call, out, drive_slots, run_slots);
+    answer_call!(v, call, out, run_slots);
 }
 
 fn run_slots<S: Slots<Item = i32>>(
@@ -123,17 +106,8 @@ fn run_slots<S: Slots<Item = i32>>(
     run!(v, refused, words, out, run_array);
 }
 
-fn drive_slots<S: Slots<Item = i32>>(
-    v: &mut ArrayVec<S>,
-    refused: u16,
-    words: &mut Words<'_>,
-    out: &mut Out,
-) {
-    drive!(v, refused, words, out, drive_array_splice);
-}
-
 fn call_tiny<A: Array<Item = i32>>(v: &mut TinyVec<A>, call: &str, out: &mut Out) {
-    answer_call!(v, call, out, drive_in_tiny, run_in_tiny);
+    answer_call!(v, call, out, run_in_tiny);
 }
 
 fn run_in_tiny<A: Array<Item = i32>>(
@@ -145,13 +119,20 @@ fn run_in_tiny<A: Array<Item = i32>>(
     run!(v, refused, words, out, run_tiny);
 }
 
-fn drive_in_tiny<A: Array<Item = i32>>(
-    v: &mut TinyVec<A>,
-    refused: u16,
-    words: &mut Words<'_>,
-    out: &mut Out,
-) {
-    drive!(v, refused, words, out, drive_tiny_splice);
+// The words are a range, a word of ends, and items.
+fn drive<V: CanSplice<Item = i32>>(v: &mut V, refused: u16, words: &mut Words<'_>, out: &mut Out) {
+    let (alloc, start, end) = (out.alloc(), words.index(), words.index());
+    let (ends, mut items) = (read_ends(words), Vec::new(alloc));
+    words.add_items::<i32>(&mut items);
+    words.end();
+    if start > end || end > v.len() {
+        out.fail(Wrong::Place);
+    } else if out.accepts(words) {
+        window::open(alloc, refused);
+        let driven = drive_splice(alloc, v, start, end, items, ends.as_slice());
+        window::close(alloc);
+        out.say(&driven);
+    }
 }
 
 // The letters `f` and `b`, or `-` if there is none.

@@ -1,4 +1,7 @@
 //! Calls of an `InlineText`.
+ghost use Rattle.std.specs.Prelude.{◌*◌, ◌^◌, ◌<◌, ◌≤◌, IfSome};
+ghost use Rattle.tinyvec_text.specs.InlineText.{text_chars, IsBoundary};
+
 use crate::text_call::{Name, TextCall, read_room};
 use std::convert::{AsSlice, AsStr};
 use std::default::MadeWith;
@@ -25,8 +28,10 @@ pub(crate) fn answer(held: &str, words: &mut Words<'_>, calls: &mut Calls<'_>) {
     }
 }
 
-// The text that words make: `inline "a"`, or `heap 9 "a"` with a capacity of 9.
-fn of_text<const N: usize>(t: &mut InlineText<N>, words: &mut Words<'_>, calls: &mut Calls<'_>) {
+// The text that words make: `inline "a"`, or `heap 9 "a"` with a capacity of 9. Its drain is small enough to be a value.
+fn of_text<const N: usize>(t: &mut InlineText<N>, words: &mut Words<'_>, calls: &mut Calls<'_>)
+    requires { N * 64 < 2 ^ 63 }
+{
     let mut text = String::new(words.alloc);
     let room = read_room(words);
     words.add_text(&mut text);
@@ -50,11 +55,9 @@ fn of_bytes(words: &mut Words<'_>, calls: &mut Calls<'_>) {
     }
 }
 
-fn answer_calls<const N: usize>(
-    t: &mut InlineText<N>,
-    words: &mut Words<'_>,
-    calls: &mut Calls<'_>,
-) {
+fn answer_calls<const N: usize>(t: &mut InlineText<N>, words: &mut Words<'_>, calls: &mut Calls<'_>)
+    requires { N * 64 < 2 ^ 63 }
+{
     words.end();
     if !calls.out.accepts(words) {
         return;
@@ -73,7 +76,9 @@ fn say_state<const N: usize>(t: &InlineText<N>, out: &mut Out) {
 }
 
 // Makes a call, whose requests for memory are in a window, and writes what it returns. A condition is tested first.
-fn answer_call<const N: usize>(t: &mut InlineText<N>, call: &str, out: &mut Out) {
+fn answer_call<const N: usize>(t: &mut InlineText<N>, call: &str, out: &mut Out)
+    requires { N * 64 < 2 ^ 63 }
+{
     let alloc = out.alloc();
     let mut words = Words::new(alloc, call);
     let refused = window::read(&mut words);
@@ -97,7 +102,9 @@ fn look<const N: usize>(
     other: &InlineText<N>,
     call: &mut TextCall,
     out: &mut Out,
-) {
+)
+    requires { N * 64 < 2 ^ 63 }
+{
     match call.name {
         Name::Len => out.say(&(t.len(), t.is_empty(), t.capacity())),
         Name::IsInline => out.say(&t.is_inline()),
@@ -124,11 +131,14 @@ fn show<const N: usize>(t: &InlineText<N>, name: Name, out: &mut Out) {
     out.say_word("\"");
 }
 
-fn part<const N: usize>(t: &mut InlineText<N>, call: &mut TextCall, out: &mut Out) {
+fn part<const N: usize>(t: &mut InlineText<N>, call: &mut TextCall, out: &mut Out)
+    requires { N * 64 < 2 ^ 63 }
+{
     let n = call.index;
     match call.name {
         Name::Clone => say_made(t.clone(), out),
         Name::SplitOff if t.is_char_boundary(n) => say_made(t.split_off(n), out),
+        Name::Drain | Name::DrainFromBack => drain(t, call, out),
         Name::Take => say_made(mem::try_take(t), out),
         Name::IntoBytes => say_tiny(&taken(t, out).into_bytes(), out),
         Name::IntoString => match taken(t, out).into_string() {
@@ -198,7 +208,9 @@ fn append<const N: usize>(t: &mut InlineText<N>, call: &TextCall, out: &mut Out)
         Name::WritePair => out.done(write!(t, "{n}, {s}")),
         Name::ExtendChars => out.done(t.extend(s.chars())),
         Name::ExtendWords => out.done(t.extend(s.split(' '))),
+        Name::ExtendFromWithin => extend_from_within(t, call, out),
         Name::Reserve => out.done(t.reserve(n)),
+        Name::ReserveExact => out.done(t.reserve_exact(n)),
         _ => edit(t, call, out),
     }
 }
@@ -231,8 +243,49 @@ fn retain_not<const N: usize>(t: &mut InlineText<N>, c: char, out: &mut Out) {
     out.say(&asked);
 }
 
-// Puts a text in the place of a range, whose ends are tested first.
+// Puts a text in the place of a range.
 fn replace<const N: usize>(t: &mut InlineText<N>, call: &TextCall, out: &mut Out) {
+    match cut(t, call) {
+        Some((start, end)) => out.done(t.replace_range(start..end, call.text.as_str())),
+        None => out.fail(Wrong::Place),
+    }
+}
+
+fn extend_from_within<const N: usize>(t: &mut InlineText<N>, call: &TextCall, out: &mut Out) {
+    match cut(t, call) {
+        Some((start, end)) => out.done(t.extend_from_within(start..end)),
+        None => out.fail(Wrong::Place),
+    }
+}
+
+// Writes what is removed, how many characters there may be, the one at an end before the rest, and those of the rest.
+fn drain<const N: usize>(t: &mut InlineText<N>, call: &TextCall, out: &mut Out)
+    requires { N * 64 < 2 ^ 63 }
+{
+    let Some((start, end)) = cut(t, call) else {
+        return out.fail(Wrong::Place);
+    };
+    let mut drain = match t.drain(start..end) {
+        Ok(drain) => drain,
+        Err(error) => return out.say(&error),
+    };
+    out.say(&drain);
+    out.say(&drain.size_hint());
+    let c = match call.name {
+        Name::DrainFromBack => drain.next_back(),
+        _ => drain.next(),
+    };
+    out.say(&(c, drain.as_str()));
+    for c in drain {
+        out.say(&c);
+    }
+}
+
+// The ends of a range, if they are boundaries.
+fn cut<const N: usize>(t: &InlineText<N>, call: &TextCall) -> Option<(usize, usize)>
+    ensures { IfSome result (λ ends. (ends.0 ≤ ends.1) × IsBoundary (text_chars t.now) ends.0
+        × IsBoundary (text_chars t.now) ends.1) }
+{
     let start = match call.range.0 {
         Bound::Included(start) => start,
         Bound::Excluded(before) => before.saturating_add(1),
@@ -244,9 +297,9 @@ fn replace<const N: usize>(t: &mut InlineText<N>, call: &TextCall, out: &mut Out
         Bound::Unbounded => t.len(),
     };
     if start > end || !t.is_char_boundary(start) || !t.is_char_boundary(end) {
-        return out.fail(Wrong::Place);
+        return None;
     }
-    out.done(t.replace_range(start..end, call.text.as_str()));
+    Some((start, end))
 }
 
 // Writes the order of two texts, on which all comparisons agree.

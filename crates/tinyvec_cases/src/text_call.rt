@@ -23,6 +23,8 @@ pub(crate) enum Name {
     // Something else is made of it, or of its end.
     Clone,
     SplitOff,
+    Drain,
+    DrainFromBack,
     IntoBytes,
     IntoString,
     Take,
@@ -42,7 +44,9 @@ pub(crate) enum Name {
     WritePair,
     ExtendChars,
     ExtendWords,
+    ExtendFromWithin,
     Reserve,
+    ReserveExact,
     // Characters are put in the middle, or taken out.
     Pop,
     Clear,
@@ -57,7 +61,7 @@ pub(crate) enum Name {
 }
 
 // A call, its name, and the kinds of its words: an index, a text, a range, slots, a start.
-const NAMES: [(&str, Name, &str); 42] = [
+const NAMES: [(&str, Name, &str); 46] = [
     ("len", Name::Len, ""),
     ("is_inline", Name::IsInline, ""),
     ("is_char_boundary", Name::IsCharBoundary, "i"),
@@ -72,6 +76,8 @@ const NAMES: [(&str, Name, &str); 42] = [
     ("debug", Name::Debug, ""),
     ("clone", Name::Clone, ""),
     ("split_off", Name::SplitOff, "i"),
+    ("drain", Name::Drain, "r"),
+    ("drain_from_back", Name::DrainFromBack, "r"),
     ("into_bytes", Name::IntoBytes, ""),
     ("into_string", Name::IntoString, ""),
     ("take", Name::Take, ""),
@@ -89,7 +95,9 @@ const NAMES: [(&str, Name, &str); 42] = [
     ("write_pair", Name::WritePair, "it"),
     ("extend_chars", Name::ExtendChars, "t"),
     ("extend_words", Name::ExtendWords, "t"),
+    ("extend_from_within", Name::ExtendFromWithin, "r"),
     ("reserve", Name::Reserve, "i"),
+    ("reserve_exact", Name::ReserveExact, "i"),
     ("pop", Name::Pop, ""),
     ("clear", Name::Clear, ""),
     ("shrink_to_fit", Name::ShrinkToFit, ""),

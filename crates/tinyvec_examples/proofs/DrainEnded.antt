@@ -4,7 +4,7 @@ use Rattle.std.specs.Borrow.{MutBor}
 use Rattle.tinyvec_slots.specs.Slots.{split_at, items as items_in, spare as spare_in}
 use Rattle.tinyvec_array.specs.ArrayVec.{view, items, all_slots, slots_of}
 use Rattle.tinyvec_array.specs.Drain.{DrainBegins, DrainCanStep, DrainKeeps, DrainLeaves, drain_items, drain_kept, drain_count, drain_spare}
-use Rattle.tinyvec_array.specs.declared.storage.Slots as Storage
+use Rattle.tinyvec_array.specs.declared.slots.Slots as Storage
 use Rattle.tinyvec_array.specs.declared.bound.UpTo.{UpTo}
 use Rattle.tinyvec_array.specs.declared.array_vec.ArrayVec.{ArrayVec}
 use Rattle.tinyvec_array.specs.declared.drain.ArrayVecDrain.{ArrayVecDrain}

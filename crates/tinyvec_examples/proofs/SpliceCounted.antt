@@ -5,13 +5,9 @@ use Rattle.std.specs.Option.{option_to_list}
 use Rattle.std.specs.declared.iter.Fuse.{Fuse}
 use Rattle.tinyvec_slots.specs.Ends.{End, front, back, RunsWord, given_items}
 use Rattle.tinyvec_slots.specs.AnySplice.{SpliceView, Splices, SplicesBack, FinishTouches}
-use Rattle.tinyvec_array.specs.Splice.{splice_view, SpliceKeeps, SpliceSteps, SpliceStepsBack}
-use Rattle.tinyvec_array.specs.declared.storage.Slots as Storage
-use Rattle.tinyvec_array.specs.declared.splice.ArrayVecSplice.{ArrayVecSplice}
-use Rattle.tinyvec.specs.TinyVecSplice as tiny
-use Rattle.tinyvec.specs.declared.splice.TinyVecSplice.{TinyVecSplice}
-use Rattle.tinyvec_array.proofs.SpliceLemmas.{keeps_same, keeps_then}
-use Rattle.tinyvec.proofs.SpliceLemmas as tiny_lemmas
+use Rattle.tinyvec_slots.specs.Splice.{splice_view, SpliceKeeps, SpliceSteps, SpliceStepsBack}
+use Rattle.tinyvec_slots.specs.declared.splice.Splice.{Splice}
+use Rattle.tinyvec_slots.proofs.SpliceLemmas.{keeps_same, keeps_then}
 
 -- what a word placed, however the replacement gives it
 pub record Counts {S I T : Type 0} (view : S → SpliceView I T) (keeps : S → S → Type 0) (s : S) (answers : List (Option T)) (t : S) : Type 0 where
@@ -74,19 +70,13 @@ module _ {S I T : Type 0} (view : S → SpliceView I T) (keeps : S → S → Typ
         kept = then s asks.0 t asks.1.1 h.kept;
       }
 
--- the same of a splice of a vector over slots
-module _ {S T L I : Type 0} (g : Storage.Ghosts S T L) where
-  pub array_counted : (gives gives_back : Fuse I → Option T → Fuse I → Type 0)
-      → (s : ArrayVecSplice S (Fuse I) T L) (word : List End) (answers : List (Option T)) (t : ArrayVecSplice S (Fuse I) T L)
-      → RunsWord (SpliceSteps g gives) (SpliceStepsBack g gives_back) s word answers t → Counts (splice_view g) (SpliceKeeps g) s answers t
-  array_counted = counted (splice_view g) (SpliceKeeps g) (keeps_same g) (keeps_then g)
-
-  -- and of a `TinyVec`'s
-  pub tiny_counted : (gives gives_back : Fuse I → Option T → Fuse I → Type 0)
-      → (s : TinyVecSplice S (Fuse I) T L) (word : List End) (answers : List (Option T)) (t : TinyVecSplice S (Fuse I) T L)
-      → RunsWord (tiny.SpliceSteps g gives) (tiny.SpliceStepsBack g gives_back) s word answers t
-      → Counts (tiny.splice_view g) (tiny.SpliceKeeps g) s answers t
-  tiny_counted = counted (tiny.splice_view g) (tiny.SpliceKeeps g) (tiny_lemmas.keeps_same g) (tiny_lemmas.keeps_then g)
+-- the same of the splice of any vector, by the laws of its `CanSplice`
+module _ {V I T : Type 0} (items : V → List T) (Kept : V → V → Type 0) (same : (v : V) → Kept v v) (onward : (u v w : V) → Kept u v → Kept v w → Kept u w) where
+  pub splice_counted : (gives gives_back : Fuse I → Option T → Fuse I → Type 0)
+      → (s : Splice V (Fuse I)) (word : List End) (answers : List (Option T)) (t : Splice V (Fuse I))
+      → RunsWord (SpliceSteps items Kept gives) (SpliceStepsBack items Kept gives_back) s word answers t
+      → Counts (splice_view items) (SpliceKeeps items Kept) s answers t
+  splice_counted = counted (splice_view items) (SpliceKeeps items Kept) (keeps_same items Kept same onward) (keeps_then items Kept same onward)
 
 -- how many slots were touched up to the end of a splice
 module _ {S I T : Type 0} {view : S → SpliceView I T} {keeps : S → S → Type 0} (s t : S) (answers : List (Option T)) (list : List T)

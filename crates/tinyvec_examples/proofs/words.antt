@@ -9,8 +9,7 @@ pub mod ArrayDrain
 pub mod SliceVec
 pub mod Extracting
 pub mod TinyVec
-pub mod ArraySplice
-pub mod TinySplice
+pub mod Splice
 pub mod TinyDrain
 pub mod Lends
 pub mod InlineText

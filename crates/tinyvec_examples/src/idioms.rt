@@ -3,8 +3,9 @@ ghost use Rattle.std.specs.Prelude.{◌≡◌, ◌-◌, ◌≤◌, length};
 ghost use Rattle.tinyvec.specs.TinyVec.{tiny_len};
 
 use std::alloc::{AllocError, Global};
-use std::collections::BTreeMap;
+use std::collections::{BTreeMap, HashMap};
 use tinyvec::{ArrayVec, TinyVec};
+use tinyvec_text::InlineText;
 
 /// `&v[1..]`.
 pub fn all_but_first(v: &TinyVec<[u32; 4]>) -> &[u32]
@@ -58,6 +59,26 @@ pub fn grouped(
     Ok(())
 }
 
+/// `*map.entry(v).or_insert(0) += 1`, of lists as keys: how often each came.
+pub fn count_list(
+    counts: &mut HashMap<TinyVec<[u8; 4]>, u32>,
+    list: TinyVec<[u8; 4]>,
+) -> Result<(), AllocError> {
+    let count = counts.entry(list)?.or_insert(0);
+    *count = count.saturating_add(1);
+    Ok(())
+}
+
+/// `map.get(&v)`, of lists as keys, in order.
+pub fn at_list(map: &BTreeMap<TinyVec<[u8; 4]>, u32>, list: &TinyVec<[u8; 4]>) -> Option<u32> {
+    map.get(list).copied()
+}
+
+/// `map.get(t)`, of texts as keys.
+pub fn at_text(map: &HashMap<InlineText<16>, u32>, text: &InlineText<16>) -> Option<u32> {
+    map.get(text).copied()
+}
+
 /// `v == xs`: both sides are slices.
 pub fn equals_slice(v: &TinyVec<[u32; 4]>, xs: &[u32]) -> bool {
     v.as_slice() == xs
@@ -99,8 +120,8 @@ pub fn append_to(out: &mut Vec<u8>, v: &ArrayVec<[u8; 4]>) -> Result<(), AllocEr
     Ok(())
 }
 
-/// A struct with a vector in it derives `Clone`.
-#[derive(Clone, Drop)]
+/// A struct with a vector in it derives these.
+#[derive(Clone, Debug, Drop, PartialEq)]
 pub struct Named {
     pub name: TinyVec<[u8; 8]>,
     pub number: u32,

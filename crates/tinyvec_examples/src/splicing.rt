@@ -5,6 +5,7 @@ ghost use Rattle.tinyvec_array.specs.ArrayVec.{items_of, view_of, len_of};
 ghost use Rattle.tinyvec_array.specs.Slots.{SlotRule};
 ghost use Rattle.tinyvec_array.specs.Ends.{front, back, given_items, RunsWord, TakesFromEnds};
 ghost use Rattle.tinyvec_array.specs.Fused.{fused_rest, HasTwoEnds};
+ghost use Rattle.tinyvec_array.specs.CutLaws.{KeptOf};
 ghost use Rattle.tinyvec_array.specs.Splice.{splice_view, splice_left, SpliceKeeps, SpliceCanStep, SpliceSteps, SpliceStepsBack};
 ghost use Rattle.tinyvec_array.specs.SplicedByWord.{IsSpliceRefused, SplicedByWord};
 
@@ -15,15 +16,17 @@ use tinyvec_array::{Array, ArrayVec, ArrayVecSplice, SpliceRest};
 pub fn one_from_each_end<A: Array, I: DoubleEndedIterator<Item = A::Item>>(
     splice: &mut ArrayVecSplice<'_, A, Fuse<I>>,
 ) -> (Option<A::Item>, Option<A::Item>)
-    requires ready { SpliceCanStep A.Slots splice.old }
+    requires ready { SpliceCanStep (items_of A.Slots) splice.old }
     requires can { (s : I) → I.can_next s × I.can_next_back s }
-    ensures asked { RunsWord (SpliceSteps A.Slots (fuse_steps I.next_gives)) (SpliceStepsBack A.Slots (fuse_steps I.next_back_gives))
+    ensures asked { RunsWord (SpliceSteps (items_of A.Slots) (KeptOf A.Slots) (fuse_steps I.next_gives))
+        (SpliceStepsBack (items_of A.Slots) (KeptOf A.Slots) (fuse_steps I.next_back_gives))
         splice.old (front ∷ back ∷ []) (result.0 ∷ result.1 ∷ []) splice.new }
-    ensures yields { TakesFromEnds (splice_left A.Slots splice.old) (front ∷ back ∷ [])
-        (result.0 ∷ result.1 ∷ []) (splice_left A.Slots splice.new) }
+    ensures yields { TakesFromEnds (splice_left (items_of A.Slots) splice.old) (front ∷ back ∷ [])
+        (result.0 ∷ result.1 ∷ []) (splice_left (items_of A.Slots) splice.new) }
     ensures spliced { (rest : I → List A.Item) → HasTwoEnds I.next_gives I.next_back_gives rest
-        → SplicedByWord (splice_view A.Slots) (SpliceKeeps A.Slots) (fused_rest rest) splice.old (front ∷ back ∷ []) splice.new }
-    ensures ready { SpliceCanStep A.Slots splice.new }
+        → SplicedByWord (splice_view (items_of A.Slots)) (SpliceKeeps (items_of A.Slots) (KeptOf A.Slots)) (fused_rest rest)
+        splice.old (front ∷ back ∷ []) splice.new }
+    ensures ready { SpliceCanStep (items_of A.Slots) splice.new }
 {
     let first = splice.next();
     let last = splice.next_back();

@@ -7,7 +7,8 @@ ghost use Rattle.tinyvec.specs.Fused.{fused_rest, FusedFinite, HasTwoEnds};
 ghost use Rattle.tinyvec.specs.SplicedByWord.{IsSpliceRefused, SplicedByWord};
 ghost use Rattle.tinyvec.specs.TinyVec.{tiny_items, tiny_items_of, tiny_len_of, tiny_capacity, IsInline, tiny_view_of};
 ghost use Rattle.tinyvec.specs.View.{PlaceRule, TinySlotRule};
-ghost use Rattle.tinyvec.specs.TinyVecSplice.{splice_view, splice_replacement, SpliceKeeps, SpliceCanStep, SpliceSteps, SpliceStepsBack};
+ghost use Rattle.tinyvec.specs.FrameLaws.{FrameOf};
+ghost use Rattle.tinyvec.specs.Splice.{splice_view, splice_replacement, SpliceKeeps, SpliceCanStep, SpliceSteps, SpliceStepsBack};
 
 use crate::tiny_vec::three;
 use std::alloc::Global;
@@ -32,14 +33,16 @@ pub fn replaced_inline(alloc: Global) -> (Option<i32>, bool, TinyVec<[i32; 4]>)
 pub fn one_from_each_end<A: Array, I: DoubleEndedIterator<Item = A::Item>>(
     splice: &mut TinyVecSplice<'_, A, Fuse<I>>,
 ) -> (Option<A::Item>, Option<A::Item>)
-    requires ready { SpliceCanStep A.Slots splice.old }
+    requires ready { SpliceCanStep (tiny_items_of A.Slots) splice.old }
     requires can { (s : I) → I.can_next s × I.can_next_back s }
-    ensures asked { RunsWord (SpliceSteps A.Slots (fuse_steps I.next_gives)) (SpliceStepsBack A.Slots (fuse_steps I.next_back_gives))
+    ensures asked { RunsWord (SpliceSteps (tiny_items_of A.Slots) (FrameOf A.Slots) (fuse_steps I.next_gives))
+        (SpliceStepsBack (tiny_items_of A.Slots) (FrameOf A.Slots) (fuse_steps I.next_back_gives))
         splice.old (front ∷ back ∷ []) (result.0 ∷ result.1 ∷ []) splice.new }
     ensures spliced { (rest : I → List A.Item) → HasTwoEnds I.next_gives I.next_back_gives rest
-        → SplicedByWord (splice_view A.Slots) (SpliceKeeps A.Slots) (fused_rest rest) splice.old (front ∷ back ∷ []) splice.new }
-    ensures kept { SpliceKeeps A.Slots splice.old splice.new }
-    ensures ready { SpliceCanStep A.Slots splice.new }
+        → SplicedByWord (splice_view (tiny_items_of A.Slots)) (SpliceKeeps (tiny_items_of A.Slots) (FrameOf A.Slots))
+        (fused_rest rest) splice.old (front ∷ back ∷ []) splice.new }
+    ensures kept { SpliceKeeps (tiny_items_of A.Slots) (FrameOf A.Slots) splice.old splice.new }
+    ensures ready { SpliceCanStep (tiny_items_of A.Slots) splice.new }
     ensures finite { FusedFinite I.remaining (splice_replacement splice.old)
         → FusedFinite I.remaining (splice_replacement splice.new) }
 {

@@ -4,8 +4,8 @@ use std::alloc::Global;
 use std::ops::Bound;
 use std::{mem, str};
 
-// The calls, and the kinds of their words: an index, a number, an item (`t`), a list, slots, a range, a closure, steps (`w`),
-// bytes, a form; and whether the list has room for many more items, or for no more (`e`).
+// The calls, and the kinds of their words: an index, a number, an item (`t`), a list, slots, a range, a closure, steps
+// (`w`), bytes, a form; and whether the list has room for many more items, or for no more (`e`).
 const CALLS: [(&str, Name, &str); 79] = [
     ("pop", Name::Pop, ""),
     ("pop_at", Name::PopAt, "i"),

@@ -21,8 +21,8 @@ impl Closure {
         }
     }
 
-    /// Reads a name, or the answers in turn, each by a letter `y` or `n`. It has room for what it records, so that no request
-    /// falls into a call.
+    /// Reads a name, or the answers in turn, each by a letter `y` or `n`. It has room for what it records, so that no
+    /// request falls into a call.
     pub fn read(&mut self, words: &mut Words<'_>) {
         let word = words.word();
         self.name = named(word);

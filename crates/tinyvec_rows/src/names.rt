@@ -161,8 +161,8 @@ pub fn named(word: &str) -> Name {
     find(&NAMES, word, Name::Unknown).0
 }
 
-/// What a table says of a word, or that it says nothing of it, and what stands beside that. A `match` of texts has a call and
-/// a branch for each.
+/// What a table says of a word, or that it says nothing of it, and what stands beside that. A `match` of texts has a
+/// call and a branch for each.
 pub fn find<K: Copy>(table: &[(&str, K, &'static str)], word: &str, none: K) -> (K, &'static str) {
     for (name, found, beside) in table {
         if *name == word {

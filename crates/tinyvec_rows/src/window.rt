@@ -2,8 +2,8 @@
 use crate::Words;
 use std::alloc::{AllocError, Global};
 
-// So many bytes, and a number more, nothing else here asks for: a library that is loaded before the C library takes it for a
-// mark.
+// So many bytes, and a number more, nothing else here asks for: a library that is loaded before the C library takes it
+// for a mark.
 const MARK: usize = 0x52_0000;
 
 /// Begins a window, in which the request of that number is refused: none of number 0, and each of `u16::MAX`.

@@ -34,7 +34,8 @@ impl Wrong {
     }
 }
 
-/// The words that are still to be read, with a space between two. A word that cannot be read is noted, and stands for a default.
+/// The words that are still to be read, with a space between two. A word that cannot be read is noted, and stands for a
+/// default.
 #[derive(Drop)]
 pub struct Words<'a> {
     pub alloc: Global,

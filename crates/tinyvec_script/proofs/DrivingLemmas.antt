@@ -5,20 +5,22 @@ use Rattle.std.proofs.lemmas.List.{nil_from_length, length-take-le, length-drop}
 use Rattle.std.specs.Iterator.{YieldsFirst, YieldsLast}
 use Rattle.std.specs.Vec.Iter.{into_iter_items, into_iter_len, into_iter_steps, into_iter_steps_back}
 use Rattle.std.specs.declared.vec.IntoIter.{IntoIter}
+use Rattle.std.specs.declared.iter.Fuse.{Fuse}
+use Rattle.std.specs.Iterator.Adapters.{fuse_steps}
 use Rattle.std.specs.declared.ops.Bound.TheVariants.{Included, Excluded}
-use Rattle.tinyvec_slots.specs.Slots.{Slots, spare, items_len, SlotRule}
 use Rattle.tinyvec_slots.specs.Ranges.{before, removed, after}
 use Rattle.tinyvec_slots.specs.Ends.{front, back, RunsWord, TakesFromEnds, given_items, taken}
-use Rattle.tinyvec_slots.specs.Fused.{HasTwoEnds}
+use Rattle.tinyvec_slots.specs.Fused.{HasTwoEnds, fused_rest}
+use Rattle.tinyvec_slots.specs.Splice.{splice_view, splice_left, SpliceKeeps, SpliceSteps, SpliceStepsBack}
 use Rattle.tinyvec_slots.specs.AnySplice.{SpliceView, FinishesWith}
 use Rattle.tinyvec_slots.specs.SplicedByWord.{IsSpliceRefused, SplicedByWord}
-use Rattle.tinyvec_slots.specs.declared.no_room.SpliceRest.{SpliceRest}
+use Rattle.tinyvec_slots.specs.declared.no_room.NoRoom.{NoRoom}
 use Rattle.tinyvec_slots.proofs.EndsLemmas.{RunsWord-then, taken_within}
 use Rattle.tinyvec_slots.proofs.Lists.{length-slice_range}
-use Rattle.tinyvec_slots.proofs.AnySpliceLemmas.{spliced_len, spliced_all, spliced_refused}
-use Rattle.tinyvec.specs.View.{TinyView, SameFrame}
-use Rattle.tinyvec.specs.Room.{Grows}
-use Rattle.tinyvec.proofs.TinyLemmas.{tiny_slots_framed}
+use Rattle.tinyvec_slots.specs.declared.splice.Splice.{Splice}
+use Rattle.tinyvec_slots.proofs.Fused.{fused_ends}
+use Rattle.tinyvec_slots.proofs.SpliceLemmas.{RunsWord-splices}
+use Rattle.tinyvec_slots.proofs.AnySpliceLemmas.{RunsWord-takes_removed, spliced_len, spliced_all, spliced_refused}
 use Rattle.tinyvec_script.specs.Driving.{letter, word_of, TakesAt, refused_items, ListSplices, SpliceComputes, unplaced_from, unplaced_to}
 use Rattle.tinyvec_script.specs.declared.call.Answer.{Answer}
 use Rattle.tinyvec_script.specs.declared.call.Answer.TheVariants as answers
@@ -56,22 +58,15 @@ pub given_within : {T : Type 0} (xs : List T) (word : _) (answers : List (Option
     → length (given_items answers) ≤ length xs
 given_within xs word answers left takes = rw takes.answered (taken_within word xs)
 
--- the slot rule reads no more of the old vector than its spare slots and how many items it held
-pub slots_framed : {T : Type 0} (D : T → Type 0) (old mid new : Slots T) → items_len mid ≡ items_len old → spare mid ≡ spare old
-    → SlotRule D mid new → SlotRule D old new
-slots_framed D old mid new count behind h = rw (sym count, sym behind) h
+-- what calls by a word did to a splice whose replacement is a vector
+module _ {V T Z : Type 0} (items : V → List T) (Kept : V → V → Type 0) (same : (v : V) → Kept v v) (onward : (u v w : V) → Kept u v → Kept v w → Kept u w)
+    (s : Splice V (Fuse (IntoIter T Z))) (word : _) (answers : _) (t : Splice V (Fuse (IntoIter T Z)))
+    (asks : RunsWord (SpliceSteps items Kept (fuse_steps into_iter_steps)) (SpliceStepsBack items Kept (fuse_steps into_iter_steps_back)) s word answers t) where
+  pub spliced_along : SplicedByWord (splice_view items) (SpliceKeeps items Kept) (fused_rest into_iter_items) s word t
+  spliced_along = RunsWord-splices items Kept same onward (fused_rest into_iter_items) _ _ (fused_ends _ _ _ into_iter_ends) s word answers t asks
 
--- and growth no more than its frame
-pub grows_framed : {T : Type 0} (D : T → Type 0) (slots : ℕ) (old mid new : TinyView T) → SameFrame old mid → Grows D slots mid new → Grows D slots old new
-grows_framed D slots old mid new frame h = record {
-  place = rw (sym frame.place) h.place;
-  slot_rule = tiny_slots_framed D old mid new frame h.slot_rule;
-  capacity = rw (sym (frame.capacity slots)) h.capacity;
-  same_room = rw (sym (frame.capacity slots)) h.same_room;
-  grown = rw (sym (frame.capacity slots)) h.grown;
-  doubled = rw (sym (frame.capacity slots)) h.doubled;
-  fits = h.fits;
-}
+  pub taken_along : TakesFromEnds (splice_left items s) word answers (splice_left items t)
+  taken_along = RunsWord-takes_removed (splice_view items) (SpliceKeeps items Kept) _ _ s word answers t asks
 
 -- what a splice along a word, then finished, made of a list
 module _ {S I T : Type 0} (view : S → SpliceView I T) (keeps : S → S → Type 0) (rest : I → List T) (s t : S) (word : List End) (answers : List (Option T))
@@ -89,7 +84,7 @@ module _ {S I T : Type 0} (view : S → SpliceView I T) (keeps : S → S → Typ
       spliced_len view keeps rest s t (word_of word) new _ _ _ replacement along ahead left behind whole ∙ omega (arith, one, two)
 
   -- the list, and what found no room
-  pub splices_finished : (result : Result Unit (SpliceRest T I)) → FinishesWith rest capacity (view t) result new
+  pub splices_finished : (result : Result Unit (NoRoom T I)) → FinishesWith rest capacity (view t) result new
       → ListSplices capacity old start end word replacement (given_items answers) (refused_items rest result) new
   splices_finished (Ok u) f =
       let fits = f.succeeds.0 refl in
@@ -109,13 +104,13 @@ module _ {S I T : Type 0} (view : S → SpliceView I T) (keeps : S → S → Typ
       }
 
   -- it was refused where the list does not fit
-  pub refused_over : {P : Type 0} (result : Result Unit (SpliceRest T I)) → FinishesWith rest capacity (view t) result new → OnErr result P
+  pub refused_over : {P : Type 0} (result : Result Unit (NoRoom T I)) → FinishesWith rest capacity (view t) result new → OnErr result P
       → capacity < start + length replacement + (length old - end) → P
   refused_over (Ok u) f p over = let fits = f.succeeds.0 refl in absurd (omega (arith, fits, sum, over))
   refused_over (Err unplaced) f p over = p
 
   -- what is handed back is no longer than the replacement
-  pub rest_within : (result : Result Unit (SpliceRest T I)) → FinishesWith rest capacity (view t) result new → length (refused_items rest result) ≤ length replacement
+  pub rest_within : (result : Result Unit (NoRoom T I)) → FinishesWith rest capacity (view t) result new → length (refused_items rest result) ≤ length replacement
   rest_within (Ok u) f = omega arith
   rest_within (Err unplaced) f =
       let h = f.refused in

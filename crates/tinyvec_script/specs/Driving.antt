@@ -1,14 +1,11 @@
 -- A splice that is driven by a word of ends, from the call to `finish`.
 use Rattle.std.specs.Prelude.{◌≡◌, ℕ, ◌+◌, ◌-◌, ◌<◌, ◌≤◌, List, [], ◌∷◌, ◌++◌, length, map, take, drop, slice_range, Option, Bool, nat_lt, if◌then◌else◌, Result, Ok, Err}
 use Rattle.std.specs.declared.ops.Bound.TheVariants.{Included, Excluded}
-use Rattle.tinyvec_slots.specs.Slots.{Slots, items, SlotRule}
 use Rattle.tinyvec_slots.specs.Ranges.{IsRangeOf, before, removed, after}
-use Rattle.tinyvec_slots.specs.Ends.{front, back, RunsWord, taken}
+use Rattle.tinyvec_slots.specs.Ends.{front, back, taken}
 use Rattle.tinyvec_slots.specs.Ends as ends
 use Rattle.tinyvec_slots.specs.SplicedByWord.{IsSpliceRefused, placed_back}
-use Rattle.tinyvec_slots.specs.declared.no_room.SpliceRest.{SpliceRest}
-use Rattle.tinyvec.specs.View.{TinyView, view_len, view_capacity}
-use Rattle.tinyvec.specs.Room.{Grows}
+use Rattle.tinyvec_slots.specs.declared.no_room.NoRoom.{NoRoom}
 use Rattle.tinyvec_script.specs.declared.call.Answer.{Answer}
 use Rattle.tinyvec_script.specs.declared.call.Answer.TheVariants as answers
 use Rattle.tinyvec_script.specs.declared.call.End.{End}
@@ -29,13 +26,8 @@ module _ {S T : Type 0} (gives gives_back : S → Option T → S → Type 0) whe
   TakesAt Front = gives
   TakesAt Back = gives_back
 
-  -- this holds of the answers to any word that is asked of s, and where it leads
-  abbrev pub WhateverIsAsked : S → (List (Option T) → S → Type 0) → Type 0
-  WhateverIsAsked s Holds = (word : List ends.End) (answers : List (Option T)) (t : S)
-      → RunsWord gives gives_back s word answers t → Holds answers t
-
 -- the item that found no room, and what gives the others
-abbrev pub refused_items : {I T : Type 0} → (I → List T) → Result Unit (SpliceRest T I) → List T
+abbrev pub refused_items : {I T : Type 0} → (I → List T) → Result Unit (NoRoom T I) → List T
 refused_items rest (Ok u) = []
 refused_items rest (Err refused) = refused.item ∷ rest refused.rest
 
@@ -50,18 +42,13 @@ pub record ListSplices {T : Type 0} (capacity : ℕ) (old : List T) (start end :
       → IsSpliceRefused (word_of word) (end - start) (before old (Included start)) (after old (Excluded end))
       replacement new rest × (length new ≡ capacity)
 
--- a splice that is driven by the word took an `ArrayVec` from `old` to `new`
-pub record ArraySplices {T : Type 0} (D : T → Type 0) (capacity : ℕ) (old : Slots T) (start end : ℕ) (word : List End)
-    (replacement yields rest : List T) (new : Slots T) : Type 0 where
+-- A splice that is driven by the word took a vector from `old` to `new`, or one view of it to another: `items` shows the list, and
+-- `Grown` says what became of all else. A list that has no room for the replacement got no shorter.
+pub record DrivenSplices {V T : Type 0} (items : V → List T) (Grown : V → V → Type 0) (capacity : ℕ) (old : V) (start end : ℕ)
+    (word : List End) (replacement yields rest : List T) (new : V) : Type 0 where
   pub list : ListSplices capacity (items old) start end word replacement yields rest (items new)
-  pub slot_rule : SlotRule D old new
-
--- The same of a `TinyVec`, which grows as when items are pushed. If its old room holds the list, nothing is refused.
-pub record TinySplices {T : Type 0} (D : T → Type 0) (slots : ℕ) (old : TinyView T) (start end : ℕ) (word : List End)
-    (replacement yields rest : List T) (new : TinyView T) : Type 0 where
-  pub list : ListSplices (view_capacity slots new) old.items start end word replacement yields rest new.items
-  pub grows : Grows D slots old new
-  pub no_shorter : view_capacity slots new < start + length replacement + (view_len old - end) → view_len old ≤ view_len new
+  pub grown : Grown old new
+  pub no_shorter : capacity < start + length replacement + (length (items old) - end) → length (items old) ≤ length (items new)
 
 -- How a splice of a range that is in a list of this length is answered: by what was taken, and by what found no room if
 -- there is such. `Splices` is what it then did. A refused allocation is a case of its own.

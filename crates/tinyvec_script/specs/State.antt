@@ -3,7 +3,7 @@ use Rattle.std.specs.Prelude.{ℕ, List, ℤ}
 use Rattle.std.specs.Borrow.{MutBor}
 use Rattle.tinyvec_array.specs.ArrayVec.{view as array_view, view_of}
 use Rattle.tinyvec_array.specs.SliceVec.{view}
-use Rattle.tinyvec_array.specs.declared.storage.Slots as Storage
+use Rattle.tinyvec_array.specs.declared.slots.Slots as Storage
 use Rattle.tinyvec.specs.TinyVec.{tiny_view}
 use Rattle.tinyvec_script.specs.Script.{State}
 use Rattle.tinyvec_script.specs.declared.vectors.Vectors.{Vectors}

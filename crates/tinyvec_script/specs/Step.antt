@@ -2,7 +2,7 @@
 use Rattle.std.specs.Prelude.{◌≡◌, ℕ, ◌<◌, ◌≤◌, List, [], ◌∷◌, ◌++◌, length, take, insert, remove, slice_get, Some}
 use Rattle.std.specs.List.{swap_remove}
 use Rattle.tinyvec_slots.specs.Slots.{Slots, items, items_len, all_slots, split_at, SlotRule}
-use Rattle.tinyvec_script.specs.Driving.{IsRange, ArraySplices, SpliceAnswers, ListDrains}
+use Rattle.tinyvec_script.specs.Driving.{IsRange, DrivenSplices, SpliceAnswers, ListDrains}
 use Rattle.tinyvec_script.specs.declared.call.Call.{Call}
 use Rattle.tinyvec_script.specs.declared.call.Call.TheVariants.{Push, Pop, Insert, Remove, SwapRemove, Truncate, Drain, Splice, SetLen, Reserve, Heap, Shrink}
 use Rattle.tinyvec_script.specs.declared.call.Answer.{Answer}
@@ -36,7 +36,7 @@ module _ {T : Type 0} (D : T → Type 0) where
       (IsRange (items old) start end → ⊥) × (new ≡ old)
   ArrayStep capacity old (Splice start end word replacement) answer new = IsRange (items old) start end
       × SpliceAnswers capacity (items_len old) start end replacement.items (new ≡ old)
-      (λ yields rest. ArraySplices D capacity old start end word.items replacement.items yields rest new) answer
+      (λ yields rest. DrivenSplices items (SlotRule D) capacity old start end word.items replacement.items yields rest new) answer
   ArrayStep capacity old (SetLen n) answers.Done new = (n ≤ capacity) × (new ≡ split_at n (all_slots old))
   ArrayStep capacity old (SetLen n) answers.Range new = (capacity < n) × (new ≡ old)
   -- it has no such call

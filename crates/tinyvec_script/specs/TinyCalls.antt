@@ -3,9 +3,9 @@ use Rattle.std.specs.Prelude.{◌≡◌, ℕ, ◌+◌, ◌-◌, ◌<◌, ◌≤�
 use Rattle.std.specs.List.{swap_remove}
 use Rattle.tinyvec_slots.specs.Slots.{AreDefaults}
 use Rattle.tinyvec.specs.View.{TinyView, lies_inline, view_len, view_inline, view_capacity, ViewInline, Becomes}
-use Rattle.tinyvec.specs.Room.{MakesRoom}
+use Rattle.tinyvec.specs.Room.{Grows, MakesRoom}
 use Rattle.std.specs.declared.alloc.AllocError.{AllocError}
-use Rattle.tinyvec_script.specs.Driving.{IsRange, ListDrains, TinySplices, SpliceAnswers}
+use Rattle.tinyvec_script.specs.Driving.{IsRange, ListDrains, DrivenSplices, SpliceAnswers}
 use Rattle.tinyvec_script.specs.declared.call.Call.{Call}
 use Rattle.tinyvec_script.specs.declared.call.Call.TheVariants.{Push, Pop, Insert, Remove, SwapRemove, Truncate, Drain, Splice, SetLen, Reserve, Heap, Shrink}
 use Rattle.tinyvec_script.specs.declared.call.Answer.{Answer}
@@ -57,7 +57,8 @@ module _ {T : Type 0} (D : T → Type 0) (slots : ℕ) where
   TinyAnswers old (Splice start end word replacement) answers.Range new = (IsRange old.items start end → ⊥) × (new ≡ old)
   TinyAnswers old (Splice start end word replacement) answer new = IsRange old.items start end
       × SpliceAnswers (view_capacity slots new) (view_len old) start end replacement.items (new ≡ old)
-      (λ yields rest. TinySplices D slots old start end word.items replacement.items yields rest new) answer
+      (λ yields rest. DrivenSplices (λ v. v.items) (Grows D slots) (view_capacity slots new) old start end word.items replacement.items yields rest new)
+      answer
   TinyAnswers old (Reserve n) answers.Done new = (new.items ≡ old.items) × (view_len old + n ≤ view_capacity slots new)
       × NeedsRoom (view_inline old) slots (view_len old + n) old new
   TinyAnswers old (Reserve n) answers.Memory new = (view_capacity slots old < view_len old + n) × (new ≡ old)

@@ -1,27 +1,54 @@
 //! A splice whose items are taken from the ends that a word names.
-ghost use Rattle.std.specs.Prelude.{◌≡◌, ◌+◌, ◌<◌, ◌≤◌, ◌∷◌, ◌++◌, [], List, Option, length, IfOk, OnErr, vec_len, vec_capacity};
-ghost use Rattle.std.specs.Vec.Iter.{into_iter_items};
+ghost use Rattle.std.specs.Prelude.{◌≡◌, ◌+◌, ◌<◌, ◌≤◌, ◌∷◌, ◌++◌, [], List, Option, length, IfOk, IfErr, OnErr, vec_len, vec_capacity};
+ghost use Rattle.std.specs.Iterator.Adapters.{fuse_steps};
+ghost use Rattle.std.specs.Vec.Iter.{into_iter_items, into_iter_steps, into_iter_steps_back};
 ghost use Rattle.tinyvec_slots.specs.Ends.{RunsWord, given_items};
 ghost use Rattle.tinyvec_slots.specs.Fused.{fused_rest};
-ghost use Rattle.tinyvec_script.specs.Driving.{word_of, TakesAt, WhateverIsAsked, refused_items};
+ghost use Rattle.tinyvec_slots.specs.Splice.{splice_left, SpliceCanStep, SpliceSteps, SpliceStepsBack};
+ghost use Rattle.tinyvec_script.specs.Driving.{word_of, TakesAt, refused_items, DrivenSplices, SpliceComputes};
 ghost use Rattle.tinyvec_script.specs.declared.call.Answer.TheVariants as answers;
 
-mod array;
-mod tiny;
-
 use crate::{Answer, End};
-pub use array::drive_array_splice;
 use std::alloc::{AllocError, Global};
 use std::iter::Fuse;
 use std::vec::IntoIter;
-pub use tiny::drive_tiny_splice;
-use tinyvec::SpliceRest;
+use tinyvec_slots::authors::{CanSplice, splice_over};
+use tinyvec_slots::{NoMemory, NoRoom, Splice};
 
 /// The items that a splice yielded, and the items of its replacement that found no room.
 #[derive(PartialEq, Debug, Drop)]
 pub struct Driven<T> {
     pub yields: Vec<T>,
     pub rest: Vec<T>,
+}
+
+/// Replaces the items from `start` up to `end`. Before that it takes an item from each end that the word names. Allocates
+/// both result lists first; if that fails, returns the replacement and changes nothing. In a `TinyVec` items find no room
+/// only if the allocator refuses to grow it.
+pub fn drive_splice<V: CanSplice>(
+    alloc: Global,
+    vec: &mut V,
+    start: usize,
+    end: usize,
+    replacement: Vec<V::Item>,
+    word: &[End],
+) -> Result<Driven<V::Item>, NoMemory<Vec<V::Item>>>
+    requires start_le_end { start ≤ end }
+    requires in_bounds { end ≤ length (V.items vec.old) }
+    ensures splices { IfOk result (λ driven. DrivenSplices V.items V.Grown (V.room vec.new) vec.old start end word.now
+        replacement.items driven.yields.items driven.rest.items vec.new) }
+    ensures computed { IfOk result (λ driven. SpliceComputes (V.room vec.new) (V.items vec.old) start end word.now
+        replacement.items driven.yields.items driven.rest.items (V.items vec.new)) }
+    ensures refused { IfErr result (λ refused. (refused.0 ≡ replacement) × (vec.new ≡ vec.old)
+        × (start < end + vec_len replacement)) }
+{
+    let Ok(mut driven) = with_room(alloc, end - start, replacement.len()) else {
+        return Err(NoMemory(replacement));
+    };
+    let mut splice = splice_over(vec, start, end, replacement.into_iter());
+    take_word(&mut splice, word, &mut driven.yields);
+    keep_refused(&mut driven.rest, splice.finish());
+    Ok(driven)
 }
 
 // The answer to a splice: the items taken, and those that found no room if there are any.
@@ -47,43 +74,46 @@ fn with_room<T: Drop>(alloc: Global, yields: usize, rest: usize) -> Result<Drive
     Ok(Driven { yields, rest })
 }
 
-// An iterator with two ends that need not be `Drop`: a splice is spent by `finish`, and every std iterator has a `Drop`.
-trait TwoEnds {
-    type Item;
-
-    ghost can: { Self → Type 0 };
-
-    ghost gives: { Self → Option Self.Item → Self → Type 0 };
-
-    ghost gives_back: { Self → Option Self.Item → Self → Type 0 };
-
-    // Takes an item from `end`.
-    fn take_from(&mut self, end: End) -> Option<Self::Item>
-        requires { can self.old }
-        ensures { TakesAt gives gives_back end self.old result self.new };
-}
-
 // Takes an item from each end that the word names, and appends it to `yields`.
-fn take_word<S: TwoEnds>(splice: &mut S, word: &[End], yields: &mut Vec<S::Item>)
-    requires can { WhateverIsAsked S.gives S.gives_back splice.old (λ answers t. S.can t) }
-    requires room { WhateverIsAsked S.gives S.gives_back splice.old
-        (λ answers t. vec_len yields.old + length (given_items answers) ≤ vec_capacity yields.old) }
-    ensures asks { (answers : List (Option S.Item))
-        × RunsWord S.gives S.gives_back splice.old (word_of word.now) answers splice.new
+fn take_word<V: CanSplice>(
+    splice: &mut Splice<'_, V, Fuse<IntoIter<V::Item, Global>>>,
+    word: &[End],
+    yields: &mut Vec<V::Item>,
+)
+    requires ready { SpliceCanStep V.items splice.old }
+    requires room { vec_len yields.old + length (splice_left V.items splice.old) ≤ vec_capacity yields.old }
+    ensures asks { (answers : List (Option V.Item))
+        × RunsWord (SpliceSteps V.items V.Kept (fuse_steps into_iter_steps))
+        (SpliceStepsBack V.items V.Kept (fuse_steps into_iter_steps_back)) splice.old (word_of word.now) answers splice.new
         × (yields.new.items ≡ yields.old.items ++ given_items answers) }
 {
     for letter in word {
-        match splice.take_from(*letter) {
+        match take_from(splice, *letter) {
             Some(item) => yields.push_reserved(item),
             None => {}
         }
     }
 }
 
+// Takes an item from `end`.
+fn take_from<V: CanSplice>(
+    splice: &mut Splice<'_, V, Fuse<IntoIter<V::Item, Global>>>,
+    end: End,
+) -> Option<V::Item>
+    requires ready { SpliceCanStep V.items splice.old }
+    ensures { TakesAt (SpliceSteps V.items V.Kept (fuse_steps into_iter_steps))
+        (SpliceStepsBack V.items V.Kept (fuse_steps into_iter_steps_back)) end splice.old result splice.new }
+{
+    match end {
+        End::Front => splice.next(),
+        End::Back => splice.next_back(),
+    }
+}
+
 // Appends the items that found no room, if there are any.
 fn keep_refused<T: Drop>(
     list: &mut Vec<T>,
-    finished: Result<(), SpliceRest<T, Fuse<IntoIter<T, Global>>>>,
+    finished: Result<(), NoRoom<T, Fuse<IntoIter<T, Global>>>>,
 )
     requires { vec_len list.old + length (refused_items (fused_rest into_iter_items) finished) ≤ vec_capacity list.old }
     ensures { list.new.items ≡ list.old.items ++ refused_items (fused_rest into_iter_items) finished }
@@ -95,11 +125,11 @@ fn keep_refused<T: Drop>(
 }
 
 // Appends the refused item and those that follow it.
-fn keep<T: Drop>(list: &mut Vec<T>, refused: SpliceRest<T, Fuse<IntoIter<T, Global>>>)
+fn keep<T: Drop>(list: &mut Vec<T>, refused: NoRoom<T, Fuse<IntoIter<T, Global>>>)
     requires { vec_len list.old + length (fused_rest into_iter_items refused.rest) < vec_capacity list.old }
     ensures { list.new.items ≡ list.old.items ++ refused.item ∷ fused_rest into_iter_items refused.rest }
 {
-    let SpliceRest { item, rest } = refused;
+    let NoRoom { item, rest } = refused;
     list.push_reserved(item);
     for item in rest {
         list.push_reserved(item);

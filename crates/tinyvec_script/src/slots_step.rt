@@ -3,7 +3,7 @@ ghost use Rattle.tinyvec_array.specs.ArrayVec.{view_of, SameLender};
 ghost use Rattle.tinyvec_script.specs.Step.{SlotsStep, SliceStep};
 
 use crate::driving::answer_driven;
-use crate::{Answer, Call, drive_array_splice};
+use crate::{Answer, Call, drive_splice};
 use std::alloc::Global;
 use tinyvec::{ArrayVec, Slots};
 
@@ -69,7 +69,7 @@ where
             if start > end || end > vec.len() {
                 return Answer::Range;
             }
-            match drive_array_splice(alloc, vec, start, end, replacement, word.as_slice()) {
+            match drive_splice(alloc, vec, start, end, replacement, word.as_slice()) {
                 Ok(driven) => answer_driven(driven),
                 Err(_) => Answer::Memory,
             }

@@ -4,7 +4,7 @@ ghost use Rattle.tinyvec.specs.TinyVec.{tiny_view_of, tiny_len_of, tiny_capacity
 ghost use Rattle.tinyvec_script.specs.TinyCalls.{TinyAnswers};
 
 use crate::driving::answer_driven;
-use crate::{Answer, Call, drive_tiny_splice};
+use crate::{Answer, Call, drive_splice};
 use std::alloc::Global;
 use tinyvec::{Array, TinyVec};
 
@@ -66,7 +66,7 @@ pub(crate) fn answer_tiny<A: Array>(
             if start > end || end > len {
                 return Answer::Range;
             }
-            match drive_tiny_splice(alloc, vec, start, end, replacement, word.as_slice()) {
+            match drive_splice(alloc, vec, start, end, replacement, word.as_slice()) {
                 Ok(driven) => answer_driven(driven),
                 Err(_) => Answer::Memory,
             }

@@ -5,24 +5,24 @@ use Rattle.std.proofs.lemmas.Result.{MatchResult-weaker}
 use Rattle.std.specs.Iterator.{Drains, Yields, YieldsThen}
 use Rattle.tinyvec_slots.specs.Filling.{ShowsItems}
 use Rattle.tinyvec_slots.specs.AnySplice.{SpliceView, Finishes, FinishesWith, FinishTouches}
-use Rattle.tinyvec_slots.specs.declared.no_room.SpliceRest.{SpliceRest}
+use Rattle.tinyvec_slots.specs.declared.no_room.NoRoom.{NoRoom}
 use Rattle.tinyvec_slots.proofs.FillingLemmas.{drained, refused}
 
 module _ {I T : Type 0} (gives : I → Option T → I → Type 0) (capacity : ℕ) (s : SpliceView I T) (list : List T) where
   -- how long the list is
-  pub finished_len : (result : Result Unit (SpliceRest T I)) (h : Finishes gives capacity s result list)
+  pub finished_len : (result : Result Unit (NoRoom T I)) (h : Finishes gives capacity s result list)
       → length list ≡ length s.front + length h.placed + length s.back
   finished_len result h = rw (h.list_is, length-append, length-append)
 
   -- it is no shorter than what it was put into
-  pub finished_longer : (at : ℕ) (xs : List T) → s.front ≡ take at xs → s.back ≡ drop at xs → (result : Result Unit (SpliceRest T I))
+  pub finished_longer : (at : ℕ) (xs : List T) → s.front ≡ take at xs → s.back ≡ drop at xs → (result : Result Unit (NoRoom T I))
       → Finishes gives capacity s result list → length xs ≤ length list
   finished_longer at xs front back result h =
       let long = finished_len result h in
       omega (arith, ap length front ∙ length-take at xs, ap length back ∙ length-drop at xs)
 
   -- of a replacement of which it is known what it still gives
-  pub finishes_with : (rest : I → List T) → ShowsItems gives rest → (result : Result Unit (SpliceRest T I))
+  pub finishes_with : (rest : I → List T) → ShowsItems gives rest → (result : Result Unit (NoRoom T I))
       → Finishes gives capacity s result list → FinishesWith rest capacity s result list
   finishes_with rest shows (Ok u) h =
       let all : rest s.replacement ≡ h.placed = drained gives rest shows s.replacement h.placed h.ran.0 h.ran.1 in
@@ -42,11 +42,11 @@ module _ {I T : Type 0} (gives : I → Option T → I → Type 0) (capacity : �
       }
 
 -- what a run gave that ended so
-abbrev Ran : {I T : Type 0} → (I → Option T → I → Type 0) → I → List T → Result Unit (SpliceRest T I) → Type 0
+abbrev Ran : {I T : Type 0} → (I → Option T → I → Type 0) → I → List T → Result Unit (NoRoom T I) → Type 0
 Ran gives s placed result = MatchResult result (λ _. Drains gives s placed) (λ refused. YieldsThen gives s placed (Some refused.item) refused.rest)
 
 -- one run after another
-pub ran_on : {I T : Type 0} (gives : I → Option T → I → Type 0) (s t : I) (xs ys : List T) (result : Result Unit (SpliceRest T I))
+pub ran_on : {I T : Type 0} (gives : I → Option T → I → Type 0) (s t : I) (xs ys : List T) (result : Result Unit (NoRoom T I))
     → Yields gives s xs t → Ran gives t ys result → Ran gives s (xs ++ ys) result
 ran_on gives s t xs ys result run ran =
     MatchResult-weaker result ran (λ u h. (h.0, (h.1.0, Yields-both gives xs ys s t h.1.0 run h.1.1, h.1.2)))
@@ -67,7 +67,7 @@ module _ {I T : Type 0} (gives : I → Option T → I → Type 0) (capacity : �
   }
 
   -- more was brought in there
-  pub finishes_appended : (result : Result Unit (SpliceRest T I)) (list : List T) → Yields gives s.replacement placed mid.replacement
+  pub finishes_appended : (result : Result Unit (NoRoom T I)) (list : List T) → Yields gives s.replacement placed mid.replacement
       → Finishes gives capacity mid result list → Finishes gives capacity s result list
   finishes_appended result list run h = record {
     placed = placed ++ h.placed;

@@ -15,6 +15,7 @@ pub mod Fused
 pub mod TurnLemmas
 pub mod FinishLemmas
 pub mod AnySpliceLemmas
+pub mod SpliceLemmas
 pub mod TextLemmas
 pub mod ReplacingLemmas
 pub mod KnownItems

@@ -6,7 +6,7 @@ use Rattle.std.specs.Iterator.{AlwaysYields}
 use Rattle.std.specs.Iterator.Adapters.{fuse_done, fuse_source, fuse_steps}
 use Rattle.tinyvec_slots.specs.Replacing.{FusedYields, PutsBetween}
 use Rattle.tinyvec_slots.specs.AnySplice.{SpliceView, Finishes}
-use Rattle.tinyvec_slots.specs.declared.no_room.SpliceRest.{SpliceRest}
+use Rattle.tinyvec_slots.specs.declared.no_room.NoRoom.{NoRoom}
 use Rattle.tinyvec_slots.proofs.FillingLemmas.{drained_all, refused_early}
 
 open_step : (P Q : Type 0) (ended : Bool) → ended ≡ false → MatchBool ended P Q → Q
@@ -28,7 +28,7 @@ fused_yields steps (y ∷ ys) s h = (
 -- it was granted, has room for
 module _ {I T : Type 0} (steps : I → Option T → I → Type 0) (room granted : ℕ) (more : room ≤ granted) (s : SpliceView (Fuse I) T) (xs list : List T)
     (yields : FusedYields steps s.replacement xs) where
-  pub finished_known : (result : Result Unit (SpliceRest T (Fuse I))) → Finishes (fuse_steps steps) granted s result list
+  pub finished_known : (result : Result Unit (NoRoom T (Fuse I))) → Finishes (fuse_steps steps) granted s result list
       → PutsBetween room s.front xs s.back result list
   finished_known (Ok u) h =
       let all = drained_all (fuse_steps steps) xs s.replacement (fused_yields steps xs s.replacement yields) h.placed h.ran.0 h.ran.1 in

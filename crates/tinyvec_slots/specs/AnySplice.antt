@@ -2,7 +2,7 @@
 use Rattle.std.specs.Prelude.{◌≡◌, ℕ, ◌+◌, ◌-◌, ◌*◌, ◌<◌, ◌≤◌, List, [], ◌∷◌, ◌++◌, length, Option, Some, MatchOption, Result, MatchResult, max, IsOk, OnOk, OnErr, IfErr, ◌↔◌}
 use Rattle.std.specs.Option.{option_to_list}
 use Rattle.std.specs.Iterator.{Drains, YieldsThen}
-use Rattle.tinyvec_slots.specs.declared.no_room.SpliceRest.{SpliceRest}
+use Rattle.tinyvec_slots.specs.declared.no_room.NoRoom.{NoRoom}
 
 -- what a contract sees of a splice
 pub record SpliceView (I T : Type 0) : Type 0 where
@@ -79,7 +79,7 @@ module _ {I T : Type 0} where
 module _ {I T : Type 0} (gives : I → Option T → I → Type 0) (capacity : ℕ) where
   -- `finish` of s returned the result. It placed what the replacement still yielded, as far as there was room, between the
   -- front and the back.
-  pub record Finishes (s : SpliceView I T) (result : Result Unit (SpliceRest T I)) (list : List T) : Type 0 where
+  pub record Finishes (s : SpliceView I T) (result : Result Unit (NoRoom T I)) (list : List T) : Type 0 where
     pub placed : List T
     pub ran : MatchResult result (λ _. Drains gives s.replacement placed)
         (λ refused. YieldsThen gives s.replacement placed (Some refused.item) refused.rest)
@@ -89,7 +89,7 @@ module _ {I T : Type 0} (gives : I → Option T → I → Type 0) (capacity : �
 
 -- the same, if it is known what the replacement still yields: all of it was placed, or it did not fit
 module _ {I T : Type 0} (rest : I → List T) (capacity : ℕ) where
-  pub record FinishesWith (s : SpliceView I T) (result : Result Unit (SpliceRest T I)) (list : List T) : Type 0 where
+  pub record FinishesWith (s : SpliceView I T) (result : Result Unit (NoRoom T I)) (list : List T) : Type 0 where
     pub succeeds : IsOk result ↔ (length s.front + length (rest s.replacement) + length s.back ≤ capacity)
     pub all : OnOk result (list ≡ s.front ++ rest s.replacement ++ s.back)
     pub refused : IfErr result (λ refused. (placed : List T) × (rest s.replacement ≡ placed ++ refused.item ∷ rest refused.rest)

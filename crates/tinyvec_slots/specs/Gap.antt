@@ -1,5 +1,5 @@
 -- What a contract sees of a `Gap`, with the replacement of its splice and its slots.
-use Rattle.std.specs.Prelude.{◌≡◌, ℕ, ◌+◌, ◌*◌, ◌-◌, ◌≤◌, false, Bool, List, [], take, drop, slice_range, Option, MatchOption}
+use Rattle.std.specs.Prelude.{◌≡◌, ℕ, ◌+◌, ◌*◌, ◌-◌, ◌≤◌, false, Bool, List, take, drop, slice_range}
 use Rattle.tinyvec_slots.specs.AnySplice.{SpliceView}
 use Rattle.tinyvec_slots.specs.Touches.{touch_count, FitsBits}
 use Rattle.tinyvec_slots.specs.declared.gap.Gap.{Gap}
@@ -47,10 +47,3 @@ pub record GapCanStep (g : Gap) (ended : Bool) (len : ℕ) : Type 0 where
   pub back_le_len : g.back ≤ len
   pub no_slot_besides : ended ≡ false → (g.front ≡ g.next) × (g.end ≡ g.back)
   pub few : FitsBits 66 (gap_touches g + 2 * gap_len g)
-
--- A call at one end of a gap took a vector, its gap and its replacement to others. `items` is the list of the vector, `Kept`
--- what a write of it leaves, and `Gives` how an item is given.
-abbrev pub GapSteps : {V I T : Type 0} → (V → List T) → (V → V → Type 0) → (SpliceView I T → T → SpliceView I T → Type 0)
-    → V → Gap → I → Option T → V → Gap → I → Type 0
-GapSteps items Kept Gives v g r item w h s = MatchOption item ((gap_left g (items v) ≡ []) × (w ≡ v) × (h ≡ g) × (s ≡ r))
-    (λ x. Gives (gap_view g r (items v)) x (gap_view h s (items w)) × Kept v w)

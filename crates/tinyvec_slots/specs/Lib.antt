@@ -12,5 +12,6 @@ pub mod Touches
 pub mod Fused
 pub mod Gap
 pub mod AnySplice
+pub mod Splice
 pub mod SplicedByWord
 pub mod Replacing

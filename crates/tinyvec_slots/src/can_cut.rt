@@ -20,6 +20,10 @@ pub trait CanCut {
 
     ghost Truncated: { Self → Self → Type 0 };
 
+    /// The items.
+    fn as_slice(&self) -> &[Self::Item]
+        ensures { result.now ≡ items self.now };
+
     /// The items, for writing.
     fn as_mut_slice(&mut self) -> &mut [Self::Item]
         ensures* writes_back { sem 𝓛 (Lends Self.row (SliceOf Self.Item.row 0) self.entry result (with_items self.old)) }

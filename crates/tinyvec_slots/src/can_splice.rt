@@ -3,7 +3,8 @@ ghost use Rattle.std.specs.Prelude.{◌≡◌, ◌++◌, ◌≤◌, ℕ, ⊤, Bo
 ghost use Rattle.std.specs.Bool.{MatchBool};
 ghost use Rattle.std.specs.Iterator.{Drains, YieldsThen, IsFinite};
 
-use crate::{CanCut, SpliceRest};
+use crate::NoRoom;
+use crate::authors::CanCut;
 
 /// A list whose items a splice can replace.
 pub trait CanSplice: CanCut {
@@ -13,8 +14,15 @@ pub trait CanSplice: CanCut {
     // Whether what is appended has to end.
     ghost must_end: { Bool };
 
+    // What `Debug` calls a splice.
+    ghost splice_word: { List ℕ };
+
     // What an append leaves of all else.
     ghost Grown: { Self → Self → Type 0 };
+
+    /// What `Debug` calls a splice.
+    fn splice_name() -> &'static str
+        ensures { result.now ≡ splice_word };
 
     /// The number of items.
     fn len(&self) -> usize
@@ -26,7 +34,7 @@ pub trait CanSplice: CanCut {
     fn extend_counted<I: Iterator<Item = Self::Item>>(
         &mut self,
         iter: I,
-    ) -> (Result<(), SpliceRest<Self::Item, I>>, usize)
+    ) -> (Result<(), NoRoom<Self::Item, I>>, usize)
         requires can { I.can_next iter }
         requires finite { MatchBool must_end (IsFinite (I.remaining iter)) ⊤ }
         ensures ran { (placed : List Self.Item) × MatchResult result.0 (λ _. Drains I.next_gives iter placed)
@@ -40,7 +48,11 @@ pub trait CanSplice: CanCut {
 
     ghost kept_same: { (v : Self) → Self.Kept v v };
 
+    ghost kept_then: { (u v w : Self) → Self.Kept u v → Self.Kept v w → Self.Kept u w };
+
     ghost kept_room: { (v w : Self) → Self.Kept v w → Self.room w ≡ Self.room v };
+
+    ghost kept_len: { (v w : Self) → Self.Kept v w → length (Self.items w) ≡ length (Self.items v) };
 
     ghost kept_grown: { (u v w x : Self) → Self.Kept u v → Grown v w → Self.Kept w x → Grown u x };
 

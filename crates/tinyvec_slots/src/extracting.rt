@@ -8,8 +8,8 @@ ghost use Rattle.std.specs.Option.{option_len};
 ghost use Rattle.tinyvec_slots.specs.Ranges.{Within};
 ghost use Rattle.tinyvec_slots.specs.Extracting.{Extracts};
 
+use crate::authors::{CanCut, close_gap};
 use crate::filtering::move_down;
-use crate::{CanCut, close_gap};
 use std::mem;
 
 /// Yields the items of a range for which a closure returns `true`. When it is dropped, the list has all others.

@@ -4,7 +4,7 @@ ghost use Rattle.std.specs.Fn.{FnOnceTakesAtMut, CalledAt, CalledAtMut, CalledAt
 ghost use Rattle.std.specs.List.Retain.{IsFiltered, RetainsInTurn, IsDeduped, PopsIf};
 ghost use Rattle.tinyvec_slots.specs.Filters.{AsksPair, Shortened, RetainsTo, IsFilteredTo, IsDedupedTo};
 
-use crate::CanCut;
+use crate::authors::CanCut;
 use crate::tuned::sizes::are_small;
 use std::mem;
 

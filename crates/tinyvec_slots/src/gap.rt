@@ -7,7 +7,7 @@ ghost use Rattle.tinyvec_slots.specs.AnySplice.{GivesFromFront, GivesFromBack};
 
 mod closing;
 
-use crate::subslice;
+use crate::authors::subslice;
 use crate::touches::Touches;
 use std::iter::Fuse;
 

@@ -23,11 +23,7 @@ pub struct FromIterRest<V, T, I> {
 }
 
 /// What `finish` of a splice could not place: the first such item, and the iterator of the others.
-#[derive(PartialEq, Eq, Debug, Drop)]
-pub struct SpliceRest<T, I> {
-    pub item: T,
-    pub rest: I,
-}
+pub type SpliceRest<T, I> = NoRoom<T, I>;
 
 impl<T: Drop, I: Drop> From<NoRoom<T, I>> for AllocError {
     fn from(_refused: NoRoom<T, I>) -> Self {
@@ -53,20 +49,6 @@ impl<V: Drop, T: Drop, I: Drop> From<FromIterRest<V, T, I>> for Error {
     ghost from_gives = { λ _ e. error_kind e ≡ OutOfMemory };
 
     fn from(_refused: FromIterRest<V, T, I>) -> Self {
-        Error::from(AllocError)
-    }
-}
-
-impl<T: Drop, I: Drop> From<SpliceRest<T, I>> for AllocError {
-    fn from(_refused: SpliceRest<T, I>) -> Self {
-        AllocError
-    }
-}
-
-impl<T: Drop, I: Drop> From<SpliceRest<T, I>> for Error {
-    ghost from_gives = { λ _ e. error_kind e ≡ OutOfMemory };
-
-    fn from(_refused: SpliceRest<T, I>) -> Self {
         Error::from(AllocError)
     }
 }

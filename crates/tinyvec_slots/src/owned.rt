@@ -5,7 +5,7 @@ ghost use Rattle.std.specs.Iterator.SizeHint.{IsWithinCount};
 ghost use Rattle.std.specs.Fmt.{debug_list, debug_variant};
 ghost use Rattle.std.specs.List.{AllZip};
 
-use crate::{CanCut, write_named};
+use crate::authors::{CanCut, write_named};
 use std::alloc::AllocError;
 use std::fmt;
 use std::iter::FusedIterator;
@@ -22,10 +22,6 @@ pub trait OwnsItems: CanCut + Drop {
     /// What `Debug` calls the iterator.
     fn iterator_name() -> &'static str
         ensures { result.now ≡ name };
-
-    /// The items.
-    fn as_slice(&self) -> &[Self::Item]
-        ensures { result.now ≡ Self.items self.now };
 
     /// Takes the item at `i`, and leaves a default.
     fn take_at(&mut self, i: usize) -> Self::Item

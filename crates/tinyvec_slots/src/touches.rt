@@ -74,7 +74,7 @@ impl Touches {
     // Moves the slots from `back` on down to `at`, and those between to the end.
     pub(crate) fn close<T>(&mut self, slots: &mut [T], at: usize, back: usize)
         requires in_bounds { Within at back (length slots.old) }
-        requires few { FitsBits 100 (touch_count self.old) }
+        requires few { FitsBits 80 (touch_count self.old) }
         ensures kept { take (length slots.old - (back - at)) slots.new ≡ take at slots.old ++ drop back slots.old }
         ensures count { touch_count self.new ≡ touch_count self.old + (length slots.old - back) }
     {
@@ -90,7 +90,7 @@ impl Touches {
     // Moves the slots from `middle` on before those from `start` on.
     pub(crate) fn rotate<T>(&mut self, slots: &mut [T], start: usize, middle: usize)
         requires in_bounds { Within start middle (length slots.old) }
-        requires few { FitsBits 100 (touch_count self.old) }
+        requires few { FitsBits 80 (touch_count self.old) }
         ensures after { slots.new
             ≡ take start slots.old ++ drop middle slots.old ++ slice_range slots.old start middle }
         ensures touches_grow { touch_count self.old ≤ touch_count self.new }

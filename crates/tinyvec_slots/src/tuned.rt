@@ -15,7 +15,6 @@
 pub(crate) mod cloning;
 pub(crate) mod comparing;
 pub(crate) mod moving;
-pub(crate) mod resetting;
 pub(crate) mod shifting;
 pub(crate) mod sizes;
 pub(crate) mod taking;

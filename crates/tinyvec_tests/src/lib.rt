@@ -8,6 +8,8 @@ mod asked;
 #[cfg(test)]
 mod clones;
 #[cfg(test)]
+mod drops;
+#[cfg(test)]
 mod endless;
 #[cfg(test)]
 mod errors;

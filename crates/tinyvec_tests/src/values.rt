@@ -11,10 +11,13 @@ use tinyvec_text::InlineText;
 fn sizes_are_those_of_the_pages(rt: HostRuntime) -> Result<(), Fail> {
     all_steps(&[
         size_of::<ArrayVec<[u8; 16]>>() == 24,
+        size_of::<ArrayVec<[u128; 2]>>() == 48,
         size_of::<SliceVec<'_, u32>>() == 24,
         size_of::<TinyVec<[u32; 4]>>() == 32,
         size_of::<TinyVec<[i64; 8]>>() == 80,
         size_of::<TinyVec<[u8; 1]>>() == 32,
+        size_of::<TinyVec<[u8; 28]>>() == 48,
+        size_of::<TinyVec<[u128; 2]>>() == 64,
         size_of::<InlineText<15>>() == 32,
         size_of::<InlineText<16>>() == 32,
         size_of::<InlineText<17>>() == 40,

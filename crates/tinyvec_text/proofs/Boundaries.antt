@@ -1,11 +1,12 @@
 -- Where the bytes of a text may be cut, and which characters stand on each side.
-use Rattle.std.proofs.Common.{◌≡◌, ℕ, ◌+◌, ◌<◌, ◌≤◌, slice_index, List, [], ◌∷◌, ◌++◌, length, take, drop, true, refl, sym, ap, ◌∙◌, take-append-drop, length-take-le, subst, append-nil, encode_utf8, IsUtf8}
+use Rattle.std.proofs.Common.{◌≡◌, ℕ, ◌+◌, ◌<◌, ◌≤◌, slice_index, List, [], ◌∷◌, ◌++◌, length, take, drop, true, ◌&&◌, refl, sym, ap, ◌∙◌, arith, take-append-drop, length-append, length-drop, length-take-le, take_at, drop_at, subst, append-nil, encode_utf8, IsUtf8}
+use Rattle.std.proofs.Math.Seq.{take-append-le, drop-append-le}
 use Rattle.std.specs.Str.{chars, encode_utf8_all, all_scalars}
 use Rattle.std.specs.String.Boundary.{IsSplitPoint}
 use Rattle.std.proofs.CharBoundary.{IsUtf8-take-drop}
 use Rattle.std.proofs.lemmas.Str.{chars-append, encodes-chars, encodes-append, IsUtf8-append, scalars-chars, IsCharBoundary-at_seam, chars_past_char, chars-nil}
 use Rattle.std.proofs.lemmas.Bool.{and_parts}
-use Rattle.std.proofs.lemmas.List.{drop-drop}
+use Rattle.std.proofs.lemmas.List.{drop-drop, append_cancel_right}
 use Rattle.tinyvec_text.specs.InlineText.{IsBoundary}
 
 -- the characters on each side of a cut
@@ -75,3 +76,49 @@ module _ (bs : List ℕ) (u : IsUtf8 bs) (i : ℕ) (p : IsSplitPoint bs i) (n c 
 -- the one character of its bytes
 pub chars_of_one : (bs : List ℕ) (c : ℕ) → IsUtf8 bs → bs ≡ encode_utf8 c → chars bs ≡ c ∷ []
 chars_of_one bs c u e = chars_past_char bs [] c u (e ∙ sym (append-nil (encode_utf8 c))) ∙ ap (λ cs. c ∷ cs) chars-nil
+
+-- a boundary is where UTF-8 follows
+pub split_before : (bs : List ℕ) (k : ℕ) → k ≤ length bs → IsUtf8 (drop k bs) → IsSplitPoint bs k
+split_before bs k le u =
+    let seam = IsCharBoundary-at_seam bs (take k bs) (drop k bs) (sym (take-append-drop k bs)) u in
+    let split : IsSplitPoint bs (length (take k bs)) = (seam.0, λ _. seam.1) in
+    rw (length-take-le k bs le) at split
+
+-- the first characters of a text are characters
+scalars_ahead : (front rest : List ℕ) → all_scalars (front ++ rest) ≡ true → all_scalars front ≡ true
+scalars_ahead [] rest h = refl
+scalars_ahead (c ∷ cs) rest h = let both = and_parts _ _ h in ap (λ k. k && all_scalars cs) both.0 ∙ scalars_ahead cs rest both.1
+
+some_chars : (cs bs : List ℕ) → encode_utf8_all cs ≡ bs → 0 < length bs → 0 < length cs
+some_chars [] bs spell more = absurd (let none = ap length spell in omega (arith, none, more))
+some_chars (c ∷ cs) bs spell more = omega arith
+
+-- the text before the last character c
+module _ (bs xs : List ℕ) (c : ℕ) (u : IsUtf8 bs) (parts : bs ≡ xs ++ encode_utf8 c) (popped : chars bs ≡ chars xs ++ c ∷ []) where
+  utf8_ahead : IsUtf8 xs
+  utf8_ahead =
+      let one : encode_utf8_all (c ∷ []) ≡ encode_utf8 c = append-nil (encode_utf8 c) in
+      let spell = sym (encodes-append (chars xs) (c ∷ []) ∙ ap (λ l. encode_utf8_all (chars xs) ++ l) one) ∙ sym (ap encode_utf8_all popped) ∙ encodes-chars bs u ∙ parts in
+      (chars xs, (scalars_ahead (chars xs) (c ∷ []) (sym (ap all_scalars popped) ∙ scalars-chars bs u), append_cancel_right (encode_utf8_all (chars xs)) xs (encode_utf8 c) spell))
+
+  -- it has each boundary that is before the end
+  pub split_ahead : (i : ℕ) → IsSplitPoint bs i → i < length bs → IsSplitPoint xs i × (drop i bs ≡ drop i xs ++ encode_utf8 c)
+  split_ahead i p more =
+      let cut = IsUtf8-take-drop bs u i p in
+      let front = chars (take i bs) in
+      let back = chars (drop i bs) in
+      let n = length front in
+      let cs = chars xs in
+      let rest = encode_utf8_all (drop n cs) in
+      let both : front ++ back ≡ cs ++ c ∷ [] = sym (chars_cut bs u i p) ∙ popped in
+      let some = some_chars back (drop i bs) (encodes-chars (drop i bs) cut.1) (omega (arith, length-drop i bs, more)) in
+      let few : n ≤ length cs = omega (arith, ap length both, length-append front back, length-append cs (c ∷ []), some) in
+      let first : front ≡ take n cs = sym (take_at front back n refl) ∙ ap (take n) both ∙ take-append-le n cs (c ∷ []) few in
+      let size = length-take-le i bs p.0 in
+      let joined : xs ≡ take i bs ++ rest =
+      sym (encodes-chars xs utf8_ahead) ∙ ap encode_utf8_all (sym (take-append-drop n cs)) ∙ encodes-append (take n cs) (drop n cs)
+      ∙ ap (λ l. encode_utf8_all l ++ rest) (sym first) ∙ ap (λ l. l ++ rest) (encodes-chars (take i bs) cut.0) in
+      let inside : i ≤ length xs = omega (arith, ap length joined, length-append (take i bs) rest, size) in
+      let behind : drop i xs ≡ rest = ap (drop i) joined ∙ drop_at (take i bs) rest i size in
+      let scalars = scalars_behind (take n cs) (drop n cs) (ap all_scalars (take-append-drop n cs) ∙ scalars-chars xs utf8_ahead) in
+      (split_before xs i inside (drop n cs, (scalars, sym behind)), ap (drop i) parts ∙ drop-append-le i xs (encode_utf8 c) inside)

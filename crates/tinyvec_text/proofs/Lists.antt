@@ -1,6 +1,6 @@
 -- Lists of bytes as texts.
-use Rattle.std.proofs.Common.{◌≡◌, ℕ, ◌≤◌, List, All, IsUtf8, IsTrue, subst, sym, ◌∙◌, refl, arith, ap, length}
-use Rattle.std.specs.Prelude.{Bool, true, false, Result, Ok}
+use Rattle.std.proofs.Common.{◌≡◌, ℕ, ◌<◌, ◌≤◌, inl, inr, List, All, IsUtf8, IsTrue, subst, sym, refl, arith, ap, length}
+use Rattle.std.specs.Prelude.{Bool, false, Result}
 use Rattle.std.proofs.Math.Seq.{drop-nil}
 use Rattle.std.proofs.lemmas.Result.{on_err_weaker}
 use Rattle.std.proofs.lemmas.List.Elements.{All-append, All-drop}
@@ -9,12 +9,13 @@ use Rattle.tinyvec_slots.specs.Slots.{AreDefaults}
 use Rattle.tinyvec_array.proofs.Named.{array_slots}
 use Rattle.tinyvec.specs.SpliceLaws.{frame_becomes}
 use Rattle.tinyvec.specs.Lends.{tiny_with_items}
-use Rattle.tinyvec.specs.TinyVec.{tiny_items, tiny_len, tiny_spare, tiny_capacity, is_inline, IsInline, tiny_view}
-use Rattle.tinyvec.specs.View.{TinySlotRule, SameFrame, Becomes, Unchanged, Place, in_array, on_heap, lies_inline, capacity_in, PlaceRule}
+use Rattle.tinyvec.specs.TinyVec.{tiny_items, tiny_len, tiny_spare, is_inline, IsInline, tiny_view}
+use Rattle.tinyvec.specs.Refused.{RefusedFor}
+use Rattle.tinyvec.specs.View.{TinyView, view_capacity, TinySlotRule, SameFrame, Becomes, Unchanged}
 use Rattle.tinyvec.specs.Room.{MakesRoom}
 use Rattle.tinyvec.specs.declared.tiny_vec.TinyVec.TheVariants.{Inline, Heap}
 use Rattle.std.specs.String.Boundary.{IsSplitPoint}
-use Rattle.tinyvec.proofs.TinyLemmas.{same_place, used_rule, tiny_slots_then_framed, tiny_items-with, tiny_framed-with}
+use Rattle.tinyvec.proofs.TinyLemmas.{same_place, tiny_items-with, tiny_framed-with}
 use Rattle.tinyvec_text.specs.InlineText.{Text, Bytes, IsText, text_of, text_view, text_chars, text_len, IsBoundary}
 use Rattle.tinyvec_text.proofs.Boundaries.{split_from_boundary}
 
@@ -23,17 +24,6 @@ pub record CutsAt (bs : List ℕ) (a b : ℕ) : Type 0 where
   pub order : a ≤ b
   pub first : IsSplitPoint bs a
   pub last : IsSplitPoint bs b
-
-same_truth : (a b : Bool) → (IsTrue a → IsTrue b) → (IsTrue b → IsTrue a) → a ≡ b
-same_truth true true there back = refl
-same_truth true false there back = sym (there refl)
-same_truth false true there back = back refl
-same_truth false false there back = refl
-
--- how many bytes fit a place in the array
-pub room_inline : (slots : ℕ) (p : Place) → IsTrue (lies_inline p) → capacity_in slots p ≡ slots
-room_inline slots in_array is = refl
-room_inline slots (on_heap n) is = absurd (let no = is in cc)
 
 pub text_utf8 : {k : ℕ} (v : Bytes k) → IsText v → IsUtf8 (tiny_items v)
 text_utf8 v is = IsUtf8-had _ is.0
@@ -104,6 +94,11 @@ text_room exact slots need old new r room = record {
   refused = on_err_weaker r (λ h. record { items = h.items; spare = refl; place = h.place; capacity = h.capacity }) room.refused;
 }
 
+-- a call that fails for no other reason than want of room
+pub no_room : {P : Type 0} (slots need : ℕ) (old new : TinyView ℕ) → RefusedFor slots need P old new → ¬ P → (view_capacity slots old < need) × Unchanged old new
+no_room slots need old new (inl h) never = h
+no_room slots need old new (inr h) never = absurd (never h.1)
+
 -- a text that did not change
 pub text_unchanged : (old new : Text) → Unchanged (text_view old) (text_view new) → new ≡ old
 text_unchanged old new h i = record { bytes = h.items i; place = same_place 0 old.place new.place h.place (h.capacity 0) i }
@@ -125,21 +120,3 @@ module _ (slots : ℕ) (old : Bytes slots) (ws : List ℕ) (long : length ws ≡
   overwritten new kept made =
       subst (Becomes (λ b. b ≡ 0) slots (tiny_view old) (tiny_view new)) (ap kept bytes_written)
       (frame_becomes (λ b. b ≡ 0) slots (tiny_view old) (tiny_view written) (tiny_view new) (kept (tiny_items written)) frame_written made)
-
--- a call with room leaves a text in its place
-pub place_stays : (slots need : ℕ) (old new : Text) → need ≤ capacity_in slots old.place
-    → PlaceRule slots need (text_view old) (text_view new) → lies_inline new.place ≡ lies_inline old.place
-place_stays slots need old new enough rule =
-    same_truth (lies_inline new.place) (lies_inline old.place) (λ is. (rule.0 is).0) (λ is. rule.1 (is, omega (arith, enough, room_inline slots old.place is)))
-
--- a call that had room, after which items were written
-pub room_rewritten : {k : ℕ} {X E : Type 0} {exact : Bool} (slots need : ℕ) (old mid new : Bytes k) (x : X) → need ≤ tiny_capacity slots old
-    → tiny_len old ≤ tiny_len mid → MakesRoom {X = X} {E = E} exact slots need (tiny_view old) (tiny_view mid) (Ok x) → SameFrame (tiny_view mid) (tiny_view new) → Becomes (λ b. b ≡ 0) slots (tiny_view old) (tiny_view new) (tiny_items new)
-room_rewritten slots need old mid new x enough longer made frame =
-    let same = frame.capacity slots in record {
-      items = refl;
-      place = frame.place ∙ place_stays slots need (text_of old) (text_of mid) enough made.place;
-      slot_rule = tiny_slots_then_framed (λ b. b ≡ 0) (tiny_view old) (tiny_view mid) (tiny_view new) (used_rule (λ b. b ≡ 0) (tiny_view old) (tiny_view mid) longer made.spare) frame;
-      capacity = same ∙ made.same_room enough;
-      fits = let fits = made.fits in let len = frame.len in omega (arith, same, len, fits);
-    }

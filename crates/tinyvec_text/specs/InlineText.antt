@@ -76,10 +76,10 @@ pub record TextExtends (slots : ℕ) (old new : Text) : Type 0 where
       → 2 * capacity_in slots old.place ≤ capacity_in slots new.place
   pub fits : text_len new ≤ capacity_in slots new.place
 
--- a call that made room for n more bytes took `old` to `new`, with this result
-pub record TextReserves {X E : Type 0} (slots n : ℕ) (old new : Text) (result : Result X E) : Type 0 where
+-- a call that made room for n more bytes, and just that if `exact` holds, took `old` to `new`, with this result
+pub record TextReserves {X E : Type 0} (exact : Bool) (slots n : ℕ) (old new : Text) (result : Result X E) : Type 0 where
   pub bytes : new.bytes ≡ old.bytes
-  pub room : MakesRoom (lies_inline old.place) slots (text_len old + n) (text_view old) (text_view new) result
+  pub room : MakesRoom exact slots (text_len old + n) (text_view old) (text_view new) result
   pub enough : OnOk result (text_len old + n ≤ capacity_in slots new.place)
   pub kept : text_len old + n ≤ capacity_in slots old.place → new ≡ old
 

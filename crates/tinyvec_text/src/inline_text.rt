@@ -9,12 +9,14 @@ ghost use Rattle.tinyvec.specs.TinyVec.{tiny_items, tiny_spare};
 ghost use Rattle.tinyvec_text.specs.InlineText.{text_of, text_chars, text_len, TextMadeFor};
 
 mod bytes;
+mod drain;
 mod edits;
 mod extending;
 mod filters;
 mod from_utf8_error;
 mod traits;
 
+pub use drain::InlineTextDrain;
 pub use from_utf8_error::FromUtf8Error;
 use std::alloc::{AllocError, Global};
 use std::convert::{AsSlice, AsStr};

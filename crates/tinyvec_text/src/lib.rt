@@ -3,4 +3,4 @@
 
 mod inline_text;
 
-pub use inline_text::{FromUtf8Error, InlineText};
+pub use inline_text::{FromUtf8Error, InlineText, InlineTextDrain};

@@ -1,7 +1,8 @@
 //! Rows of what only an `ArrayVec` has.
-use crate::slots::{Storage, say_vector};
+use crate::slots::{Storage, make_call, say_vector};
 use crate::steps::iterated;
-use std::mem;
+use std::fmt::Debug;
+use std::{mem, vec};
 use tinyvec::{Array, ArrayVec, FromIterRest};
 use tinyvec_rows::{Call, Counter, Item, Name, Out, Read, Wrong};
 
@@ -30,7 +31,7 @@ impl<T: Item, const N: usize> Storage for [T; N] {
 
 fn copied<T: Item, A: Array<Item = T>>(
     v: &mut ArrayVec<A>,
-    other: &ArrayVec<A>,
+    other: &mut ArrayVec<A>,
     call: &mut Call<T>,
     out: &mut Out,
 ) {
@@ -52,27 +53,26 @@ fn copied<T: Item, A: Array<Item = T>>(
             let owned = mem::replace(v, ArrayVec::new());
             iterated(owned.into_iter(), call.steps.as_slice(), out);
         }
-        _ => remake(v, call, out),
+        _ => remake(v, other, call, out),
     }
 }
 
 // Makes the vector of slots, or of items.
-fn remake<T: Item, A: Array<Item = T>>(v: &mut ArrayVec<A>, call: &mut Call<T>, out: &mut Out) {
+fn remake<T: Item, A: Array<Item = T>>(
+    v: &mut ArrayVec<A>,
+    other: &mut ArrayVec<A>,
+    call: &mut Call<T>,
+    out: &mut Out,
+) {
     match call.name {
         Name::New => set(v, ArrayVec::new()),
         Name::Default => set(v, ArrayVec::default()),
-        Name::TryFromSlice => match ArrayVec::try_from_slice(call.items.as_slice()) {
-            Ok(made) => set(v, made),
-            Err(error) => out.say(&error),
-        },
-        Name::FromIter => match ArrayVec::from_iter(call.take_items()) {
-            Ok(made) => set(v, made),
-            Err(FromIterRest { vec, item, rest }) => {
-                set(v, vec);
-                out.say_rest(&item, rest);
-            }
-        },
-        _ => remake_of(v, array_of(call.items.as_mut_slice(), out), call, out),
+        Name::TryFromSlice => set_made(v, ArrayVec::try_from_slice(call.items.as_slice()), out),
+        Name::FromIter => set_collected(v, ArrayVec::from_iter(call.take_items()), out),
+        Name::From | Name::FromArray | Name::FromArrayEmpty | Name::TryFromArrayLen => {
+            remake_of(v, array_of(call.items.as_mut_slice(), out), call, out);
+        }
+        _ => make_call(v, other, call, out),
     }
 }
 
@@ -100,4 +100,27 @@ fn remake_of<T: Item, A: Array<Item = T>>(
 /// Puts a vector in the place of another, of which an assignment would drop what it held.
 pub fn set<V: Drop>(v: &mut V, made: V) {
     *v = made;
+}
+
+/// The same of what a call made. Writes why it made nothing.
+pub fn set_made<V: Drop, E: Debug + Drop>(v: &mut V, made: Result<V, E>, out: &mut Out) {
+    match made {
+        Ok(made) => set(v, made),
+        Err(error) => out.say(&error),
+    }
+}
+
+/// The same of what was collected. Writes the items that found no room.
+pub fn set_collected<V: Drop, T: Item>(
+    v: &mut V,
+    made: Result<V, FromIterRest<V, T, vec::IntoIter<T>>>,
+    out: &mut Out,
+) {
+    match made {
+        Ok(made) => set(v, made),
+        Err(FromIterRest { vec, item, rest }) => {
+            set(v, vec);
+            out.say_rest(&item, rest);
+        }
+    }
 }

@@ -1,12 +1,12 @@
 //! Rows of what only a `SliceVec` has.
-use crate::slots::{Storage, say_vector};
+use crate::slots::{Storage, make_call, say_vector};
 use tinyvec::ArrayVec;
-use tinyvec_rows::{Call, Counter, Item, Name, Out, Wrong};
+use tinyvec_rows::{Call, Counter, Item, Name, Out};
 
 impl<'s, T: Item> Storage for &'s mut [T] {
     fn call(
         v: &mut ArrayVec<&'s mut [T]>,
-        _other: &mut ArrayVec<&'s mut [T]>,
+        other: &mut ArrayVec<&'s mut [T]>,
         call: &mut Call<T>,
         out: &mut Out,
     ) {
@@ -19,7 +19,7 @@ impl<'s, T: Item> Storage for &'s mut [T] {
                 out.say(&counter.calls());
             }
             Name::SplitOff if n <= v.len() => say_vector(&v.split_off(n), out),
-            _ => out.fail(Wrong::Place),
+            _ => make_call(v, other, call, out),
         }
     }
 }

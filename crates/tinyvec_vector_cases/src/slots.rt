@@ -3,15 +3,13 @@ use crate::calls::{cut, filter, lend, ranged, say_extended, splice};
 use crate::held::{Copies, Writes, write_text};
 use crate::steps::{Steps, step_at_ends, stepped};
 use crate::vector::Vector;
-use std::fmt::{Debug, Write};
-use std::iter::Fuse;
-use std::vec;
-use tinyvec::{ArrayVec, ArrayVecDrain, ArrayVecSplice, Slots, TakesClones};
+use std::fmt::Debug;
+use tinyvec::{ArrayVec, ArrayVecDrain, Slots, TakesClones};
 use tinyvec_rows::{Call, Item, Name, Out, Span, Step, Wrong, has_at_most, is_within};
 
 /// The slots of a vector that rows call.
 pub trait Storage: TakesClones {
-    /// Makes a call that vectors over such slots have by other methods than those over others.
+    /// Makes a call, also one that vectors over such slots have by other methods than those over others.
     fn call(
         v: &mut ArrayVec<Self>,
         other: &mut ArrayVec<Self>,
@@ -37,7 +35,7 @@ impl<T: Item, S: Storage<Item = T>> Vector for ArrayVec<S> {
     }
 
     fn call(&mut self, other: &mut ArrayVec<S>, call: &mut Call<T>, out: &mut Out) {
-        take_out(self, other, call, out);
+        S::call(self, other, call, out);
     }
 
     fn extract<F: FnMut(&mut T) -> bool>(
@@ -54,56 +52,30 @@ impl<T: Item, S: Storage<Item = T>> Vector for ArrayVec<S> {
     }
 }
 
-// Each function makes the calls of a kind, and hands others on.
-fn take_out<T: Item, S: Storage<Item = T>>(
+/// Makes a call that all vectors over slots have. Each function makes the calls of a kind, and hands others on.
+pub fn make_call<T: Item, S: TakesClones<Item = T>>(
     v: &mut ArrayVec<S>,
     other: &mut ArrayVec<S>,
     call: &mut Call<T>,
     out: &mut Out,
 ) {
-    cut!(v, call, out, _ => look(v, other, call, out),)
-}
-
-fn look<T: Item, S: Storage<Item = T>>(
-    v: &mut ArrayVec<S>,
-    other: &mut ArrayVec<S>,
-    call: &mut Call<T>,
-    out: &mut Out,
-) {
-    lend!(v, call, is_full, out,
-        Name::SetLen if call.index <= v.capacity() => v.set_len(call.index),
-        Name::WriteSpare => out.write_spare(v.grab_spare_slice_mut(), call.items.as_mut_slice()),
-        _ => put_in(v, other, call, out),
-    )
-}
-
-fn put_in<T: Item, S: Storage<Item = T>>(
-    v: &mut ArrayVec<S>,
-    other: &mut ArrayVec<S>,
-    call: &mut Call<T>,
-    out: &mut Out,
-) {
-    let (i, is_full) = (call.index, v.is_full());
     match call.name {
-        Name::Push if !is_full => v.push(call.item()),
-        Name::PushMut if !is_full => {
-            let y = call.item();
-            out.say_and_set(v.push_mut(call.item()), y);
+        Name::Append if other.len() <= v.remaining_capacity() => v.append(other),
+        Name::TryAppend => {
+            if let Some(back) = v.try_append(other) {
+                say_vector(back, out);
+            }
         }
-        Name::Insert if i <= v.len() && !is_full => v.insert(i, call.item()),
-        Name::InsertMut if i <= v.len() && !is_full => {
-            let y = call.item();
-            out.say_and_set(v.insert_mut(i, call.item()), y);
-        }
-        Name::TryPush => out.say(&v.try_push(call.item())),
-        Name::TryInsert if i <= v.len() => out.say(&v.try_insert(i, call.item())),
-        _ => append(v, other, call, out),
+        Name::AppendIfFits => match v.append_if_fits(other) {
+            Ok(emptied) => say_vector(emptied, out),
+            Err(back) => say_vector(back, out),
+        },
+        _ => append(v, call, out),
     }
 }
 
-fn append<T: Item, S: Storage<Item = T>>(
+fn append<T: Item, S: TakesClones<Item = T>>(
     v: &mut ArrayVec<S>,
-    other: &mut ArrayVec<S>,
     call: &mut Call<T>,
     out: &mut Out,
 ) {
@@ -122,25 +94,46 @@ fn append<T: Item, S: Storage<Item = T>>(
             if is_within(call.range, v.len()) && has_at_most(call.range, v.len(), room) => {
             out.done(v.extend_from_within(call.range));
         }
-        _ => keep(v, other, call, out),
+        _ => take_out(v, call, out),
     }
 }
 
-fn keep<T: Item, S: Storage<Item = T>>(
-    v: &mut ArrayVec<S>,
-    other: &mut ArrayVec<S>,
-    call: &mut Call<T>,
-    out: &mut Out,
-) {
-    filter!(v, call, out, _ => replace(v, other, call, out),)
+fn take_out<T: Item, S: Slots<Item = T>>(v: &mut ArrayVec<S>, call: &mut Call<T>, out: &mut Out) {
+    cut!(v, call, out, _ => look(v, call, out),)
 }
 
-fn replace<T: Item, S: Storage<Item = T>>(
-    v: &mut ArrayVec<S>,
-    other: &mut ArrayVec<S>,
-    call: &mut Call<T>,
-    out: &mut Out,
-) {
+fn look<T: Item, S: Slots<Item = T>>(v: &mut ArrayVec<S>, call: &mut Call<T>, out: &mut Out) {
+    lend!(v, call, is_full, out,
+        Name::SetLen if call.index <= v.capacity() => v.set_len(call.index),
+        Name::WriteSpare => out.write_spare(v.grab_spare_slice_mut(), call.items.as_mut_slice()),
+        _ => put_in(v, call, out),
+    )
+}
+
+fn put_in<T: Item, S: Slots<Item = T>>(v: &mut ArrayVec<S>, call: &mut Call<T>, out: &mut Out) {
+    let (i, is_full) = (call.index, v.is_full());
+    match call.name {
+        Name::Push if !is_full => v.push(call.item()),
+        Name::PushMut if !is_full => {
+            let y = call.item();
+            out.say_and_set(v.push_mut(call.item()), y);
+        }
+        Name::Insert if i <= v.len() && !is_full => v.insert(i, call.item()),
+        Name::InsertMut if i <= v.len() && !is_full => {
+            let y = call.item();
+            out.say_and_set(v.insert_mut(i, call.item()), y);
+        }
+        Name::TryPush => out.say(&v.try_push(call.item())),
+        Name::TryInsert if i <= v.len() => out.say(&v.try_insert(i, call.item())),
+        _ => keep(v, call, out),
+    }
+}
+
+fn keep<T: Item, S: Slots<Item = T>>(v: &mut ArrayVec<S>, call: &mut Call<T>, out: &mut Out) {
+    filter!(v, call, out, _ => replace(v, call, out),)
+}
+
+fn replace<T: Item, S: Slots<Item = T>>(v: &mut ArrayVec<S>, call: &mut Call<T>, out: &mut Out) {
     ranged!(v, call, spliced, out,
         Name::DrainEach
             if is_within(call.range, v.len())
@@ -149,37 +142,16 @@ fn replace<T: Item, S: Storage<Item = T>>(
             v.drain_each(range, &mut |x| given.push(x).unwrap_or(()));
             out.say(&given.as_slice());
         }
-        _ => both(v, other, call, out),
+        Name::DrainToVec => say_vec(v.drain_to_vec(out.alloc()), out),
+        Name::DrainToVecAndReserve => {
+            say_vec(v.drain_to_vec_and_reserve(out.alloc(), call.index), out);
+        }
+        _ => out.fail(Wrong::Place),
     )
 }
 
 fn spliced<T: Item, S: Slots<Item = T>>(v: &mut ArrayVec<S>, call: &mut Call<T>, out: &mut Out) {
     splice!(v, call, out)
-}
-
-fn both<T: Item, S: Storage<Item = T>>(
-    v: &mut ArrayVec<S>,
-    other: &mut ArrayVec<S>,
-    call: &mut Call<T>,
-    out: &mut Out,
-) {
-    match call.name {
-        Name::Append if other.len() <= v.remaining_capacity() => v.append(other),
-        Name::TryAppend => {
-            if let Some(back) = v.try_append(other) {
-                say_vector(back, out);
-            }
-        }
-        Name::AppendIfFits => match v.append_if_fits(other) {
-            Ok(emptied) => say_vector(emptied, out),
-            Err(back) => say_vector(back, out),
-        },
-        Name::DrainToVec => say_vec(v.drain_to_vec(out.alloc()), out),
-        Name::DrainToVecAndReserve => {
-            say_vec(v.drain_to_vec_and_reserve(out.alloc(), call.index), out);
-        }
-        _ => S::call(v, other, call, out),
-    }
 }
 
 // Writes the items that came out, and how much room they have.
@@ -224,21 +196,6 @@ impl<'a, T: Item, S: Slots<Item = T>> Steps for ArrayVecDrain<'a, S> {
         step_at_ends!(self, step, out,
             Name::Debug => out.say(self),
             Name::Hint => out.say_hint(self),
-            _ => out.fail(Wrong::Place),
-        )
-    }
-}
-
-impl<'a, T: Item, S: Slots<Item = T>> Steps for ArrayVecSplice<'a, S, Fuse<vec::IntoIter<T>>> {
-    ghost use Rattle.tinyvec_array.specs.Splice.{SpliceCanStep};
-
-    ghost Ready = { SpliceCanStep S.Slots };
-
-    fn step(&mut self, step: Step, out: &mut Out) {
-        step_at_ends!(self, step, out,
-            Name::Debug => drop(write!(out, "{self:?} ")),
-            Name::Touches => out.say(&(*self).touches()),
-            Name::Stop => {}
             _ => out.fail(Wrong::Place),
         )
     }

@@ -1,6 +1,10 @@
 //! Steps of the iterators of vectors, which rows name.
+use std::fmt::Write;
+use std::iter::Fuse;
+use std::vec;
 use tinyvec_rows::{Item, Name, Out, Step, Wrong};
-use tinyvec_slots::{CanCut, ExtractIf, OwnedItems, OwnsItems};
+use tinyvec_slots::authors::{CanCut, CanSplice, OwnsItems};
+use tinyvec_slots::{ExtractIf, OwnedItems, Splice};
 
 /// An iterator that rows step.
 pub trait Steps {
@@ -51,6 +55,24 @@ where
             Name::Hint => out.say_hint(self),
             _ => out.fail(Wrong::Place),
         }
+    }
+}
+
+impl<'a, V: CanSplice> Steps for Splice<'a, V, Fuse<vec::IntoIter<V::Item>>>
+where
+    V::Item: Item,
+{
+    ghost use Rattle.tinyvec_slots.specs.Splice.{SpliceCanStep};
+
+    ghost Ready = { SpliceCanStep V.items };
+
+    fn step(&mut self, step: Step, out: &mut Out) {
+        step_at_ends!(self, step, out,
+            Name::Debug => drop(write!(out, "{self:?} ")),
+            Name::Touches => out.say(&(*self).touches()),
+            Name::Stop => {}
+            _ => out.fail(Wrong::Place),
+        )
     }
 }
 

@@ -1,13 +1,12 @@
 //! Rows of a `TinyVec`.
-use crate::array::{array_of, set};
+use crate::array::{array_of, set, set_collected, set_made};
 use crate::calls::{cut, filter, lend, ranged, say_extended, splice};
 use crate::held::Copies;
 use crate::steps::{Steps, iterated, step_at_ends, stepped};
 use crate::vector::Vector;
-use std::fmt::{Debug, Write};
-use std::iter::Fuse;
-use std::{mem, vec};
-use tinyvec::{Array, FromIterRest, NoMemory, TinyVec, TinyVecDrain, TinyVecSplice};
+use std::fmt::Debug;
+use std::mem;
+use tinyvec::{Array, NoMemory, TinyVec, TinyVecDrain};
 use tinyvec_rows::{Call, Counter, Item, Name, Out, Span, Step, Wrong, is_within};
 
 impl<T: Item, A: Array<Item = T>> Vector for TinyVec<A> {
@@ -22,7 +21,11 @@ impl<T: Item, A: Array<Item = T>> Vector for TinyVec<A> {
     }
 
     fn call(&mut self, other: &mut TinyVec<A>, call: &mut Call<T>, out: &mut Out) {
-        take_out(self, other, call, out);
+        match call.name {
+            Name::Append => out.done(self.append(other)),
+            Name::CloneFrom => out.done(self.clone_from(other)),
+            _ => take_out(self, call, out),
+        }
     }
 
     fn extract<F: FnMut(&mut T) -> bool>(
@@ -54,37 +57,22 @@ pub fn say_tiny<T: Item, A: Array<Item = T>>(v: &TinyVec<A>, out: &mut Out) {
 }
 
 // Each function makes the calls of a kind, and hands others on.
-fn take_out<T: Item, A: Array<Item = T>>(
-    v: &mut TinyVec<A>,
-    other: &mut TinyVec<A>,
-    call: &mut Call<T>,
-    out: &mut Out,
-) {
-    cut!(v, call, out, _ => look(v, other, call, out),)
+fn take_out<T: Item, A: Array<Item = T>>(v: &mut TinyVec<A>, call: &mut Call<T>, out: &mut Out) {
+    cut!(v, call, out, _ => look(v, call, out),)
 }
 
-fn look<T: Item, A: Array<Item = T>>(
-    v: &mut TinyVec<A>,
-    other: &mut TinyVec<A>,
-    call: &mut Call<T>,
-    out: &mut Out,
-) {
-    lend!(v, call, is_inline, out, _ => put_in(v, other, call, out),)
+fn look<T: Item, A: Array<Item = T>>(v: &mut TinyVec<A>, call: &mut Call<T>, out: &mut Out) {
+    lend!(v, call, is_inline, out, _ => put_in(v, call, out),)
 }
 
-fn put_in<T: Item, A: Array<Item = T>>(
-    v: &mut TinyVec<A>,
-    other: &mut TinyVec<A>,
-    call: &mut Call<T>,
-    out: &mut Out,
-) {
+fn put_in<T: Item, A: Array<Item = T>>(v: &mut TinyVec<A>, call: &mut Call<T>, out: &mut Out) {
     let i = call.index;
     match call.name {
         Name::Push => out.done(v.push(call.item())),
         Name::PushMut => push_and_set(v, call, out),
         Name::Insert if i <= v.len() => out.done(v.insert(i, call.item())),
         Name::InsertMut => insert_and_set(v, call, out),
-        _ => append(v, other, call, out),
+        _ => append(v, call, out),
     }
 }
 
@@ -117,12 +105,7 @@ fn insert_and_set<T: Item, A: Array<Item = T>>(
     }
 }
 
-fn append<T: Item, A: Array<Item = T>>(
-    v: &mut TinyVec<A>,
-    other: &mut TinyVec<A>,
-    call: &mut Call<T>,
-    out: &mut Out,
-) {
+fn append<T: Item, A: Array<Item = T>>(v: &mut TinyVec<A>, call: &mut Call<T>, out: &mut Out) {
     match call.name {
         Name::Extend => say_extended(v.extend(call.take_items()), out),
         Name::ExtendFromSlice => out.done(v.extend_from_slice(call.items.as_slice())),
@@ -136,41 +119,24 @@ fn append<T: Item, A: Array<Item = T>>(
             out.done(v.resize_with(call.index, || counter.next()));
             out.say(&counter.calls());
         }
-        _ => keep(v, other, call, out),
+        _ => keep(v, call, out),
     }
 }
 
-fn keep<T: Item, A: Array<Item = T>>(
-    v: &mut TinyVec<A>,
-    other: &mut TinyVec<A>,
-    call: &mut Call<T>,
-    out: &mut Out,
-) {
-    filter!(v, call, out, _ => replace(v, other, call, out),)
+fn keep<T: Item, A: Array<Item = T>>(v: &mut TinyVec<A>, call: &mut Call<T>, out: &mut Out) {
+    filter!(v, call, out, _ => replace(v, call, out),)
 }
 
-fn replace<T: Item, A: Array<Item = T>>(
-    v: &mut TinyVec<A>,
-    other: &mut TinyVec<A>,
-    call: &mut Call<T>,
-    out: &mut Out,
-) {
-    ranged!(v, call, spliced, out, _ => both(v, other, call, out),)
+fn replace<T: Item, A: Array<Item = T>>(v: &mut TinyVec<A>, call: &mut Call<T>, out: &mut Out) {
+    ranged!(v, call, spliced, out, _ => part(v, call, out),)
 }
 
 fn spliced<T: Item, A: Array<Item = T>>(v: &mut TinyVec<A>, call: &mut Call<T>, out: &mut Out) {
     splice!(v, call, out)
 }
 
-fn both<T: Item, A: Array<Item = T>>(
-    v: &mut TinyVec<A>,
-    other: &mut TinyVec<A>,
-    call: &mut Call<T>,
-    out: &mut Out,
-) {
+fn part<T: Item, A: Array<Item = T>>(v: &mut TinyVec<A>, call: &mut Call<T>, out: &mut Out) {
     match call.name {
-        Name::Append => out.done(v.append(other)),
-        Name::CloneFrom => out.done(v.clone_from(other)),
         Name::Clone => say_made(v.clone(), out),
         Name::SplitOff if call.index <= v.len() => say_made(v.split_off(call.index), out),
         Name::IntoIter | Name::IntoVec | Name::IntoBoxedSlice => drain_all(v, call, out),
@@ -202,10 +168,7 @@ fn drain_all<T: Item, A: Array<Item = T>>(v: &mut TinyVec<A>, call: &Call<T>, ou
                 out.say_word("NoMemory");
             }
         },
-        _ => match owned.into_boxed_slice() {
-            Ok(items) => out.say(&items),
-            Err(error) => out.say(&error),
-        },
+        _ => out.say_made(owned.into_boxed_slice()),
     }
 }
 
@@ -246,25 +209,8 @@ fn remake<T: Item, A: Array<Item = T>>(v: &mut TinyVec<A>, call: &mut Call<T>, o
                 }
             }
         }
-        Name::FromIter => match TinyVec::from_iter(alloc, call.take_items()) {
-            Ok(made) => set(v, made),
-            Err(FromIterRest { vec, item, rest }) => {
-                set(v, vec);
-                out.say_rest(&item, rest);
-            }
-        },
+        Name::FromIter => set_collected(v, TinyVec::from_iter(alloc, call.take_items()), out),
         _ => out.fail(Wrong::Place),
-    }
-}
-
-fn set_made<A: Array, E: Debug + Drop>(
-    v: &mut TinyVec<A>,
-    made: Result<TinyVec<A>, E>,
-    out: &mut Out,
-) {
-    match made {
-        Ok(made) => set(v, made),
-        Err(error) => out.say(&error),
     }
 }
 
@@ -292,24 +238,6 @@ where
     fn step(&mut self, step: Step, out: &mut Out) {
         step_at_ends!(self, step, out,
             Name::Debug => out.say(self),
-            _ => out.fail(Wrong::Place),
-        )
-    }
-}
-
-impl<'a, A: Array> Steps for TinyVecSplice<'a, A, Fuse<vec::IntoIter<A::Item>>>
-where
-    A::Item: Item,
-{
-    ghost use Rattle.tinyvec.specs.TinyVecSplice.{SpliceCanStep};
-
-    ghost Ready = { SpliceCanStep A.Slots };
-
-    fn step(&mut self, step: Step, out: &mut Out) {
-        step_at_ends!(self, step, out,
-            Name::Debug => drop(write!(out, "{self:?} ")),
-            Name::Touches => out.say(&(*self).touches()),
-            Name::Stop => {}
             _ => out.fail(Wrong::Place),
         )
     }

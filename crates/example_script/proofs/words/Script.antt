@@ -1,13 +1,13 @@
 -- Examples of calls as values, of runs and of scripts.
 use Rattle.std.proofs.Common.{◌≡◌, ℕ, true, false, List, [], ◌∷◌, ◌++◌, length, refl, rules, arith}
-use Rattle.tinyvec_slots.specs.Slots.{Slots, split_at}
-use Rattle.tinyvec.specs.View.{TinyView, in_array, view_len, PlaceRule}
+use Rattle.tinyvec_slots.specs.Slots.{Slots, items, split_at, SlotRule}
+use Rattle.tinyvec.specs.View.{TinyView, in_array}
 use Rattle.tinyvec_script.specs.declared.call.Call.TheVariants.{Push, Pop}
 use Rattle.tinyvec_script.specs.declared.call.Answer.TheVariants as answers
 use Rattle.tinyvec_script.specs.declared.call.End.TheVariants.{Front}
 use Rattle.tinyvec_script.specs.Step.{ArrayStep, SlotsStep, Run}
 use Rattle.tinyvec_script.specs.TinyCalls.{TinyStep}
-use Rattle.tinyvec_script.specs.Driving.{ArraySplices, TinySplices, SpliceComputes}
+use Rattle.tinyvec_script.specs.Driving.{DrivenSplices, SpliceComputes}
 use Rattle.tinyvec_script.specs.Failed.{is_read, is_write}
 use Rattle.tinyvec_script.specs.Script.{Script, CompleteLines}
 use Rattle.tinyvec_script.specs.declared.script.RunError.TheVariants.{TooLong, Write}
@@ -39,11 +39,8 @@ example-Run = search rules
 pub example-SpliceComputes : SpliceComputes {T = ℕ} 8 (1 ∷ 2 ∷ 3 ∷ 4 ∷ []) 1 3 (Front ∷ []) (7 ∷ []) (2 ∷ []) [] (1 ∷ 7 ∷ 4 ∷ [])
 example-SpliceComputes = search rules
 
-pub example-ArraySplices : (yields rest : List ℕ) (new : Slots ℕ) → ArraySplices D 8 (over (1 ∷ 2 ∷ 3 ∷ 4 ∷ []) (0 ∷ [])) 1 3 (Front ∷ []) (7 ∷ []) yields rest new → rest ≡ []
-example-ArraySplices yields rest new h = (h.list.placed (omega arith)).0
-
-pub example-TinySplices : (yields rest : List ℕ) (old new : TinyView ℕ) → TinySplices D 4 old 1 3 (Front ∷ []) (7 ∷ []) yields rest new → PlaceRule 4 (view_len new) old new
-example-TinySplices yields rest old new h = h.grows.place
+pub example-DrivenSplices : (yields rest : List ℕ) (new : Slots ℕ) → DrivenSplices items (SlotRule D) 8 (over (1 ∷ 2 ∷ 3 ∷ 4 ∷ []) (0 ∷ [])) 1 3 (Front ∷ []) (7 ∷ []) yields rest new → rest ≡ []
+example-DrivenSplices yields rest new h = (h.list.placed (omega arith)).0
 
 pub example-Script : Script [] []
 example-Script = search rules

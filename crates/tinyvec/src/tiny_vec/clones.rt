@@ -11,7 +11,7 @@ use crate::TinyVec;
 use crate::tuned::push_clones;
 use std::alloc::AllocError;
 use tinyvec_array::Array;
-use tinyvec_slots::clone_over;
+use tinyvec_slots::authors::clone_over;
 
 impl<A: Array> TinyVec<A> {
     /// Clones the vector, spare slots too. The clone is in the same place.

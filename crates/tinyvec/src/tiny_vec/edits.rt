@@ -11,7 +11,8 @@ use crate::TinyVec;
 use crate::tiny_vec::knows_slots;
 use std::alloc::AllocError;
 use tinyvec_array::Array;
-use tinyvec_slots::{NoMemory, move_to_end, remove_shifting};
+use tinyvec_slots::NoMemory;
+use tinyvec_slots::authors::{move_to_end, remove_shifting};
 
 impl<A: Array> TinyVec<A> {
     /// Appends `value` to a list that has room. It allocates nothing, so it cannot fail.
@@ -31,6 +32,8 @@ impl<A: Array> TinyVec<A> {
 
     /// Appends `value`. A full list first doubles its capacity, which moves an inline one to the heap. If the allocator refuses,
     /// nothing changes and `value` is returned.
+    // Inlined, since LLVM otherwise passes items that need a drop, and the result that may hold one, through memory.
+    #[inline(always)]
     pub fn push(&mut self, value: A::Item) -> Result<(), NoMemory<A::Item>>
         ensures items { tiny_items_of A.Slots self.new
             ≡ (if is_ok result then tiny_items_of A.Slots self.old ++ value ∷ [] else tiny_items_of A.Slots self.old) }

@@ -1,5 +1,5 @@
 //! Growing by other lists, by clones, by iterators and by closures.
-ghost use Rattle.std.specs.Prelude.{◌≡◌, ◌+◌, ◌≤◌, ◌++◌, ℕ, All, length, take, drop, slice_range, IsOk, OnOk, OnErr, if◌then◌else◌, is_ok, ◌<◌, [], ◌-◌, ◌*◌, ◌↔◌, ◌∷◌, List, Some, MatchResult, IfOk, IfErr, vec_capacity, max, replicate};
+ghost use Rattle.std.specs.Prelude.{◌≡◌, ◌+◌, ◌≤◌, ◌++◌, ℕ, All, length, take, drop, slice_range, IsOk, OnOk, OnErr, if◌then◌else◌, is_ok, ◌<◌, [], ◌-◌, ◌*◌, ◌↔◌, ◌∷◌, List, Some, MatchResult, IfOk, IfErr, vec_len, vec_capacity, max, replicate};
 ghost use Rattle.std.specs.List.{AppendsClones, AppendsResults};
 ghost use Rattle.tinyvec_slots.specs.Clones.{ClonesAreEqual, AppendsAllOrNone};
 ghost use Rattle.tinyvec.specs.TinyVec.{tiny_items_of, tiny_len_of, tiny_capacity, is_inline, IsInline, tiny_view_of};
@@ -11,6 +11,7 @@ ghost use Rattle.tinyvec_array.specs.ArrayVec.{items_of, len_of, Grows as GrowsI
 ghost use Rattle.std.specs.Iterator.{IsFinite, Drains, YieldsThen, size};
 ghost use Rattle.tinyvec_slots.specs.Ranges.{IsRangeOf, removed};
 ghost use Rattle.tinyvec_slots.specs.Filling.{ShowsItems, IntoIterYields, AppendsResultsTo};
+ghost use Rattle.tinyvec.specs.OnHeap.{HeapBecomes};
 ghost use Rattle.tinyvec.specs.Following.{Follows, FillsRoom, PushesItems};
 
 use crate::TinyVec;
@@ -21,7 +22,8 @@ use std::iter::ExactSizeIterator;
 use std::mem;
 use std::ops::RangeBounds;
 use tinyvec_array::{Array, ArrayVec};
-use tinyvec_slots::{FromIterRest, NoMemory, NoRoom, resolve_range};
+use tinyvec_slots::authors::{resolve_range, take_all};
+use tinyvec_slots::{FromIterRest, NoMemory, NoRoom};
 
 impl<A: Array> TinyVec<A> {
     // `extend_from_slice` of a list that has room.
@@ -170,6 +172,19 @@ impl<A: Array> TinyVec<A> {
 
     // Moves the items of `from` to a list that has room, and leaves defaults.
     pub(crate) fn append_slots(&mut self, from: &mut [A::Item])
+        requires { tiny_len_of A.Slots self.old + length from.old ≤ tiny_capacity A.CAPACITY self.old }
+        ensures becomes { Becomes A.Item.is_default A.CAPACITY (tiny_view_of A.Slots self.old)
+            (tiny_view_of A.Slots self.new) (tiny_items_of A.Slots self.old ++ from.old) }
+        ensures left { AreDefaults A.Item.is_default (length from.old) from.new }
+    {
+        match self {
+            TinyVec::Inline(_, _) => self.append_each(from),
+            TinyVec::Heap(v) => append_to_heap(v, from),
+        }
+    }
+
+    // The same, one by one.
+    fn append_each(&mut self, from: &mut [A::Item])
         requires { tiny_len_of A.Slots self.old + length from.old ≤ tiny_capacity A.CAPACITY self.old }
         ensures becomes { Becomes A.Item.is_default A.CAPACITY (tiny_view_of A.Slots self.old)
             (tiny_view_of A.Slots self.new) (tiny_items_of A.Slots self.old ++ from.old) }
@@ -494,10 +509,54 @@ impl<A: Array> TinyVec<A> {
         ensures frame { StaysInPlace A.Item.is_default A.CAPACITY (tiny_view_of A.Slots self.old)
             (tiny_view_of A.Slots self.new) }
     {
+        match self {
+            TinyVec::Inline(_, _) => self.push_each_answer(n, f),
+            TinyVec::Heap(v) => push_answers_on_heap(v, n, f),
+        }
+    }
+
+    // The same, one by one.
+    fn push_each_answer<F: FnMut() -> A::Item>(&mut self, n: usize, f: &mut F)
+        requires longer { tiny_len_of A.Slots self.old ≤ n }
+        requires room { n ≤ tiny_capacity A.CAPACITY self.old }
+        requires callable { F.IsAlwaysCallable f.old }
+        ensures items { AppendsResultsTo F.step (tiny_items_of A.Slots self.old)
+            (tiny_items_of A.Slots self.new) f.old f.new }
+        ensures len { tiny_len_of A.Slots self.new ≡ n }
+        ensures frame { StaysInPlace A.Item.is_default A.CAPACITY (tiny_view_of A.Slots self.old)
+            (tiny_view_of A.Slots self.new) }
+    {
         while self.len() < n {
             self.push_reserved(f());
         }
     }
+}
+
+// `append_slots` on the heap. The vector is in a local variable meanwhile, here and below, as in `push_clones`.
+fn append_to_heap<T: Default + Drop>(heap: &mut Vec<T>, from: &mut [T])
+    requires { vec_len heap.old + length from.old ≤ vec_capacity heap.old }
+    ensures becomes { HeapBecomes heap.old heap.new (heap.old.items ++ from.old) }
+    ensures left { AreDefaults T.is_default (length from.old) from.new }
+{
+    let mut vec = mem::replace(heap, Vec::new(*heap.allocator()));
+    take_all(from, &mut vec);
+    *heap = vec;
+}
+
+// `push_answers` on the heap.
+fn push_answers_on_heap<T: Drop, F: FnMut() -> T>(heap: &mut Vec<T>, n: usize, f: &mut F)
+    requires longer { vec_len heap.old ≤ n }
+    requires room { n ≤ vec_capacity heap.old }
+    requires callable { F.IsAlwaysCallable f.old }
+    ensures items { AppendsResultsTo F.step heap.old.items heap.new.items f.old f.new }
+    ensures len { vec_len heap.new ≡ n }
+    ensures capacity { vec_capacity heap.new ≡ vec_capacity heap.old }
+{
+    let mut vec = mem::replace(heap, Vec::new(*heap.allocator()));
+    for _i in vec.len()..n {
+        vec.push_reserved(f());
+    }
+    *heap = vec;
 }
 
 // `fill_room` of an array.
@@ -547,7 +606,7 @@ fn fill_slots<T: Drop, I: Iterator<Item = T>>(
     Ok(count)
 }
 
-// `fill_room` on the heap. The vector is in a local variable meanwhile, as in `push_clones`.
+// `fill_room` on the heap.
 fn fill_heap<T: Drop, I: Iterator<Item = T>>(
     heap: &mut Vec<T>,
     mut iter: I,

@@ -12,7 +12,8 @@ use crate::TinyVec;
 use crate::tiny_vec::knows_slots;
 use std::ops::RangeBounds;
 use tinyvec_array::Array;
-use tinyvec_slots::{ExtractIf, resolve_range};
+use tinyvec_slots::ExtractIf;
+use tinyvec_slots::authors::resolve_range;
 
 impl<A: Array> TinyVec<A> {
     /// Calls `f` on each item in turn, and keeps those for which it returns `true`. A kept item is moved at most once.
@@ -26,7 +27,7 @@ impl<A: Array> TinyVec<A> {
         match self {
             TinyVec::Inline(v, _) => {
                 knows_slots(v);
-                tinyvec_slots::retain(v, &mut f)
+                tinyvec_slots::authors::retain(v, &mut f)
             }
             TinyVec::Heap(v) => v.retain(f),
         }
@@ -44,7 +45,7 @@ impl<A: Array> TinyVec<A> {
         match self {
             TinyVec::Inline(v, _) => {
                 knows_slots(v);
-                tinyvec_slots::retain_mut(v, &mut f)
+                tinyvec_slots::authors::retain_mut(v, &mut f)
             }
             TinyVec::Heap(v) => v.retain_mut(f),
         }
@@ -73,7 +74,7 @@ impl<A: Array> TinyVec<A> {
         match self {
             TinyVec::Inline(v, _) => {
                 knows_slots(v);
-                tinyvec_slots::dedup_by(v, &mut same)
+                tinyvec_slots::authors::dedup_by(v, &mut same)
             }
             TinyVec::Heap(v) => v.dedup_by(same),
         }
@@ -91,7 +92,7 @@ impl<A: Array> TinyVec<A> {
         match self {
             TinyVec::Inline(v, _) => {
                 knows_slots(v);
-                tinyvec_slots::dedup_by_key(v, &mut key)
+                tinyvec_slots::authors::dedup_by_key(v, &mut key)
             }
             TinyVec::Heap(v) => v.dedup_by_key(key),
         }
@@ -107,7 +108,7 @@ impl<A: Array> TinyVec<A> {
         ensures shortens { ShortensInPlace A.Item.is_default A.CAPACITY (tiny_view_of A.Slots self.old)
             (tiny_view_of A.Slots self.new) }
     {
-        tinyvec_slots::pop_if(self, predicate)
+        tinyvec_slots::authors::pop_if(self, predicate)
     }
 
     /// Calls `pred` with the items of the range in turn, as far as the iterator is driven, and removes and yields those for
@@ -128,6 +129,6 @@ impl<A: Array> TinyVec<A> {
             (tiny_len_of A.Slots self.old)) pred result }
     {
         let part = resolve_range(range, self.len());
-        tinyvec_slots::extract_if(self, part.start, part.end, pred)
+        tinyvec_slots::authors::extract_if(self, part.start, part.end, pred)
     }
 }

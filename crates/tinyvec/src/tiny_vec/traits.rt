@@ -28,7 +28,7 @@ use std::hash::{Hash, Hasher};
 use std::ops::{DerefSlice, DerefSliceMut, Index, IndexMut};
 use std::{fmt, io, slice};
 use tinyvec_array::{Array, Slots};
-use tinyvec_slots::{
+use tinyvec_slots::authors::{
     InBinary, InHex, InOctal, InUpperHex, Plain, cmp_slices, eq_slices, hash_items, into_items,
     partial_cmp_slices, write_items,
 };

@@ -6,10 +6,13 @@ ghost use Rattle.std.specs.List.{swap_remove, SwappedAt};
 
 use crate::parts::slot_of;
 use crate::places::{bounded_index, prefers_shifting_in};
+use crate::tuned::resetting::fill_default;
+use crate::tuned::shifting::{insert_shifting, last_to};
 use crate::{ArrayVec, Slots};
 use std::mem;
-use tinyvec_slots::{fill_default, insert_shifting, last_to, remove_shifting};
+use tinyvec_slots::authors::remove_shifting;
 
+// What puts items in needs no default.
 impl<S: Slots> ArrayVec<S> {
     /// Appends `value`.
     pub fn push(&mut self, value: S::Item)
@@ -119,6 +122,7 @@ impl<S: Slots> ArrayVec<S> {
     }
 }
 
+// What takes items out leaves defaults in their slots.
 impl<S: Slots> ArrayVec<S>
 where
     S::Item: Default,
@@ -153,12 +157,7 @@ where
         self.len = self.slots.to_len(last);
         item
     }
-}
 
-impl<S: Slots> ArrayVec<S>
-where
-    S::Item: Default,
-{
     /// Removes the item at `index` and returns it. The later ones move down.
     pub fn remove(&mut self, index: usize) -> S::Item
         requires { index < len_of S.Slots self.old }
@@ -201,12 +200,7 @@ where
         self.swap_items(index, last);
         self.take_last()
     }
-}
 
-impl<S: Slots> ArrayVec<S>
-where
-    S::Item: Default,
-{
     /// Keeps the first `new_len` items, or all if there are no more. Each vacated slot is reset to a default.
     pub fn truncate(&mut self, new_len: usize)
         ensures { Loses S.Slots S.Item.is_default (len_of S.Slots self.old - new_len) self.old self.new

@@ -6,12 +6,14 @@ ghost use Rattle.tinyvec_slots.specs.Slots.{AreDefaults};
 ghost use Rattle.tinyvec_slots.specs.Ranges.{IsRangeOf, removed};
 ghost use Rattle.tinyvec_slots.specs.Filling.{Fills, Extends, AppendsResultsTo};
 
+use crate::tuned::cloning::{clone_within, fill_clones};
 use crate::{ArrayVec, NoMemory, NoRoom, Slots, TakesClones, TryFromSliceError};
 use std::alloc::AllocError;
 use std::mem;
 use std::ops::RangeBounds;
-use tinyvec_slots::{clone_within, fill_clones, resolve_range};
+use tinyvec_slots::authors::resolve_range;
 
+// What writes clones by blocks, or one by one, as the slots want it.
 impl<S: TakesClones> ArrayVec<S> {
     /// Appends clones of the slice's items. Only clones allocate.
     pub fn extend_from_slice(&mut self, other: &[S::Item]) -> Result<(), AllocError>
@@ -57,6 +59,7 @@ impl<S: TakesClones> ArrayVec<S> {
     }
 }
 
+// What needs no default, and is the same of all slots.
 impl<S: Slots> ArrayVec<S> {
     /// Appends copies of the slice's items. They are copied as one block.
     pub fn extend_from_slice_copy(&mut self, other: &[S::Item])
@@ -263,6 +266,7 @@ impl<S: Slots> ArrayVec<S> {
     }
 }
 
+// What takes the items of another vector, and leaves defaults there.
 impl<S: Slots> ArrayVec<S>
 where
     S::Item: Default,

@@ -10,7 +10,8 @@ ghost use Rattle.tinyvec_array.specs.CutLaws.{CutOf};
 
 use crate::{ArrayVec, Slots};
 use std::ops::RangeBounds;
-use tinyvec_slots::{ExtractIf, resolve_range};
+use tinyvec_slots::ExtractIf;
+use tinyvec_slots::authors::resolve_range;
 
 impl<S: Slots> ArrayVec<S>
 where
@@ -23,7 +24,7 @@ where
         ensures filtered { IsFiltered (CalledAt F.FnMut) f (items_of S.Slots self.old) (items_of S.Slots self.new) }
         ensures shorter { Shortens S.Slots S.Item.is_default self.old self.new }
     {
-        tinyvec_slots::retain(self, &mut f);
+        tinyvec_slots::authors::retain(self, &mut f);
     }
 
     /// Calls `f` on each item in turn, and keeps those for which it returns `true`, as it left them. A kept item is moved
@@ -33,7 +34,7 @@ where
         ensures filtered { RetainsInTurn (CalledAtMut F.FnMut) f (items_of S.Slots self.old) (items_of S.Slots self.new) }
         ensures shorter { Shortens S.Slots S.Item.is_default self.old self.new }
     {
-        tinyvec_slots::retain_mut(self, &mut f);
+        tinyvec_slots::authors::retain_mut(self, &mut f);
     }
 
     /// Removes each item that equals the last one kept. A kept item is moved at most once.
@@ -54,7 +55,7 @@ where
             (items_of S.Slots self.new) }
         ensures shorter { Shortens S.Slots S.Item.is_default self.old self.new }
     {
-        tinyvec_slots::dedup_by(self, &mut same);
+        tinyvec_slots::authors::dedup_by(self, &mut same);
     }
 
     /// Removes each item whose key equals that of the last one kept. The item's own key is computed first. A kept item is
@@ -65,7 +66,7 @@ where
             (items_of S.Slots self.new) }
         ensures shorter { Shortens S.Slots S.Item.is_default self.old self.new }
     {
-        tinyvec_slots::dedup_by_key(self, &mut key);
+        tinyvec_slots::authors::dedup_by_key(self, &mut key);
     }
 
     /// Calls `predicate` on the last item, and removes and returns the item if it returns `true`. Otherwise the item
@@ -76,7 +77,7 @@ where
         ensures popped { PopsIf F.FnOnce (items_of S.Slots self.old) (items_of S.Slots self.new) predicate result }
         ensures shorter { Shortens S.Slots S.Item.is_default self.old self.new }
     {
-        tinyvec_slots::pop_if(self, predicate)
+        tinyvec_slots::authors::pop_if(self, predicate)
     }
 
     /// Calls `pred` with the items of the range in turn, as far as the iterator is driven, and removes and yields those for
@@ -96,6 +97,6 @@ where
             (range_start (R.start_bound range)) (range_end (R.end_bound range) (len_of S.Slots self.old)) pred result }
     {
         let part = resolve_range(range, self.len());
-        tinyvec_slots::extract_if(self, part.start, part.end, pred)
+        tinyvec_slots::authors::extract_if(self, part.start, part.end, pred)
     }
 }

@@ -18,7 +18,7 @@ use std::fmt::HasDigits;
 use std::hash::{Hash, Hasher};
 use std::ops::{DerefSlice, DerefSliceMut, Index, IndexMut};
 use std::{fmt, slice};
-use tinyvec_slots::{
+use tinyvec_slots::authors::{
     InBinary, InHex, InOctal, InUpperHex, Plain, cmp_slices, eq_slices, hash_items,
     partial_cmp_slices, write_items,
 };

@@ -1,5 +1,5 @@
 -- Examples of a text in the value, with room for four bytes, as `ab`.
-use Rattle.std.proofs.Common.{◌≡◌, ℕ, List, [], ◌∷◌, ◌++◌, Ok, Result, false, ap, sym, refl, rules}
+use Rattle.std.proofs.Common.{◌≡◌, ℕ, List, [], ◌∷◌, ◌++◌, Ok, Result, false, true, ap, sym, refl, rules}
 use Rattle.std.proofs.lemmas.Str.{chars-nil}
 use Rattle.std.specs.Prelude.{All, chars}
 use Rattle.tinyvec.specs.View.{in_array, on_heap, lies_inline, capacity_in}
@@ -50,7 +50,7 @@ example-TextBecomes = record { bytes = refl; text = refl; frame = example-TextSt
 pub example-TextKeepsFront : TextKeepsFront 4 0 (inline (97 ∷ 98 ∷ [])) (inline [])
 example-TextKeepsFront = record { bytes = refl; text = (chars (97 ∷ 98 ∷ []), ap (λ cs. cs ++ chars (97 ∷ 98 ∷ [])) (sym chars-nil)); len = refl; frame = search rules }
 
-pub example-TextReserves : TextReserves 4 2 (inline (97 ∷ 98 ∷ [])) (inline (97 ∷ 98 ∷ [])) done
+pub example-TextReserves : TextReserves true 4 2 (inline (97 ∷ 98 ∷ [])) (inline (97 ∷ 98 ∷ [])) done
 example-TextReserves = search rules
 
 pub example-TextShrinks : TextShrinks 4 (inline (97 ∷ 98 ∷ [])) (inline (97 ∷ 98 ∷ []))

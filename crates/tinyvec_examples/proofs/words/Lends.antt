@@ -4,7 +4,7 @@ use Rattle.tinyvec_array.specs.SliceParts.{with_front, with_back}
 use Rattle.tinyvec_array.specs.Lends.{at_slots, with_items_of}
 use Rattle.tinyvec_array.specs.ArrayVec.{items_of, slots_of}
 use Rattle.tinyvec_array.specs.CutLaws.{written_of}
-use Rattle.tinyvec_array.specs.declared.storage.Slots as Storage
+use Rattle.tinyvec_array.specs.declared.slots.Slots as Storage
 use Rattle.tinyvec_array.specs.declared.array_vec.ArrayVec.{ArrayVec}
 use Rattle.tinyvec_examples.proofs.words.Shown.{nums}
 

@@ -2,7 +2,7 @@
 use Rattle.std.proofs.Common.{◌≡◌, ℕ, List, [], ◌∷◌, drop, refl, rules, ◌∙◌, sym, ap}
 use Rattle.tinyvec_slots.specs.Slots.{items as items_in, spare as spare_in}
 use Rattle.std.specs.Borrow.{MutBor}
-use Rattle.tinyvec_array.specs.declared.storage.Slots as Storage
+use Rattle.tinyvec_array.specs.declared.slots.Slots as Storage
 use Rattle.tinyvec_array.specs.declared.array_vec.ArrayVec.{ArrayVec}
 use Rattle.tinyvec_array.specs.ArrayVec.{view_of, items_of, spare_of, len_of, slots_of, name_of, SameLender, Gains, Loses, Grows, Shortens, Changes}
 use Rattle.tinyvec_array.specs.SliceVec.{view, items, spare, slots, name}

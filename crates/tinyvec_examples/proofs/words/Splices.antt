@@ -1,7 +1,7 @@
 -- Examples of splices: of one that has `[1]` before it and `[4]` after it, and whose replacement is seen as a list.
 use Rattle.std.proofs.Common.{◌≡◌, ℕ, List, [], ◌∷◌, ◌++◌, Some, Ok, Result, false, codes, refl, rules, arith}
 use Rattle.std.specs.Fmt.{radix_digits}
-use Rattle.tinyvec_slots.specs.declared.no_room.SpliceRest.{SpliceRest}
+use Rattle.tinyvec_slots.specs.declared.no_room.NoRoom.{NoRoom}
 use Rattle.tinyvec_slots.specs.AnySplice.{SpliceView, SpliceBegins, FinishTouches, Finishes, FinishesWith}
 use Rattle.tinyvec_slots.specs.Replacing.{PutsBetween}
 use Rattle.tinyvec_slots.specs.Texts.{list_in_radix}
@@ -18,7 +18,7 @@ s replacement = record {
   touches = 0;
 }
 
-abbrev pub done : Result Unit (SpliceRest ℕ (List ℕ))
+abbrev pub done : Result Unit (NoRoom ℕ (List ℕ))
 done = Ok _
 
 pub example-SpliceBegins : SpliceBegins (1 ∷ []) (2 ∷ 3 ∷ []) (4 ∷ []) (s (7 ∷ [])) 2

@@ -7,7 +7,7 @@ use Rattle.tinyvec.specs.declared.drain.TinyVecDrain.{TinyVecDrain}
 use Rattle.tinyvec.specs.TinyVec.{tiny_items}
 use Rattle.tinyvec.specs.Drain.{drain_items, drain_len, drain_kept, drain_vec, drain_lender, DrainCanStep, DrainLeaves, DrainSteps, DrainStepsBack, DrainsFromEnds, DrainBegins}
 use Rattle.tinyvec_array.proofs.Named.{array_slots}
-use Rattle.tinyvec_array.specs.declared.storage.Slots as Storage
+use Rattle.tinyvec_array.specs.declared.slots.Slots as Storage
 use Rattle.tinyvec_array.specs.declared.bound.UpTo.{UpTo}
 use Rattle.tinyvec_examples.proofs.words.Shown.{D}
 

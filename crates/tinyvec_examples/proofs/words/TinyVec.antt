@@ -3,7 +3,7 @@ use Rattle.std.proofs.Common.{◌≡◌, ℕ, List, [], ◌∷◌, ◌++◌, len
 use Rattle.std.specs.Global.{Global}
 use Rattle.tinyvec_array.specs.declared.bound.UpTo.{UpTo}
 use Rattle.tinyvec_array.specs.UpTo.{up_to}
-use Rattle.tinyvec_array.specs.declared.storage.Slots as Storage
+use Rattle.tinyvec_array.specs.declared.slots.Slots as Storage
 use Rattle.tinyvec_array.proofs.Named.{array_slots}
 use Rattle.tinyvec.specs.declared.tiny_vec.TinyVec.{TinyVec}
 use Rattle.tinyvec.specs.declared.tiny_vec.TinyVec.TheVariants.{Inline}
@@ -15,7 +15,6 @@ use Rattle.tinyvec.specs.Following.{PushesItems}
 use Rattle.tinyvec_slots.specs.Filling.{IntoIterYields}
 use Rattle.tinyvec_slots.specs.declared.no_room.NoRoom.{NoRoom}
 use Rattle.tinyvec.specs.Lends.{tiny_with_items, tiny_with_item}
-use Rattle.tinyvec.specs.TinyVecSplice.{items_moved}
 use Rattle.tinyvec_examples.proofs.words.Shown.{D, C, I}
 
 -- an array of four slots
@@ -181,9 +180,6 @@ module _ (alloc : Global) where
 
   pub example-Collects : Collects D 4 (1 ∷ []) (tiny_view (inline (1 ∷ []) (0 ∷ 0 ∷ 0 ∷ [])))
   example-Collects = search rules
-
-pub example-items_moved : items_moved 4 true false ≡ 4
-example-items_moved = refl
 
 pub example-PushesItems : (becomes : List ℕ → List ℕ → Type 0) (steps : List ℕ → Option ℕ → List ℕ → Type 0) (r : Result Unit (NoRoom ℕ (List ℕ))) (new : List ℕ)
     → IntoIterYields becomes steps (5 ∷ []) (5 ∷ []) → PushesItems becomes steps (5 ∷ []) 4 r (1 ∷ []) new → new ≡ 1 ∷ 5 ∷ []

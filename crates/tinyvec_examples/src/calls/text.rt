@@ -1,5 +1,5 @@
 //! Callers of an `InlineText`.
-ghost use Rattle.std.specs.Prelude.{◌≡◌, ◌+◌, ◌≤◌, ◌++◌, ◌∷◌, [], ◌↔◌, length, drop, IsTrue, IfOk, IsOk, IfErr, IfSome, OnOk, IsUtf8, encode_utf8};
+ghost use Rattle.std.specs.Prelude.{◌≡◌, ◌+◌, ◌≤◌, ◌++◌, ◌∷◌, [], ◌↔◌, length, take, drop, IsTrue, IfOk, IsOk, IfErr, IfSome, OnOk, IsUtf8, encode_utf8};
 ghost use Rattle.std.specs.String.{string_bytes};
 ghost use Rattle.tinyvec.specs.TinyVec.{tiny_items};
 ghost use Rattle.tinyvec.specs.View.{lies_inline, capacity_in};
@@ -10,7 +10,7 @@ use std::default::MadeWith;
 use std::fmt::Write;
 use std::{fmt, mem};
 use tinyvec::{NoMemory, TinyVec};
-use tinyvec_text::{FromUtf8Error, InlineText};
+use tinyvec_text::{FromUtf8Error, InlineText, InlineTextDrain};
 
 /// No characters, in the value.
 pub fn empty(alloc: Global) -> InlineText<8>
@@ -72,6 +72,14 @@ pub fn with_room(text: &mut InlineText<8>) -> Result<(), AllocError>
     ensures { text.new.bytes ≡ text.old.bytes }
 {
     text.reserve(20)
+}
+
+/// Room for a line of a terminal, and for no more bytes.
+pub fn with_room_for_a_line(text: &mut InlineText<8>) -> Result<(), AllocError>
+    requires { text_len text.old ≡ 0 }
+    ensures { OnOk result (80 ≤ capacity_in 8 text.new.place) }
+{
+    text.reserve_exact(80)
 }
 
 /// The same text once more, in the value if this one is.
@@ -172,6 +180,28 @@ pub fn with_front(text: &mut InlineText<8>, n: usize, front: &str) -> Result<(),
     ensures { OnOk result (text.new.bytes ≡ front.now ++ drop n text.old.bytes) }
 {
     text.replace_range(..n, front)
+}
+
+/// The first `n` bytes once more, at the end.
+pub fn with_front_again(text: &mut InlineText<8>, n: usize) -> Result<(), AllocError>
+    requires { IsBoundary (text_chars text.old) n }
+    ensures { OnOk result (text.new.bytes ≡ text.old.bytes ++ take n text.old.bytes) }
+{
+    text.extend_from_within(..n)
+}
+
+/// The characters of the first `n` bytes, which are taken off.
+pub fn take_front(text: &mut InlineText<8>, n: usize) -> Result<InlineTextDrain<8>, AllocError>
+    requires { IsBoundary (text_chars text.old) n }
+    ensures taken { IfOk result (λ front. front ≡ take n text.old.bytes) }
+    ensures left { OnOk result (text.new.bytes ≡ drop n text.old.bytes) }
+{
+    text.drain(..n)
+}
+
+/// Whether the characters that are left of those taken off are blanks.
+pub fn are_blanks(front: &InlineTextDrain<8>) -> bool {
+    front.as_str().trim().is_empty()
 }
 
 /// The text from the byte `at` on, which is cut off.

@@ -65,15 +65,15 @@ impl Gap {
             ≤ gap_touches self.old + (length slots.old - end) + (length slots.old - gap_front self.old) }
     {
         let appended = slots.len() - end;
-        self.touches.add(appended);
         if appended > 0 {
             self.touches.rotate(slots, self.front, end);
         }
+        self.touches.add(appended);
     }
 
     // Counts `n` items that were moved to other slots.
     pub(crate) fn count_moved(&mut self, n: usize)
-        requires few { FitsBits 100 (gap_touches self.old) }
+        requires few { FitsBits 120 (gap_touches self.old) }
         ensures { gap_touches self.new ≡ gap_touches self.old + n }
     {
         self.touches.add(n);
@@ -124,7 +124,7 @@ fn place_one<I: Iterator>(
 where
     I::Item: Drop,
     requires in_bounds { at < length slots.old }
-    requires few { FitsBits 100 (touch_count touches.old) }
+    requires few { FitsBits 120 (touch_count touches.old) }
     requires can { I.can_next replacement.old }
     ensures finite { IsFinite (I.remaining replacement.old) → IsFinite (I.remaining replacement.new) }
     ensures placed { MatchBool result ((new : I.Item) × I.next_gives replacement.old (Some new) replacement.new

@@ -1,6 +1,5 @@
 //! Writing clones into slots. No item is cloned twice: the first clone that fails ends the call, and those before it stay.
-ghost use Rattle.std.specs.Prelude.{◌+◌, ◌-◌, ◌<◌, ◌≤◌, ℕ, length, take, slice_range, replicate, IfOk, IsOk, OnOk, OnErr};
-ghost use Rattle.tinyvec_slots.specs.Ranges.{Within};
+ghost use Rattle.std.specs.Prelude.{◌+◌, ◌<◌, ◌≤◌, ℕ, length, take, IfOk, OnOk, OnErr};
 ghost use Rattle.tinyvec_slots.specs.Clones.{RefusedAt, ClonesOver, ClonesOverFrom, WritesClones};
 
 use crate::tuned::sizes::{are_bytes, are_large};
@@ -22,50 +21,6 @@ pub fn clone_over_from<T: Clone + Default>(
         return clone_few(&mut slots[start..], &from[..count]);
     }
     clone_over(&mut slots[start..], &from[..count])
-}
-
-/// The same, item by item.
-pub fn clone_each_from<T: Clone>(
-    slots: &mut [T],
-    start: usize,
-    from: &[T],
-) -> Result<(), AllocError>
-    requires fits { start + length from.now ≤ length slots.old }
-    ensures { WritesClones T.Clone (λ ys n. ClonesOverFrom T.is_clone start ys n slots.old slots.new) from.now result }
-{
-    clone_each(&mut slots[start..], from)
-}
-
-/// Writes clones of the slots from `start` up to `end` over those from `to` on.
-pub fn clone_within<T: Clone>(
-    slots: &mut [T],
-    start: usize,
-    end: usize,
-    to: usize,
-) -> Result<(), AllocError>
-    requires before { Within start end to }
-    requires fits { to + (end - start) ≤ length slots.old }
-    ensures { WritesClones T.Clone (λ ys n. ClonesOverFrom T.is_clone to ys n slots.old slots.new)
-        (slice_range slots.old start end) result }
-{
-    let (front, back) = slots.split_at_mut(to);
-    clone_range(back, front, start, end)
-}
-
-// Writes clones of `from[start..end]` over the first slots of `to`.
-#[inline(always)]
-fn clone_range<T: Clone>(
-    to: &mut [T],
-    from: &[T],
-    start: usize,
-    end: usize,
-) -> Result<(), AllocError>
-    requires in_bounds { Within start end (length from.now) }
-    requires fits { end - start ≤ length to.old }
-    ensures { WritesClones T.Clone (λ ys n. ClonesOver T.is_clone ys n to.old to.new)
-        (slice_range from.now start end) result }
-{
-    clone_each(to, &from[start..end])
 }
 
 /// Writes clones of `from` over the first slots of `to`.
@@ -194,35 +149,5 @@ fn clone_block<T: Clone + Default, const N: usize>(
         unreachable!();
     };
     *place = block;
-    Ok(())
-}
-
-/// Writes a clone of `x` into each slot from `start` up to `end`.
-pub fn fill_clones<T: Clone>(
-    to: &mut [T],
-    start: usize,
-    end: usize,
-    x: &T,
-) -> Result<(), AllocError>
-    requires in_bounds { Within start end (length to.old) }
-    ensures ok { OnOk result (ClonesOverFrom T.is_clone start (replicate (end - start) x.now) (end - start)
-        to.old to.new) }
-    ensures refused { OnErr result ((j : ℕ) × (j < end - start) × ¬ (T.is_infallible x.now)
-        × ClonesOverFrom T.is_clone start (replicate j x.now) j to.old to.new) }
-    ensures succeeds { T.is_infallible x.now → IsOk result }
-{
-    clone_to_all(&mut to[start..end], x)
-}
-
-// Writes a clone of `x` into each slot.
-fn clone_to_all<T: Clone>(to: &mut [T], x: &T) -> Result<(), AllocError>
-    ensures ok { OnOk result (ClonesOver T.is_clone (replicate (length to.old) x.now) (length to.old) to.old to.new) }
-    ensures refused { OnErr result ((j : ℕ) × (j < length to.old) × ¬ (T.is_infallible x.now)
-        × ClonesOver T.is_clone (replicate j x.now) j to.old to.new) }
-    ensures succeeds { T.is_infallible x.now → IsOk result }
-{
-    for i in 0..to.len() {
-        to[i] = x.clone()?;
-    }
     Ok(())
 }

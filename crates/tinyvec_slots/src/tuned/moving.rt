@@ -1,9 +1,8 @@
 //! Items that change their places.
-ghost use Rattle.std.specs.Prelude.{◌≡◌, ◌+◌, ◌-◌, ◌<◌, ◌≤◌, List, [], ◌∷◌, ◌++◌, length, take, drop, slice_range, insert};
+ghost use Rattle.std.specs.Prelude.{◌≡◌, ◌+◌, ◌-◌, ◌≤◌, ◌++◌, length, take, drop, slice_range};
 ghost use Rattle.std.specs.List.{remove_range};
 ghost use Rattle.tinyvec_slots.specs.Ranges.{Within};
 
-use crate::tuned::shifting::prefers_swaps;
 use std::mem;
 
 /// Moves the items `start..end` to the end.
@@ -20,6 +19,12 @@ pub fn move_to_end<T>(items: &mut [T], start: usize, end: usize)
         return;
     }
     rotate(&mut items[start..], end - start);
+}
+
+// Whether moving this many items one by one beats a rotation.
+#[inline(always)]
+fn prefers_swaps(count: usize) -> bool {
+    count <= 64
 }
 
 // Moves the first `count` items to the end.
@@ -92,35 +97,6 @@ fn swap_ends<T>(items: &mut [T], count: usize)
     let border = items.len() - count;
     let (front, back) = items.split_at_mut(border);
     front[..count].swap_with_slice(back);
-}
-
-/// Moves the items `start..end` to the end of the first `len`.
-pub fn move_to_end_below<T>(slots: &mut [T], start: usize, end: usize, len: usize)
-    requires in_list { Within start end len }
-    requires in_bounds { len ≤ length slots.old }
-    ensures { slots.new
-        ≡ remove_range (take len slots.old) start end ++ slice_range (take len slots.old) start end
-        ++ drop len slots.old }
-{
-    move_to_end(&mut slots[..len], start, end);
-}
-
-// Moves the last item to `index`, and the items from there on up.
-fn move_last<T>(items: &mut [T], index: usize)
-    requires { index < length items.old }
-    ensures { (front : List T) (last : T) → items.old ≡ front ++ last ∷ [] → items.new ≡ insert front index last }
-{
-    items[index..].rotate_right(1);
-}
-
-/// Moves the last item below `len` to `index`, and the items from there on up.
-pub fn last_to<T>(slots: &mut [T], index: usize, len: usize)
-    requires in_list { index < len }
-    requires in_bounds { len ≤ length slots.old }
-    ensures { (front : List T) (last : T) → take len slots.old ≡ front ++ last ∷ []
-        → slots.new ≡ insert front index last ++ drop len slots.old }
-{
-    move_last(&mut slots[..len], index);
 }
 
 /// Moves up to `gap` items from `start` on to the end, in any order, and returns how many items precede them.

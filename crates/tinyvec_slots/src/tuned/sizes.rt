@@ -36,9 +36,3 @@ pub(crate) fn are_small<T>(items: &[T]) -> bool
 pub(crate) fn are_large<T>(items: &[T]) -> bool {
     items.len() * mem::size_of::<T>() / 16 > items.len()
 }
-
-/// Whether all items together take up to 128 bytes.
-#[inline(always)]
-pub fn prefers_shifting<T>(items: &[T]) -> bool {
-    items.len() * mem::size_of::<T>() <= 128
-}

@@ -101,11 +101,10 @@ fn insert_bytes<const N: usize>(list: &mut TinyVec<[u8; N]>, index: usize, bytes
     ensures { Becomes (λ b. b ≡ 0) N (tiny_view list.old) (tiny_view list.new)
         (take index (tiny_items list.old) ++ bytes.now ++ drop index (tiny_items list.old)) }
 {
-    let behind = list.len() - index;
-    let Ok(()) = list.extend_from_slice_copy(bytes) else {
-        unreachable!();
-    };
-    put_before(list.as_mut_slice(), index, behind, bytes);
+    match list {
+        TinyVec::Inline(v, _) => insert_inline(v, index, bytes),
+        TinyVec::Heap(heap) => insert_on_heap(heap, index, bytes),
+    }
 }
 
 /// Inserts `bytes` at `index`, and makes room as `push_bytes` does.
@@ -196,7 +195,7 @@ fn insert_inline<const N: usize>(v: &mut ArrayVec<[u8; N]>, index: usize, bytes:
     let len = v.len();
     v.set_len(len + bytes.len());
     // The minimum is all that is behind, which LLVM does not know.
-    put_few_before(v.as_mut_slice(), index, N.min(len - index), bytes, N);
+    put_before(v.as_mut_slice(), index, N.min(len - index), bytes, N);
 }
 
 // Inserts `bytes` at `index` into a list on the heap that has room.
@@ -212,22 +211,12 @@ fn insert_on_heap(heap: &mut Vec<u8>, index: usize, bytes: &[u8])
     } else {
         append_many(heap, bytes);
     }
-    put_few_before(heap.as_mut_slice(), index, behind, bytes, bytes.len());
+    put_before(heap.as_mut_slice(), index, behind, bytes, bytes.len());
 }
 
-// Moves the `behind` items at `index` to the end, and writes `bytes` in front of them.
-fn put_before(items: &mut [u8], index: usize, behind: usize, bytes: &[u8])
-    requires { index + length bytes.now + behind ≡ length items.old }
-    ensures { items.new ≡ take index items.old ++ bytes.now ++ take behind (drop index items.old) }
-{
-    let end = index + bytes.len();
-    move_up(items, index, end, behind);
-    items[index..end].copy_from_slice(bytes);
-}
-
-// `put_before` of bytes that are not more than `most`.
+// Moves the `behind` items at `index` to the end, and writes `bytes` in front of them, which are not more than `most`.
 #[inline(always)]
-fn put_few_before(items: &mut [u8], index: usize, behind: usize, bytes: &[u8], most: usize)
+fn put_before(items: &mut [u8], index: usize, behind: usize, bytes: &[u8], most: usize)
     requires ends { index + length bytes.now + behind ≡ length items.old }
     requires bound { length bytes.now ≤ most }
     ensures { items.new ≡ take index items.old ++ bytes.now ++ take behind (drop index items.old) }
@@ -298,10 +287,15 @@ pub fn push_bytes<const N: usize>(
 {
     match list {
         TinyVec::Inline(v, _) if bytes.len() <= v.capacity() - v.len() => append_inline(v, bytes),
-        _ => {
-            list.reserve(bytes.len())?;
-            append_on_heap(list, bytes);
+        TinyVec::Heap(v) if bytes.len() <= v.capacity() - v.len() => {
+            // So few bytes are worth no call.
+            if bytes.len() < 16 {
+                append_each(v, bytes);
+            } else {
+                append_many(v, bytes);
+            }
         }
+        _ => return push_slow(list, bytes),
     }
     Ok(())
 }
@@ -319,35 +313,18 @@ pub fn append_bytes<const N: usize>(list: &mut TinyVec<[u8; N]>, bytes: &[u8])
     }
 }
 
-/// `push_bytes` of so few bytes, and a number that LLVM knows, that they go onto the heap one by one.
-#[inline(always)]
-pub fn push_few<const N: usize>(list: &mut TinyVec<[u8; N]>, bytes: &[u8]) -> Result<(), AllocError>
-    ensures items { tiny_items list.new
-        ≡ (if is_ok result then tiny_items list.old ++ bytes.now else tiny_items list.old) }
-    ensures room { MakesRoom (is_inline list.old) N (tiny_len list.old + length bytes.now)
-        (tiny_view list.old) (tiny_view list.new) result }
-{
-    match list {
-        TinyVec::Inline(v, _) if bytes.len() <= v.capacity() - v.len() => append_inline(v, bytes),
-        TinyVec::Heap(v) if bytes.len() <= v.capacity() - v.len() => append_each(v, bytes),
-        _ => return push_few_slow(list, bytes),
-    }
-    Ok(())
-}
-
-// `push_few` onto any list.
+// `push_bytes` onto any list.
 #[cold]
 #[inline(never)]
-fn push_few_slow<const N: usize>(
-    list: &mut TinyVec<[u8; N]>,
-    bytes: &[u8],
-) -> Result<(), AllocError>
+fn push_slow<const N: usize>(list: &mut TinyVec<[u8; N]>, bytes: &[u8]) -> Result<(), AllocError>
     ensures items { tiny_items list.new
         ≡ (if is_ok result then tiny_items list.old ++ bytes.now else tiny_items list.old) }
     ensures room { MakesRoom (is_inline list.old) N (tiny_len list.old + length bytes.now)
         (tiny_view list.old) (tiny_view list.new) result }
 {
-    push_bytes(list, bytes)
+    list.reserve(bytes.len())?;
+    append_bytes(list, bytes);
+    Ok(())
 }
 
 // Appends `bytes` to a list in its array that has room.

@@ -1,22 +1,22 @@
 //! Text that is pushed, popped, inserted, removed, replaced and cut off.
-ghost use Rattle.std.specs.Prelude.{◌≡◌, ◌+◌, ◌-◌, ◌%◌, ◌<◌, ◌≤◌, ◌++◌, ◌∷◌, [], ◌↔◌, length, if◌then◌else◌, is_ok, min, max, false, IsTrue, IsOk, IfOk, OnOk, OnErr, chars, encode_utf8, ◌&&◌, nat_le, ℕ, List, take, drop, All, IsSome, IfSome, IfNone, IsUtf8, slice_index};
+ghost use Rattle.std.specs.Prelude.{◌≡◌, ◌+◌, ◌-◌, ◌%◌, ◌<◌, ◌≤◌, ◌++◌, ◌∷◌, [], ◌↔◌, length, if◌then◌else◌, is_ok, min, max, true, false, IsTrue, IsOk, IfOk, OnOk, OnErr, chars, encode_utf8, ◌&&◌, nat_le, ℕ, List, take, drop, All, IsSome, IfSome, IfNone, IsUtf8, slice_index};
 ghost use Rattle.std.specs.Char.{IsScalar};
 ghost use Rattle.tinyvec.specs.View.{lies_inline, capacity_in};
 ghost use Rattle.tinyvec.specs.Room.{MakesRoom};
 ghost use Rattle.tinyvec.specs.TinyVec.{tiny_items, tiny_spare, tiny_capacity, is_inline};
 ghost use Rattle.tinyvec_text.specs.InlineText.{text_chars, text_len, text_view, TextReserves, TextShrinks, TextStaysInPlace, TextBecomes, TextKeepsFront, TextMadeFor, IsTextTail, IsFirstChar, IsBoundary};
-ghost use Rattle.tinyvec_slots.specs.Ranges.{range_start, range_end, before, after};
+ghost use Rattle.tinyvec_slots.specs.Ranges.{range_start, range_end, before, removed, after};
 ghost use Rattle.std.specs.String.Boundary.{IsSplitPoint};
 
 use super::InlineText;
 use super::bytes::{
-    append_bytes, copied_to_heap, push_bytes, push_few, put_byte, put_bytes, remove_bytes,
-    replace_bytes, split_bytes,
+    append_bytes, copied_to_heap, push_bytes, put_byte, put_bytes, remove_bytes, replace_bytes,
+    split_bytes,
 };
 use std::alloc::{AllocError, Global};
 use std::ops::RangeBounds;
 use tinyvec::TinyVec;
-use tinyvec_slots::resolve_range;
+use tinyvec_slots::authors::resolve_range;
 
 impl<const N: usize> InlineText<N> {
     /// A copy of `s`, inline if its bytes fit the array. Otherwise allocates once.
@@ -141,15 +141,25 @@ impl<const N: usize> InlineText<N> {
         ensures room { MakesRoom (lies_inline self.old.place) N (text_len self.old + length (encode_utf8 c))
             (text_view self.old) (text_view self.new) result }
     {
-        push_few(&mut self.list, bytes)?;
+        push_bytes(&mut self.list, bytes)?;
         Ok(())
     }
 
     /// Makes room for `additional` more bytes. An inline text moves to the heap if they don't fit the array.
     pub fn reserve(&mut self, additional: usize) -> Result<(), AllocError>
-        ensures { TextReserves N additional self.old self.new result }
+        ensures { TextReserves (lies_inline self.old.place) N additional self.old self.new result }
     {
         self.list.reserve(additional)?;
+        Ok(())
+    }
+
+    /// As `reserve`, but room that is allocated is for no further bytes.
+    pub fn reserve_exact(&mut self, additional: usize) -> Result<(), AllocError>
+        ensures room { TextReserves true N additional self.old self.new result }
+        ensures exact { OnOk result (capacity_in N self.new.place
+            ≡ max (capacity_in N self.old.place) (text_len self.old + additional)) }
+    {
+        self.list.reserve_exact(additional)?;
         Ok(())
     }
 
@@ -285,6 +295,24 @@ impl<const N: usize> InlineText<N> {
         let more = bytes.len().saturating_sub(part.end - part.start);
         self.list.reserve(more)?;
         replace_bytes(&mut self.list, part.start, part.end, bytes);
+        Ok(())
+    }
+
+    /// Appends the characters of the range, whose ends are boundaries. Allocates only if the bytes don't fit.
+    pub fn extend_from_within<R: RangeBounds<usize>>(&mut self, range: R) -> Result<(), AllocError>
+        requires not_exhausted { R.has_bounds range }
+        requires start_le_end { range_start (R.start_bound range) ≤ range_end (R.end_bound range) (text_len self.old) }
+        requires start_boundary { IsBoundary (text_chars self.old) (range_start (R.start_bound range)) }
+        requires end_boundary { IsBoundary (text_chars self.old) (range_end (R.end_bound range) (text_len self.old)) }
+        ensures bytes { self.new.bytes ≡ (if is_ok result
+            then self.old.bytes ++ removed self.old.bytes (R.start_bound range) (R.end_bound range) else self.old.bytes) }
+        ensures text { OnOk result (text_chars self.new
+            ≡ text_chars self.old ++ chars (removed self.old.bytes (R.start_bound range) (R.end_bound range))) }
+        ensures room { MakesRoom (lies_inline self.old.place) N
+            (text_len self.old + length (removed self.old.bytes (R.start_bound range) (R.end_bound range)))
+            (text_view self.old) (text_view self.new) result }
+    {
+        self.list.extend_from_within(range)?;
         Ok(())
     }
 

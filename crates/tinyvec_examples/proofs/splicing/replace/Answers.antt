@@ -6,9 +6,11 @@ use Rattle.tinyvec_slots.specs.Slots.{SlotRule}
 use Rattle.tinyvec_slots.specs.Ends.{front, back}
 use Rattle.tinyvec_slots.proofs.Lists.{length-slice_range}
 use Rattle.tinyvec_slots.specs.Fused.{fused_rest}
-use Rattle.tinyvec_array.specs.Splice.{splice_replacement}
+use Rattle.tinyvec_slots.specs.Splice.{splice_replacement}
 use Rattle.tinyvec_slots.specs.SplicedByWord.{IsSpliceRefused}
-use Rattle.tinyvec_examples.proofs.SpliceCounted.{array_counted}
+use Rattle.tinyvec_array.specs.CutLaws.{KeptOf}
+use Rattle.tinyvec_array.specs.SpliceLaws.{kept_refl, kept_then}
+use Rattle.tinyvec_examples.proofs.SpliceCounted.{splice_counted}
 use Rattle.tinyvec_examples.proofs.SpliceEnded.{ended_fits, ended_list, ended_refused, ended_slots, ended_count}
 use Rattle.tinyvec_examples.proofs.splicing.replace.Goals as goal
 
@@ -44,7 +46,7 @@ returns-clause-list g c = λ rest ends.
 
 pub returns-clause-full : goal.returns-clause-full
 returns-clause-full g c =
-    let counts = array_counted g.A.Slots (fuse_steps g.I.Iterator.next_gives) (fuse_steps g.I.DoubleEndedIterator.next_back_gives) c.splice-splice.result (front ∷ back ∷ [])
+    let counts = splice_counted (items_of g.A.Slots) (KeptOf g.A.Slots) (kept_refl g.A.Slots) (kept_then g.A.Slots) (fuse_steps g.I.Iterator.next_gives) (fuse_steps g.I.DoubleEndedIterator.next_back_gives) c.splice-splice.result (front ∷ back ∷ [])
     (c.one_from_each_end-ends.result.0 ∷ c.one_from_each_end-ends.result.1 ∷ []) c.one_from_each_end-ends.new.splice c.one_from_each_end-ends.ensures.asked in
     let same = counts.kept.same_reference in
     let lender = c.splice-splice.ensures.same_reference in
@@ -57,7 +59,7 @@ returns-clause-full g c =
 
 pub returns-clause-slot_rule : goal.returns-clause-slot_rule
 returns-clause-slot_rule g c =
-    let counts = array_counted g.A.Slots (fuse_steps g.I.Iterator.next_gives) (fuse_steps g.I.DoubleEndedIterator.next_back_gives) c.splice-splice.result (front ∷ back ∷ [])
+    let counts = splice_counted (items_of g.A.Slots) (KeptOf g.A.Slots) (kept_refl g.A.Slots) (kept_then g.A.Slots) (fuse_steps g.I.Iterator.next_gives) (fuse_steps g.I.DoubleEndedIterator.next_back_gives) c.splice-splice.result (front ∷ back ∷ [])
     (c.one_from_each_end-ends.result.0 ∷ c.one_from_each_end-ends.result.1 ∷ []) c.one_from_each_end-ends.new.splice c.one_from_each_end-ends.ensures.asked in
     let same = counts.kept.same_reference in
     let lender = c.splice-splice.ensures.same_reference in

@@ -2,21 +2,23 @@ use Rattle.std.proofs.Common.{◌≡◌, ◌+◌, ◌-◌, ◌≤◌, [], ◌∷
 use Rattle.std.proofs.lemmas.List.{length-take-le, length-drop}
 use Rattle.std.specs.Iterator.Adapters.{fuse_steps}
 use Rattle.tinyvec_array.specs.ArrayVec.{items_of, len_of}
+use Rattle.tinyvec_array.specs.CutLaws.{KeptOf}
 use Rattle.tinyvec_slots.specs.Ends.{front, back, given_items}
 use Rattle.tinyvec_slots.proofs.Lists.{length-slice_range}
-use Rattle.tinyvec_array.specs.Splice.{splice_view, splice_front, splice_left, splice_back, SpliceKeeps}
+use Rattle.tinyvec_slots.specs.Splice.{splice_view, splice_front, splice_left, splice_back, SpliceKeeps}
 use Rattle.tinyvec_slots.proofs.FinishLemmas.{finished_len}
-use Rattle.tinyvec_examples.proofs.SpliceCounted.{Counts, array_counted, kept_around, touched_at_least, touched_at_most}
+use Rattle.tinyvec_array.specs.SpliceLaws.{kept_refl, kept_then}
+use Rattle.tinyvec_examples.proofs.SpliceCounted.{Counts, splice_counted, kept_around, touched_at_least, touched_at_most}
 use Rattle.tinyvec_examples.proofs.splicing.touches_of_replace.Goals.{Joined-finished}
 use Rattle.tinyvec_examples.proofs.splicing.touches_of_replace.Goals as goal
 
 module _ (g : _) (c : Joined-finished g) where
-  counts : Counts (splice_view g.A.Slots) (SpliceKeeps g.A.Slots) c.splice-splice.result (c.one_from_each_end-first.result.0 ∷ c.one_from_each_end-first.result.1 ∷ []) c.one_from_each_end-first.new.splice
+  counts : Counts (splice_view (items_of g.A.Slots)) (SpliceKeeps (items_of g.A.Slots) (KeptOf g.A.Slots)) c.splice-splice.result (c.one_from_each_end-first.result.0 ∷ c.one_from_each_end-first.result.1 ∷ []) c.one_from_each_end-first.new.splice
   counts =
-      array_counted g.A.Slots (fuse_steps g.I.Iterator.next_gives) (fuse_steps g.I.DoubleEndedIterator.next_back_gives) c.splice-splice.result (front ∷ back ∷ []) _ c.one_from_each_end-first.new.splice c.one_from_each_end-first.ensures.asked
+      splice_counted (items_of g.A.Slots) (KeptOf g.A.Slots) (kept_refl g.A.Slots) (kept_then g.A.Slots) (fuse_steps g.I.Iterator.next_gives) (fuse_steps g.I.DoubleEndedIterator.next_back_gives) c.splice-splice.result (front ∷ back ∷ []) _ c.one_from_each_end-first.new.splice c.one_from_each_end-first.ensures.asked
 
   -- what is around the range, and in it
-  around : length (splice_front g.A.Slots c.splice-splice.result) + length (splice_back g.A.Slots c.splice-splice.result) ≡ len_of g.A.Slots c.args.vec.now - (c.args.end - c.args.start)
+  around : length (splice_front (items_of g.A.Slots) c.splice-splice.result) + length (splice_back (items_of g.A.Slots) c.splice-splice.result) ≡ len_of g.A.Slots c.args.vec.now - (c.args.end - c.args.start)
   around =
       let xs = items_of g.A.Slots c.args.vec.now in
       let made = c.splice-splice.ensures in
@@ -24,12 +26,12 @@ module _ (g : _) (c : Joined-finished g) where
       let two = ap length made.begins.back ∙ length-drop c.args.end xs in
       omega (arith, c.requires.start_le_end, c.requires.in_bounds)
 
-  inside : length (splice_left g.A.Slots c.splice-splice.result) ≡ c.args.end - c.args.start
+  inside : length (splice_left (items_of g.A.Slots) c.splice-splice.result) ≡ c.args.end - c.args.start
   inside = ap length c.splice-splice.ensures.begins.left ∙ length-slice_range (items_of g.A.Slots c.args.vec.now) c.args.start c.args.end c.requires.start_le_end c.requires.in_bounds
 
-  within : length (splice_front g.A.Slots c.one_from_each_end-first.new.splice) + length (splice_back g.A.Slots c.one_from_each_end-first.new.splice) ≤ len_of g.A.Slots c.finish_counted-finished.new.self.0
+  within : length (splice_front (items_of g.A.Slots) c.one_from_each_end-first.new.splice) + length (splice_back (items_of g.A.Slots) c.one_from_each_end-first.new.splice) ≤ len_of g.A.Slots c.finish_counted-finished.new.self.0
   within =
-      let long = finished_len (fuse_steps g.I.Iterator.next_gives) _ (splice_view g.A.Slots c.one_from_each_end-first.new.splice) (items_of g.A.Slots c.finish_counted-finished.new.self.0) c.finish_counted-finished.result.0 c.finish_counted-finished.ensures.finish.finished in
+      let long = finished_len (fuse_steps g.I.Iterator.next_gives) _ (splice_view (items_of g.A.Slots) c.one_from_each_end-first.new.splice) (items_of g.A.Slots c.finish_counted-finished.new.self.0) c.finish_counted-finished.result.0 c.finish_counted-finished.ensures.finish.finished in
       omega arith
 
 pub returns-clause-kept : goal.returns-clause-kept
@@ -62,6 +64,6 @@ returns-clause-at_most g c =
     let most = touched_at_most c.splice-splice.result c.one_from_each_end-first.new.splice _ (items_of g.A.Slots v) (counts g c) c.splice-splice.ensures.begins.touches (within g c) touches _ c.finish_counted-finished.ensures.touches in
     let is = around g c in
     let all = inside g c in
-    let slots = (counts g c).kept.len ∙ ap (len_of g.A.Slots) c.splice-splice.ensures.slots in
+    let slots = (counts g c).kept.kept.1.1 ∙ ap (len_of g.A.Slots) c.splice-splice.ensures.slots in
     let fact : touches ≤ (c.args.end - c.args.start) + (len_of g.A.Slots v - (len_of g.A.Slots old - (c.args.end - c.args.start))) + max (len_of g.A.Slots old) (len_of g.A.Slots v) = omega (arith, most, is, all, slots) in
     subst (λ w. touches ≤ (c.args.end - c.args.start) + (len_of g.A.Slots w - (len_of g.A.Slots old - (c.args.end - c.args.start))) + max (len_of g.A.Slots old) (len_of g.A.Slots w)) (search rules) fact

@@ -7,7 +7,8 @@ use Rattle.tinyvec_slots.proofs.Lists.{length-slice_range}
 use Rattle.tinyvec_slots.proofs.AnySpliceLemmas.{spliced_len}
 use Rattle.tinyvec.specs.TinyVec.{tiny_items_of, tiny_len_of, is_inline, tiny_capacity, tiny_view_of}
 use Rattle.tinyvec.specs.View.{PlaceRule, TinySlotRule}
-use Rattle.tinyvec.specs.TinyVecSplice.{splice_view, splice_replacement, splice_vec, SpliceKeeps}
+use Rattle.tinyvec.specs.FrameLaws.{FrameOf}
+use Rattle.tinyvec_slots.specs.Splice.{splice_view, splice_replacement, splice_vec, SpliceKeeps}
 use Rattle.tinyvec.proofs.TinyLemmas.{tiny_slots_framed}
 use Rattle.tinyvec_examples.proofs.SpliceEnded.{ended_list, ended_refused}
 use Rattle.tinyvec_examples.proofs.tiny_splicing.replace.Goals as goal
@@ -47,9 +48,9 @@ returns-clause-succeeds g c = λ rest ends room.
     let whole : fused_rest rest (splice_replacement s) ≡ P = rw made.unasked (rw made.replacement refl) in
     let one = length-take-le c.args.start xs (omega (arith, c.requires.start_le_end, c.requires.in_bounds)) in
     let two = length-drop c.args.end xs in
-    let sum = spliced_len (splice_view g.A.Slots) (SpliceKeeps g.A.Slots) (fused_rest rest) s t (front ∷ back ∷ []) xs _ _ _ P along made.begins.front made.begins.left made.begins.back whole in
+    let sum = spliced_len (splice_view (tiny_items_of g.A.Slots)) (SpliceKeeps (tiny_items_of g.A.Slots) (FrameOf g.A.Slots)) (fused_rest rest) s t (front ∷ back ∷ []) xs _ _ _ P along made.begins.front made.begins.left made.begins.back whole in
     let capacity : tiny_capacity g.A.Array.CAPACITY (splice_vec t) ≡ tiny_capacity g.A.Array.CAPACITY c.args.vec.now =
-    along.kept.frame.capacity g.A.Array.CAPACITY ∙ ap (tiny_capacity g.A.Array.CAPACITY) made.vec in
+    along.kept.kept.capacity g.A.Array.CAPACITY ∙ ap (tiny_capacity g.A.Array.CAPACITY) made.vec in
     c.finish.ensures.succeeds rest ends.first (omega (arith, room, one, two, sum, capacity))
 
 pub returns-clause-full : goal.returns-clause-full
@@ -65,8 +66,8 @@ returns-clause-place g c =
     let same = kept.same_reference in
     let lender = c.splice-splice.ensures.same_reference in
     let v = c.finish.new.self.0 in
-    let before : is_inline (splice_vec c.one_from_each_end-ends.new.splice) ≡ is_inline c.args.vec.now = kept.frame.place ∙ ap is_inline c.splice-splice.ensures.vec in
-    let rule : PlaceRule g.A.Array.CAPACITY (tiny_len_of g.A.Slots v) (tiny_view_of g.A.Slots c.args.vec.now) (tiny_view_of g.A.Slots v) = rw (sym before) c.finish.ensures.grows.place in
+    let before : is_inline (splice_vec c.one_from_each_end-ends.new.splice) ≡ is_inline c.args.vec.now = kept.kept.place ∙ ap is_inline c.splice-splice.ensures.vec in
+    let rule : PlaceRule g.A.Array.CAPACITY (tiny_len_of g.A.Slots v) (tiny_view_of g.A.Slots c.args.vec.now) (tiny_view_of g.A.Slots v) = rw (sym before) c.finish.ensures.changes.place in
     subst (λ w. PlaceRule g.A.Array.CAPACITY (tiny_len_of g.A.Slots w) (tiny_view_of g.A.Slots c.args.vec.now) (tiny_view_of g.A.Slots w)) (search rules) rule
 
 pub returns-clause-slot_rule : goal.returns-clause-slot_rule
@@ -76,6 +77,6 @@ returns-clause-slot_rule g c =
     let lender = c.splice-splice.ensures.same_reference in
     let D = g.A.Item.Default.is_default in
     let t = c.one_from_each_end-ends.new.splice in
-    let framed = tiny_slots_framed D (tiny_view_of g.A.Slots (splice_vec c.splice-splice.result)) (tiny_view_of g.A.Slots (splice_vec t)) (tiny_view_of g.A.Slots c.finish.new.self.0) kept.frame c.finish.ensures.grows.slot_rule in
+    let framed = tiny_slots_framed D (tiny_view_of g.A.Slots (splice_vec c.splice-splice.result)) (tiny_view_of g.A.Slots (splice_vec t)) (tiny_view_of g.A.Slots c.finish.new.self.0) kept.kept c.finish.ensures.changes.slot_rule in
     let rule = subst (λ u. TinySlotRule D (tiny_view_of g.A.Slots u) (tiny_view_of g.A.Slots c.finish.new.self.0)) c.splice-splice.ensures.vec framed in
     subst (λ v. TinySlotRule D (tiny_view_of g.A.Slots c.args.vec.now) (tiny_view_of g.A.Slots v)) (search rules) rule

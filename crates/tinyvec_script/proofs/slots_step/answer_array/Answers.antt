@@ -1,9 +1,9 @@
-use Rattle.std.proofs.Common.{refl, ◌<◌, ◌≤◌, ◌++◌, length, ap, ◌∙◌, arith, rules, length-append}
+use Rattle.std.proofs.Common.{refl, subst, ◌<◌, ◌≤◌, ◌++◌, length, ap, ◌∙◌, arith, rules, length-append}
 use Rattle.std.proofs.lemmas.Grind.{common_steps}
 use Rattle.std.specs.declared.ops.Bound.TheVariants.{Included, Excluded}
-use Rattle.tinyvec_slots.specs.Slots.{items, spare, items_len, all_slots}
+use Rattle.tinyvec_slots.specs.Slots.{items, spare, items_len, all_slots, SlotRule}
 use Rattle.tinyvec_slots.specs.Ranges.{removed}
-use Rattle.tinyvec_script.specs.Driving.{ArraySplices}
+use Rattle.tinyvec_script.specs.Driving.{ListSplices, DrivenSplices}
 use Rattle.tinyvec_script.specs.Step.{ArrayStep}
 use Rattle.tinyvec_script.specs.declared.call.Call.TheVariants.{Splice}
 use Rattle.tinyvec_script.proofs.DrivingLemmas.{splice_answers}
@@ -72,12 +72,12 @@ returns-in-Truncate-clause-step g c =
 pub drain_into-requires-clause-room : goal.drain_into-requires-clause-room
 drain_into-requires-clause-room g c = grind (arith, common_steps)
 
-pub returns-in-Ok-drive_array_splice-clause-step : goal.returns-in-Ok-drive_array_splice-clause-step
-returns-in-Ok-drive_array_splice-clause-step g c =
+pub returns-in-Ok-drive_splice-clause-step : goal.returns-in-Ok-drive_splice-clause-step
+returns-in-Ok-drive_splice-clause-step g c =
     let D = g.S.Item.Default.is_default in
     let old = view_of g.S.Slots c.args.vec.now in
     let capacity = length (all_slots old) in
-    let new = view_of g.S.Slots c.drive_array_splice.new.vec in
+    let new = view_of g.S.Slots c.drive_splice.new.vec in
     let start = c.in-Splice.start in
     let end = c.in-Splice.end in
     let word = c.in-Splice.word in
@@ -85,10 +85,16 @@ returns-in-Ok-drive_array_splice-clause-step g c =
     let in_order : start ≤ end = omega arith in
     let in_list : end ≤ items_len old = omega arith in
     let answered = c.answer_driven.ensures in
-    let driven = c.in-Ok-drive_array_splice.driven in
-    let did = rw c.as_slice.ensures.value at c.in-Ok-drive_array_splice.ensures.splices in
+    let driven = c.in-Ok-drive_splice.driven in
+    let made = rw c.as_slice.ensures.value at c.in-Ok-drive_splice.ensures.splices in
+    let same = made.grown.lender.slot_count in
+    let did : DrivenSplices items (SlotRule D) capacity old start end word.items replacement.items driven.yields.items driven.rest.items new = record {
+      list = subst (λ n. ListSplices n (items old) start end word.items replacement.items driven.yields.items driven.rest.items (items new)) same made.list;
+      grown = made.grown.slot_rule;
+      no_shorter = λ over. made.no_shorter (omega (arith, same, over));
+    } in
     rw c.in-Splice.is (splice_answers capacity (items old) (items new) start end word.items replacement.items driven.yields driven.rest c.answer_driven.result
     in_order in_list answered.items answered.spliced did.list
-    (λ yields rest. ArraySplices D capacity old start end word.items replacement.items yields rest new) did
+    (λ yields rest. DrivenSplices items (SlotRule D) capacity old start end word.items replacement.items yields rest new) did
     (λ answer. ArrayStep D capacity old (Splice start end word replacement) answer new)
     (λ fits all. ((in_order, in_list), (fits, all))) (λ over some. ((in_order, in_list), (over, some))))

@@ -9,22 +9,22 @@ use Rattle.tinyvec_text.proofs.Lists.{text_utf8, text_kept, text_same}
 use Rattle.tinyvec_text.proofs.inline_text.InlineText.push_spelled.Goals as goal
 
 pub invariant_of-self : goal.invariant_of-self
-invariant_of-self g c = text_same c.self.inside.list c.push_few.new.list c.in_err-push_few.ensures.room.refused c.self.invariant
+invariant_of-self g c = text_same c.self.inside.list c.push_bytes.new.list c.in_err-push_bytes.ensures.room.refused c.self.invariant
 
 pub invariant_of-self-2 : goal.invariant_of-self-2
 invariant_of-self-2 g c =
     let list = c.self.inside.list in
-    let joined : tiny_items c.push_few.new.list ≡ tiny_items list ++ c.args.bytes.now = search rules in
+    let joined : tiny_items c.push_bytes.new.list ≡ tiny_items list ++ c.args.bytes.now = search rules in
     let scalar : IsScalar c.args.c = search rules in
     let put = subst IsUtf8 c.requires (IsUtf8-encode c.args.c scalar) in
-    let room = c.in_ok-push_few.ensures.room in
-    text_kept list c.push_few.new.list (λ i. (room.place.0 i).0) (used_rule (λ b. b ≡ 0) _ _ (omega (arith, ap length joined, length-append (tiny_items list) c.args.bytes.now)) room.spare) c.self.invariant
+    let room = c.in_ok-push_bytes.ensures.room in
+    text_kept list c.push_bytes.new.list (λ i. (room.place.0 i).0) (used_rule (λ b. b ≡ 0) _ _ (omega (arith, ap length joined, length-append (tiny_items list) c.args.bytes.now)) room.spare) c.self.invariant
     (subst IsUtf8 (sym joined) (IsUtf8-append _ _ (text_utf8 list c.self.invariant) put))
 
 pub returns-clause-text : goal.returns-clause-text
 returns-clause-text g c =
     let list = c.self.inside.list in
-    let joined : tiny_items c.push_few.new.list ≡ tiny_items list ++ c.args.bytes.now = search rules in
+    let joined : tiny_items c.push_bytes.new.list ≡ tiny_items list ++ c.args.bytes.now = search rules in
     let scalar : IsScalar c.args.c = search rules in
     let put = subst IsUtf8 c.requires (IsUtf8-encode c.args.c scalar) in
     ap chars joined ∙ chars-append _ _ (text_utf8 list c.self.invariant)

@@ -17,8 +17,8 @@ returns g c =
     let len = c.len-len.result in
     let mid = c.set_len.new.self in
     let seen = c.as_mut_slice.result.now in
-    let ws = c.put_few_before.new.items in
-    let long : length ws ≡ items_len mid = c.put_few_before.auto.items ∙ ap length c.as_mut_slice.ensures.value in
+    let ws = c.put_before.new.items in
+    let long : length ws ≡ items_len mid = c.put_before.auto.items ∙ ap length c.as_mut_slice.ensures.value in
     let at : len ≡ items_len v = c.len-len.ensures.value in
     let grown : seen ≡ items v ++ take n (spare v) =
     c.as_mut_slice.ensures.value ∙ ap (λ w. listed w) c.set_len.ensures.value ∙ take-add len n v.slots
@@ -26,7 +26,7 @@ returns g c =
     let behind : c.min.result ≡ items_len v - c.args.index = search rules in
     let written = written_of (array_slots g.row.N) mid ws long in
     record {
-      items = written.0 ∙ c.put_few_before.ensures ∙ inserted (items v) (take n (spare v)) xs seen c.args.index c.min.result c.requires.in_list behind grown;
+      items = written.0 ∙ c.put_before.ensures ∙ inserted (items v) (take n (spare v)) xs seen c.args.index c.min.result c.requires.in_list behind grown;
       spare =
           written.1.1.0 ∙ ap (λ w. left w) c.set_len.ensures.value ∙ sym (drop-drop n len v.slots) ∙ ap (drop n) (spare_from v.len.len v.slots len at);
       fits = omega (

@@ -1,0 +1,5 @@
+//! What is written for speed over slots, as `tuned.rt` of `tinyvec_slots` says.
+
+pub(crate) mod cloning;
+pub(crate) mod resetting;
+pub(crate) mod shifting;

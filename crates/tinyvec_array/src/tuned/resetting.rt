@@ -1,0 +1,76 @@
+//! Defaults written into slots.
+ghost use Rattle.std.specs.Prelude.{◌≡◌, ◌-◌, ◌*◌, ◌<◌, ◌≤◌, ◌++◌, List, length, take, drop};
+ghost use Rattle.tinyvec_slots.specs.Ranges.{Within};
+ghost use Rattle.tinyvec_slots.specs.Slots.{AreDefaults};
+
+use crate::places::prefers_shifting;
+
+// Writes a default into each slot from `start` up to `end`, which are at most `most`. A constant `most` removes the branches
+// for more slots.
+#[inline(always)]
+pub(crate) fn fill_default<T: Default + Drop>(
+    slots: &mut [T],
+    start: usize,
+    end: usize,
+    most: usize,
+)
+    requires in_bounds { Within start end (length slots.old) }
+    requires few { end - start ≤ most }
+    ensures { (ds : List T) × AreDefaults T.is_default (end - start) ds
+        × (slots.new ≡ take start slots.old ++ ds ++ drop end slots.old) }
+{
+    fill_at_most(&mut slots[start..end], most);
+}
+
+// Writes a default into each slot. Short slices are written as two overlapping runs, which beats `memset`.
+fn fill_at_most<T: Default + Drop>(slots: &mut [T], most: usize)
+    requires { length slots.old ≤ most }
+    ensures { AreDefaults T.is_default (length slots.old) slots.new }
+{
+    let count = slots.len();
+    if most > 32 && count > 32 {
+        fill_many(slots);
+    } else if most > 16 && count > 16 {
+        fill_ends::<T, 16>(slots);
+    } else if most > 8 && count > 8 {
+        fill_ends::<T, 8>(slots);
+    } else if most > 4 && count > 4 {
+        fill_ends::<T, 4>(slots);
+    } else if most > 2 && count > 2 {
+        fill_ends::<T, 2>(slots);
+    } else if count > 0 {
+        fill_ends::<T, 1>(slots);
+    }
+}
+
+// The same, for more than 32 slots. Few bytes are written one by one, which beats `memset`.
+fn fill_many<T: Default + Drop>(slots: &mut [T])
+    requires { 32 < length slots.old }
+    ensures { AreDefaults T.is_default (length slots.old) slots.new }
+{
+    if slots.len() <= 64 && prefers_shifting(slots) {
+        fill_ends::<T, 32>(slots);
+    } else {
+        fill_each(slots);
+    }
+}
+
+// The same, slot by slot.
+fn fill_each<T: Default + Drop>(slots: &mut [T])
+    ensures { AreDefaults T.is_default (length slots.old) slots.new }
+{
+    for slot in slots.iter_mut() {
+        *slot = T::default();
+    }
+}
+
+// The same, the first N slots and the last N.
+fn fill_ends<T: Default + Drop, const N: usize>(slots: &mut [T])
+    requires enough { N ≤ length slots.old }
+    requires no_gap { length slots.old ≤ 2 * N }
+    ensures { AreDefaults T.is_default (length slots.old) slots.new }
+{
+    let back = slots.len() - N;
+    fill_each(&mut slots[..N]);
+    fill_each(&mut slots[back..]);
+}

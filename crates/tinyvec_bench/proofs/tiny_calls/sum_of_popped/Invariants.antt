@@ -1,0 +1,10 @@
+use Rattle.std.proofs.Common.{length}
+use Rattle.std.specs.Bool.{⊤}
+use Rattle.tinyvec.specs.TinyVec.{tiny_items}
+use Rattle.tinyvec_bench.proofs.tiny_calls.sum_of_popped.Given as goal
+
+abbrev pub invariant-loop-y : goal.invariant-loop-y
+invariant-loop-y g l = ⊤
+
+abbrev pub decreases-loop-y : goal.decreases-loop-y
+decreases-loop-y g l = length (tiny_items l.vec)

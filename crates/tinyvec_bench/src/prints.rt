@@ -1,0 +1,42 @@
+//! Lists of numbers, written as text.
+
+use crate::calls::rows;
+use crate::report::{Bench, Report};
+use crate::texts::look_at;
+use std::fmt;
+use std::fmt::Write;
+
+/// How a list is written.
+#[derive(Clone, Copy)]
+pub enum Print {
+    Debug,
+    Display,
+}
+
+/// The list, and where it is written.
+#[derive(Drop)]
+pub struct PrintBench<'a, V> {
+    pub vec: &'a V,
+    pub text: &'a mut String,
+}
+
+impl<V: fmt::Debug + fmt::Display> Bench<Print> for PrintBench<'_, V> {
+    #[inline(always)]
+    fn round(&mut self, benchmark: Print, x: u64) -> u64 {
+        self.text.clear();
+        let list = self.vec;
+        let _refused = match benchmark {
+            Print::Debug => write!(self.text, "{list:?}"),
+            Print::Display => write!(self.text, "{list}"),
+        };
+        look_at(self.text.as_bytes(), x)
+    }
+}
+
+/// Writes the list into a text.
+pub fn prints<R: Report, S: Bench<Print>>(report: &mut R, n: usize, list: &mut S) {
+    rows!(report, n, list:
+        "debug" Print::Debug,
+        "display" Print::Display,
+    );
+}

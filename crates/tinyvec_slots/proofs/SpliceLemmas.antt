@@ -1,0 +1,44 @@
+-- A splice along a word of ends, and what `finish` puts in.
+use Rattle.std.proofs.Common.{◌≡◌, ℕ, ◌+◌, ◌≤◌, ◌↔◌, List, [], ◌∷◌, ◌++◌, length, Option, Result, false, if◌then◌else◌, IsOk, OnOk, IfErr, ap, refl, subst, sym, ◌∙◌}
+use Rattle.std.proofs.lemmas.Result.{IfErr-weaker}
+use Rattle.std.specs.declared.iter.Fuse.{Fuse}
+use Rattle.std.specs.Iterator.Adapters.{fuse_done, fuse_source}
+use Rattle.tinyvec_slots.specs.Ends.{End, RunsWord}
+use Rattle.tinyvec_slots.specs.AnySplice.{SpliceView, FinishesWith}
+use Rattle.tinyvec_slots.specs.Fused.{HasTwoEnds, fused_rest}
+use Rattle.tinyvec_slots.specs.Splice.{splice_view, splice_vec, SpliceKeeps, SpliceSteps, SpliceStepsBack}
+use Rattle.tinyvec_slots.specs.SplicedByWord.{SplicedByWord}
+use Rattle.tinyvec_slots.specs.declared.no_room.NoRoom.{NoRoom}
+use Rattle.tinyvec_slots.specs.declared.splice.Splice.{Splice}
+use Rattle.tinyvec_slots.proofs.AnySpliceLemmas as all
+
+-- `same` and `onward` are laws of `CanSplice`
+module _ {V I T : Type 0} (items : V → List T) (Kept : V → V → Type 0) (same : (v : V) → Kept v v) (onward : (u v w : V) → Kept u v → Kept v w → Kept u w) where
+  pub keeps_same : (s : Splice V (Fuse I)) → SpliceKeeps items Kept s s
+  keeps_same s = record { same_reference = refl; kept = same (splice_vec s); ready = λ can. can }
+
+  pub keeps_then : (s mid t : Splice V (Fuse I)) → SpliceKeeps items Kept s mid → SpliceKeeps items Kept mid t → SpliceKeeps items Kept s t
+  keeps_then s mid t h k = record {
+    same_reference = k.same_reference ∙ h.same_reference;
+    kept = onward (splice_vec s) (splice_vec mid) (splice_vec t) h.kept k.kept;
+    ready = λ can. k.ready (h.ready can);
+  }
+
+  -- what its calls placed, of a replacement of which `rest` shows what it gives
+  pub RunsWord-splices : (rest : Fuse I → List T) (gives gives_back : Fuse I → Option T → Fuse I → Type 0) → HasTwoEnds gives gives_back rest
+      → (s : Splice V (Fuse I)) (word : List End) (answers : List (Option T)) (t : Splice V (Fuse I))
+      → RunsWord (SpliceSteps items Kept gives) (SpliceStepsBack items Kept gives_back) s word answers t → SplicedByWord (splice_view items) (SpliceKeeps items Kept) rest s word t
+  RunsWord-splices rest = all.RunsWord-splices (splice_view items) (SpliceKeeps items Kept) rest keeps_same keeps_then
+
+-- what `finish` puts between these two, if its replacement has not ended and `rest` shows what its source still yields
+module _ {I T : Type 0} (rest : I → List T) (room : ℕ) (s : SpliceView (Fuse I) T) (before after : List T) (result : Result Unit (NoRoom T (Fuse I))) (list : List T) where
+  pub puts_listed : fuse_done s.replacement ≡ false → s.front ≡ before → s.back ≡ after → FinishesWith (fused_rest rest) room s result list
+      → (IsOk result ↔ (length before + length (rest (fuse_source s.replacement)) + length after ≤ room))
+      × OnOk result (list ≡ before ++ rest (fuse_source s.replacement) ++ after)
+      × IfErr result (λ refused. (placed : List T) × (rest (fuse_source s.replacement) ≡ placed ++ refused.item ∷ fused_rest rest refused.rest) × (list ≡ before ++ placed ++ after))
+  puts_listed unasked front back h =
+      let shown : fused_rest rest s.replacement ≡ rest (fuse_source s.replacement) = ap (λ ended. if ended then [] else rest (fuse_source s.replacement)) unasked in (
+        subst (λ n. IsOk result ↔ (n ≤ room)) (λ i. length (front i) + length (shown i) + length (back i)) h.succeeds,
+        subst (λ l. OnOk result (list ≡ l)) (λ i. front i ++ shown i ++ back i) h.all,
+        IfErr-weaker result _ _ (λ refused t. (t.0, sym shown ∙ t.1, t.2 ∙ (λ i. front i ++ t.0 ++ back i))) h.refused,
+      )

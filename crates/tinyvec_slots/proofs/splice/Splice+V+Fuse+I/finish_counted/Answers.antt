@@ -1,0 +1,127 @@
+use Rattle.std.proofs.Common.{◌≡◌, ◌≤◌, List, ◌++◌, drop, length, length-take, length-drop, Ok, refl, sym, ap, ◌∙◌, arith, rules}
+use Rattle.std.proofs.lemmas.Result.{on_err_weaker}
+use Rattle.std.specs.declared.iter.Fuse.{Fuse}
+use Rattle.std.specs.Iterator.Adapters.{fuse_steps}
+use Rattle.tinyvec_slots.specs.Fused.{fused_rest}
+use Rattle.tinyvec_slots.specs.Gap.{gap_front, gap_back, gap_view}
+use Rattle.tinyvec_slots.specs.AnySplice.{SpliceView, Finishes, FinishesWith}
+use Rattle.tinyvec_slots.proofs.Fused.{fused_first}
+use Rattle.tinyvec_slots.specs.Filling.{ShowsItems}
+use Rattle.tinyvec_slots.proofs.ReplacingLemmas.{finished_known}
+use Rattle.tinyvec_slots.proofs.FinishLemmas.{finished_longer, finishes_with, finishes_closed, finishes_appended, touches_closed, touches_appended}
+use Rattle.tinyvec_slots.proofs.splice.Splice+V+Fuse+I.finish_counted.Goals.{After-fill}
+use Rattle.tinyvec_slots.proofs.splice.Splice+V+Fuse+I.finish_counted.Goals as goal
+
+-- the gap, as it was filled
+module _ (g : _) (c : After-fill g) where
+  abbrev refilled : g.row.V.Denot
+  refilled = g.V.CanCut.with_items c.args.self.vec.now c.fill.new.slots
+
+  same : length c.fill.new.slots ≡ length (g.V.CanCut.items c.args.self.vec.now)
+  same = c.fill.auto.slots ∙ ap length c.as_mut_slice.ensures.value
+
+  is_written : (g.V.CanCut.items refilled ≡ c.fill.new.slots) × g.V.CanCut.Kept c.args.self.vec.now refilled
+  is_written = g.met.V.CanCut.written c.args.self.vec.now c.fill.new.slots same
+
+  same_len : length (g.V.CanCut.items refilled) ≡ length (g.V.CanCut.items c.args.self.vec.now)
+  same_len = ap length is_written.0 ∙ same
+
+  abbrev old : SpliceView (Fuse g.row.I.Denot) g.row.V-Item.Denot
+  old = gap_view c.args.self.gap c.args.self.replacement (g.V.CanCut.items c.args.self.vec.now)
+
+  abbrev mid : SpliceView (Fuse g.row.I.Denot) g.row.V-Item.Denot
+  mid = gap_view c.fill.new.self c.fill.new.replacement (g.V.CanCut.items refilled)
+
+  front_is : mid.front ≡ old.front ++ c.fill.ensures.placed.0
+  front_is = rw (is_written.0, ← c.as_mut_slice.ensures.value) c.fill.ensures.placed.1
+
+  back_is : mid.back ≡ old.back
+  back_is = rw (is_written.0, c.fill.ensures.back, ← c.as_mut_slice.ensures.value) c.fill.ensures.behind
+
+-- the replacement ended in the gap
+module _ (g : _) (c : goal.After-drop-rest g) where
+  abbrev filled : After-fill g
+  filled = (goal.at.returns-then-not-fill-clause-finish g c).After-fill
+
+  closed : Finishes (fuse_steps g.I.Iterator.next_gives) (g.V.CanCut.room c.splice_stop.new.vec) (old g filled) (Ok tt) (g.V.CanCut.items c.splice_stop.new.vec)
+  closed =
+      finishes_closed (fuse_steps g.I.Iterator.next_gives) (g.V.CanCut.room c.splice_stop.new.vec) (old g filled) (mid g filled) c.fill.ensures.placed.0 (front_is g filled) (back_is g filled)
+      tt (g.V.CanCut.items c.splice_stop.new.vec) (rw c.if-not-fill.true at c.fill.ensures.placed.3) c.splice_stop.ensures.items c.splice_stop.ensures.shorter.fits
+
+pub returns-then-not-fill-clause-touches : goal.returns-then-not-fill-clause-touches
+returns-then-not-fill-clause-touches g c =
+    let xs = g.V.CanCut.items c.args.self.vec.now in
+    let same = same_len g (filled g c) in
+    rw (c.touches.ensures, c.splice_stop.ensures.touches, c.fill.ensures.touches, same) (
+    touches_closed (old g (filled g c)) (length xs) (g.V.CanSplice.moved c.args.self.vec.now c.splice_stop.new.vec) (g.V.CanCut.items c.splice_stop.new.vec) (gap_front c.args.self.gap) (gap_back c.args.self.gap)
+    (length-take (gap_front c.args.self.gap) xs) (length-drop (gap_back c.args.self.gap) xs) c.requires.can.0.back_le_len
+    (gap_front c.fill.new.self) c.fill.ensures.in_order.0 (rw c.if-not-fill.true at c.fill.ensures.filled) (rw (same, c.fill.ensures.back) at c.splice_stop.ensures.len))
+
+pub returns-then-not-fill-clause-finish : goal.returns-then-not-fill-clause-finish
+returns-then-not-fill-clause-finish g c =
+    let gives = g.I.Iterator.next_gives in
+    let laws = g.met.V.CanSplice in
+    let vec = refilled g (filled g c) in
+    let new = c.splice_stop.new.vec in
+    let cut = laws.cut_grown vec new c.splice_stop.ensures.shorter.cut c.splice_stop.ensures.shorter.fits in
+    let grown = laws.kept_grown c.args.self.vec.now vec new new (is_written g (filled g c)).1 cut (laws.kept_same new) in record {
+      finished = closed g c;
+      changes = grown;
+      no_shorter = search rules;
+      goes_on = search rules;
+      listed = λ rest shows. finishes_with (fuse_steps gives) _ (old g (filled g c)) (g.V.CanCut.items new) (fused_rest rest) (fused_first gives rest shows) (Ok tt) (closed g c);
+      succeeds = search rules;
+      known = λ xs yields. finished_known gives _ _ (laws.grown_room _ _ grown) _ xs _ yields _ (closed g c);
+    }
+
+-- more was appended
+module _ (g : _) (c : goal.After-touches-2 g) where
+  abbrev filled-2 : After-fill g
+  filled-2 = (goal.at.returns-clause-finish g c).After-fill
+
+  appended : Finishes (fuse_steps g.I.Iterator.next_gives) (g.V.CanCut.room c.append_in-finished.new.vec) (old g filled-2) c.append_in-finished.result (g.V.CanCut.items c.append_in-finished.new.vec)
+  appended =
+      finishes_appended (fuse_steps g.I.Iterator.next_gives) (g.V.CanCut.room c.append_in-finished.new.vec) (old g filled-2) (mid g filled-2) c.fill.ensures.placed.0 (front_is g filled-2) (back_is g filled-2)
+      c.append_in-finished.result (g.V.CanCut.items c.append_in-finished.new.vec) (rw c.if-not-fill.false at c.fill.ensures.placed.3) c.append_in-finished.ensures.finished
+
+  longer : length (g.V.CanCut.items (refilled g filled-2)) ≤ length (g.V.CanCut.items c.append_in-finished.new.vec)
+  longer =
+      finished_longer (fuse_steps g.I.Iterator.next_gives) _ (mid g filled-2) (g.V.CanCut.items c.append_in-finished.new.vec) (gap_front c.fill.new.self) (g.V.CanCut.items (refilled g filled-2)) refl
+      (ap (λ k. drop k (g.V.CanCut.items (refilled g filled-2))) (c.fill.ensures.back ∙ sym (rw c.if-not-fill.false at c.fill.ensures.filled).0)) c.append_in-finished.result c.append_in-finished.ensures.finished
+
+  listed : (rest : g.row.I.Denot → List g.row.V-Item.Denot) → ShowsItems g.I.Iterator.next_gives rest
+      → FinishesWith (fused_rest rest) (g.V.CanCut.room c.append_in-finished.new.vec) (old g filled-2) c.append_in-finished.result (g.V.CanCut.items c.append_in-finished.new.vec)
+  listed rest shows =
+      finishes_with (fuse_steps g.I.Iterator.next_gives) _ (old g filled-2) (g.V.CanCut.items c.append_in-finished.new.vec) (fused_rest rest) (fused_first g.I.Iterator.next_gives rest shows) c.append_in-finished.result appended
+
+pub returns-clause-touches : goal.returns-clause-touches
+returns-clause-touches g c =
+    let xs = g.V.CanCut.items c.args.self.vec.now in
+    let vec = refilled g (filled-2 g c) in
+    let same = same_len g (filled-2 g c) in
+    let met = c.append_in-finished.ensures in
+    let at = (rw c.if-not-fill.false at c.fill.ensures.filled).0 in
+    let moved = g.met.V.CanSplice.kept_moved c.args.self.vec.now vec c.append_in-finished.new.vec c.append_in-finished.new.vec (is_written g (filled-2 g c)).1 (g.met.V.CanSplice.kept_same c.append_in-finished.new.vec) in
+    rw (c.touches-2.ensures, ← moved) (
+    touches_appended (old g (filled-2 g c)) (length xs) _ (g.V.CanCut.items c.append_in-finished.new.vec) (gap_front c.args.self.gap) (gap_back c.args.self.gap)
+    (length-take (gap_front c.args.self.gap) xs) (length-drop (gap_back c.args.self.gap) xs) c.requires.can.0.back_le_len
+    (rw at at c.fill.ensures.in_order.0) (rw same at (longer g c)) (rw at at c.fill.ensures.touches) (rw same at met.none) (rw same at met.at_least) (rw (same, at) at met.at_most))
+
+pub returns-clause-finish : goal.returns-clause-finish
+returns-clause-finish g c =
+    let gives = g.I.Iterator.next_gives in
+    let laws = g.met.V.CanSplice in
+    let vec = refilled g (filled-2 g c) in
+    let new = c.append_in-finished.new.vec in
+    let grown = laws.kept_grown c.args.self.vec.now vec new new (is_written g (filled-2 g c)).1 c.append_in-finished.ensures.grown (laws.kept_same new) in
+    let same_room = laws.kept_room c.args.self.vec.now vec (is_written g (filled-2 g c)).1 in
+    let longer : length (g.V.CanCut.items c.args.self.vec.now) ≤ length (g.V.CanCut.items new) = omega (arith, longer g c, same_len g (filled-2 g c)) in
+    let more_room = laws.grown_room vec new c.append_in-finished.ensures.grown in record {
+      finished = appended g c;
+      changes = grown;
+      no_shorter = on_err_weaker c.append_in-finished.result (λ full. longer) (appended g c).full;
+      goes_on = search rules;
+      listed = listed g c;
+      succeeds = λ rest shows within. (listed g c rest shows).succeeds.1 (omega (arith, within, more_room, same_room));
+      known = λ xs yields. finished_known gives _ _ (laws.grown_room _ _ grown) _ xs _ yields _ (appended g c);
+    }

@@ -1,0 +1,19 @@
+//! What those who write vectors use: both vectors in slots and the `TinyVec` go through it.
+
+pub use crate::can_cut::CanCut;
+pub use crate::can_splice::CanSplice;
+pub use crate::extracting::extract_if;
+pub use crate::filtering::{dedup_by, dedup_by_key, pop_if, retain, retain_mut};
+pub use crate::gap::Gap;
+pub use crate::owned::{OwnsItems, into_items};
+pub use crate::printing::{
+    InBinary, InHex, InOctal, InUpperHex, ItemText, Plain, write_items, write_named,
+};
+pub use crate::range::{resolve_range, subslice};
+pub use crate::splice::splice_over;
+pub use crate::tuned::cloning::{clone_each, clone_over, clone_over_from};
+pub use crate::tuned::comparing::{cmp_slices, eq_slices, hash_items, partial_cmp_slices};
+pub use crate::tuned::moving::{close_gap, move_to_end};
+pub use crate::tuned::shifting::remove_shifting;
+pub use crate::tuned::sizes::fit_registers;
+pub use crate::tuned::taking::take_all;

@@ -1,0 +1,121 @@
+//! A call that drops an item twice, never, or in another order than a `Vec`'s would pass the check: the logic has no drops.
+use crate::steps::{all_steps, granted_steps};
+use std::alloc::Global;
+use std::cell::Cell;
+use std::test::Fail;
+use tinyvec::{ArrayVec, SliceVec, TinyVec};
+
+// Writes its digit at the end of a number when it is dropped.
+struct Noted<'a> {
+    digit: u32,
+    order: &'a Cell<u32>,
+}
+
+impl Drop for Noted<'_> {
+    fn drop(self) {
+        let Noted { digit, order } = self;
+        order.set(order.get().wrapping_mul(10).wrapping_add(digit));
+    }
+}
+
+type Eight<'a> = [Option<Noted<'a>>; 8];
+
+fn eight(order: &Cell<u32>) -> Eight<'_> {
+    let noted = |digit| Some(Noted { digit, order });
+    [1, 2, 3, 4, 5, 6, 7, 8].map(noted)
+}
+
+// Whether calls, the end of an iterator that owns its items, and the end of a vector drop each item once and, except for a drain
+// and `retain`, in the order of the list. The three vectors have eight items.
+macro_rules! drop_in_order {
+    ($order:ident, $cut:expr, $taken:expr, $ended:expr) => {{
+        let mut cut = $cut;
+        cut.truncate(6);
+        let truncated = $order.replace(0);
+        cut.drain(..cut.len().min(2));
+        let drained = $order.replace(0);
+        cut.retain(|it| matches!(it, Some(Noted { digit: 5.., .. })));
+        let filtered = $order.replace(0);
+        cut.clear();
+        let cleared = $order.replace(0);
+        let mut items = $taken.into_iter();
+        let first = items.next();
+        drop(items);
+        drop(first);
+        let taken = $order.replace(0);
+        drop($ended);
+        let in_order = [truncated, cleared, taken, $order.replace(0)];
+        in_order == [78, 56, 23456781, 12345678]
+            && matches!(drained, 12 | 21)
+            && matches!(filtered, 34 | 43)
+    }};
+}
+
+#[test]
+fn by_an_array(rt: HostRuntime) -> Result<(), Fail> {
+    let order = Cell::new(0);
+    all_steps(&[drop_in_order!(
+        order,
+        ArrayVec::from_array(eight(&order)),
+        ArrayVec::from_array(eight(&order)),
+        ArrayVec::from_array(eight(&order))
+    )])
+}
+
+fn inline(alloc: Global, order: &Cell<u32>) -> TinyVec<Eight<'_>> {
+    TinyVec::from_array(alloc, eight(order))
+}
+
+#[test]
+fn by_a_list_inline(rt: HostRuntime) -> Result<(), Fail> {
+    let (order, alloc) = (Cell::new(0), rt.alloc());
+    all_steps(&[drop_in_order!(
+        order,
+        inline(alloc, &order),
+        inline(alloc, &order),
+        inline(alloc, &order)
+    )])
+}
+
+fn heap(alloc: Global, order: &Cell<u32>) -> TinyVec<Eight<'_>> {
+    let mut v = inline(alloc, order);
+    let _granted = v.move_to_the_heap().is_ok();
+    v
+}
+
+#[test]
+fn by_a_list_on_the_heap(rt: HostRuntime) -> Result<(), Fail> {
+    let (order, alloc) = (Cell::new(0), rt.alloc());
+    all_steps(&[drop_in_order!(
+        order,
+        heap(alloc, &order),
+        heap(alloc, &order),
+        heap(alloc, &order)
+    )])
+}
+
+#[test]
+fn by_a_vec(rt: HostRuntime) -> Result<(), Fail> {
+    let order = Cell::new(0);
+    let (Ok(cut), Ok(taken), Ok(ended)) = (
+        Vec::from_array(rt.alloc(), eight(&order)),
+        Vec::from_array(rt.alloc(), eight(&order)),
+        Vec::from_array(rt.alloc(), eight(&order)),
+    ) else {
+        return granted_steps(true, &[]);
+    };
+    all_steps(&[drop_in_order!(order, cut, taken, ended)])
+}
+
+#[test]
+fn by_lent_slots(rt: HostRuntime) -> Result<(), Fail> {
+    let order = Cell::new(0);
+    let mut slots = eight(&order);
+    let mut v = SliceVec::from_slice_len(&mut slots, 8);
+    v.truncate(6);
+    let truncated = order.replace(0);
+    drop(v);
+    let ended = order.replace(0);
+    drop(slots);
+    all_steps(&[truncated == 78, ended == 0, order.get() == 123456])
+}

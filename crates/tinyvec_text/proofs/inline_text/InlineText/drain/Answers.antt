@@ -1,0 +1,56 @@
+use Rattle.std.proofs.Common.{◌++◌, IsUtf8, ap, sym, subst, ◌∙◌, chars, take, drop, arith, rules}
+use Rattle.std.specs.Prelude.{slice_range}
+use Rattle.std.proofs.CharBoundary.{IsUtf8-three_parts}
+use Rattle.std.proofs.lemmas.Str.{IsUtf8-append, chars-append}
+use Rattle.tinyvec.specs.TinyVec.{tiny_items}
+use Rattle.tinyvec_slots.specs.Ranges.{range_start, range_end, before, after}
+use Rattle.tinyvec_text.proofs.Lists.{text_utf8, text_range, text_stays}
+use Rattle.tinyvec_text.proofs.inline_text.InlineText.drain.Goals as goal
+
+pub unreachable-requires : goal.unreachable-requires
+unreachable-requires g c =
+    let list = c.self.inside.list in
+    let bs = tiny_items list in
+    let start = g.R.RangeBounds.start_bound c.args.range in
+    let end = g.R.RangeBounds.end_bound c.args.range in
+    let cuts = text_range list c.args.self.now c.self.view_is c.self.invariant (range_start start) (range_end end) c.requires.start_le_end c.requires.start_boundary c.requires.end_boundary in
+    let part = (IsUtf8-three_parts bs (text_utf8 list c.self.invariant) _ _ cuts.order cuts.first cuts.last).1 in
+    let starts = c.resolve_range-part.ensures.start in
+    let ends = c.resolve_range-part.ensures.end ∙ ap (range_end end) c.len.ensures.value in
+    c.in_default.ensures.cases.0 (subst IsUtf8 (sym (c.subslice-bytes.ensures ∙ (λ i. slice_range (c.as_slice.ensures i) (starts i) (ends i)))) part)
+
+pub remove_bytes-requires : goal.remove_bytes-requires
+remove_bytes-requires g c =
+    let list = c.self.inside.list in
+    let start = g.R.RangeBounds.start_bound c.args.range in
+    let end = g.R.RangeBounds.end_bound c.args.range in
+    let cuts = text_range list c.args.self.now c.self.view_is c.self.invariant (range_start start) (range_end end) c.requires.start_le_end c.requires.start_boundary c.requires.end_boundary in
+    let starts = c.resolve_range-part.ensures.start in
+    let ends = c.resolve_range-part.ensures.end ∙ ap (range_end end) c.len.ensures.value in
+    (search rules, (search rules, (omega (arith, starts, ends, cuts.order), omega (arith, ends, cuts.last.0))))
+
+pub invariant_of-self : goal.invariant_of-self
+invariant_of-self g c =
+    let list = c.self.inside.list in
+    let bs = tiny_items list in
+    let start = g.R.RangeBounds.start_bound c.args.range in
+    let end = g.R.RangeBounds.end_bound c.args.range in
+    let cuts = text_range list c.args.self.now c.self.view_is c.self.invariant (range_start start) (range_end end) c.requires.start_le_end c.requires.start_boundary c.requires.end_boundary in
+    let starts = c.resolve_range-part.ensures.start in
+    let ends = c.resolve_range-part.ensures.end ∙ ap (range_end end) c.len.ensures.value in
+    let parts = IsUtf8-three_parts bs (text_utf8 list c.self.invariant) _ _ cuts.order cuts.first cuts.last in
+    text_stays g.row.N list c.remove_bytes.new.list _ c.remove_bytes.ensures c.self.invariant
+    (subst IsUtf8 (sym (λ i. take (starts i) bs ++ drop (ends i) bs)) (IsUtf8-append _ _ parts.0 parts.2))
+
+pub returns-clause-text : goal.returns-clause-text
+returns-clause-text g c =
+    let list = c.self.inside.list in
+    let bs = tiny_items list in
+    let start = g.R.RangeBounds.start_bound c.args.range in
+    let end = g.R.RangeBounds.end_bound c.args.range in
+    let cuts = text_range list c.args.self.now c.self.view_is c.self.invariant (range_start start) (range_end end) c.requires.start_le_end c.requires.start_boundary c.requires.end_boundary in
+    let starts = c.resolve_range-part.ensures.start in
+    let ends = c.resolve_range-part.ensures.end ∙ ap (range_end end) c.len.ensures.value in
+    let parts = IsUtf8-three_parts bs (text_utf8 list c.self.invariant) _ _ cuts.order cuts.first cuts.last in
+    ap chars (c.remove_bytes.ensures.items ∙ (λ i. take (starts i) bs ++ drop (ends i) bs)) ∙ chars-append (before bs start) (after bs end) parts.0
+    ∙ (λ i. chars (before (c.self.view_is i).bytes start) ++ chars (after (c.self.view_is i).bytes end))

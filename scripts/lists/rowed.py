@@ -1,0 +1,56 @@
+"""Whether each public call of the libraries has a row of the benchmarks at 64 and 16,384 items, by bench/calls.txt.
+
+What the vectors share, the crate of slots and the traits of slots and arrays, is measured by the vectors' calls."""
+import re
+
+from reading import exports
+
+TABLE = exports.TOP / "bench/calls.txt"
+BENCH = exports.TOP / "crates/tinyvec_bench"
+SHARED = {
+    *("tinyvec_slots", "CanCut", "CanSplice", "Gap", "OwnsItems", "ItemText", "Plain", "Array", "Slots", "TakesClones", "[T]"),
+    *("[T; N]", "InBinary", "InOctal", "InHex", "InUpperHex", "AllocError", "Error", "AllocFailed", "NoMemory"),
+}
+# By type the beginnings that the names of its rows have at 64, and at 16,384.
+PREFIXES = {
+    "ArrayVec": ("", ""), "SliceVec": ("slice_", "slice_"), "TinyVec": ("tiny_ tiny_long_", "tiny_long_"),
+    "InlineText": ("text_ heap_text_", "text_"),
+}
+SIZES = ("64", "16384")
+LINE = re.compile(r"(\S+) (rows|none) (.*?)(?: since (.*))?")
+
+
+def faults():
+    rows = {tuple(it.split()[:2]) for it in (BENCH / "stdout").read_text(encoding="utf-8").splitlines()}
+    named, found = {}, set(calls())
+    for kind, how, names, reason in lines():
+        for name in names.split():
+            call, _, row = name.partition("=")
+            if named.setdefault((kind, call), how) and (kind, call) not in found:
+                yield f"bench/calls.txt: {kind}::{call} is no public call"
+            if how == "rows":
+                yield from (f"no row of the benchmarks is {it}, which bench/calls.txt names" for it in lacking(kind, row or call, rows))
+        yield from [f"bench/calls.txt: no reason why {names} have no row"] * (how == "none" and not reason)
+    yield from (f"{kind}::{call} has no row, and no reason in bench/calls.txt" for kind, call in sorted(found - named.keys()))
+
+
+def lines():
+    """The table's lines, with those joined that go on."""
+    text = re.sub(r"\n +", " ", TABLE.read_text(encoding="utf-8"))
+    return [LINE.fullmatch(it).groups() for it in text.splitlines() if it and not it.startswith("#")]
+
+
+def lacking(kind, row, rows):
+    for size, prefixes in zip(SIZES, PREFIXES[kind]):
+        names = [row if row.startswith("borsh_") else prefix + row for prefix in prefixes.split(" ")]
+        if not any((name, size) in rows for name in names):
+            yield f"{names[-1]} {size}"
+
+
+def calls():
+    for crate in exports.LIBRARIES:
+        for it in exports.Crate(crate).exports():
+            kind = exports.head_of(exports.impl_of(it.item)[1]) if it.trait else it.of or (it.name if it.kind == "trait" else crate)
+            for one in [it.item] if it.item.kind == "fn" else exports.item_members(it.item):
+                if one.kind == "fn" and kind not in SHARED:
+                    yield kind, one.name

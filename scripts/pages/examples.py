@@ -1,0 +1,65 @@
+"""The examples of docs/reference/examples.txt, which the pages show at their calls, and a crate whose tests they are."""
+import re
+import textwrap
+
+from building import crates
+from reading import exports
+
+FILE = exports.TOP / "docs/reference/examples.txt"
+
+# An example has at least so many lines, and at most so many.
+LEAST, MOST = 2, 5
+
+# The crate that has callers of the calls, over which these are compiled too.
+CRATE = "tinyvec_examples"
+HEAD = """//! What the pages of the reference show.
+#![tactic(auto)]
+
+use std::io::Write;
+use std::test::Fail;
+use tinyvec::{ArrayVec, FromIterRest, NoRoom, SliceVec, TinyVec, array_vec, tiny_vec};
+use tinyvec_borsh::{BorshDeserialize, BorshSerialize};
+use tinyvec_io::Counted;
+use tinyvec_text::InlineText;
+"""
+TEST = """
+#[test]
+fn {name}(rt: HostRuntime) -> Result<(), Fail> {{
+{lines}
+    Ok(())
+}}
+"""
+
+
+def examples():
+    """Each call with the text of its example, in the order of the file."""
+    for paragraph in FILE.read_text(encoding="utf-8").split("\n\n"):
+        if not paragraph.startswith("#"):
+            name, _, lines = paragraph.partition("\n")
+            yield name, textwrap.dedent(lines).rstrip()
+
+
+def faults(keys, calls):
+    """What shows nothing of these keys, one twice, or in too few or too many lines, and what does not make its call."""
+    named = [it for it, _ in examples()]
+    where = FILE.relative_to(exports.TOP)
+    yield from (f"{where}: no such call: {it}" for it in dict.fromkeys(named) if it not in keys)
+    yield from (f"{where}: {it} has two examples" for it in dict.fromkeys(named) if named.count(it) > 1)
+    for it, text in examples():
+        yield from [f"{where}: {it} has no {LEAST} to {MOST} lines"] * (not LEAST <= len(text.splitlines()) <= MOST)
+        called = it.rpartition("::")[2]
+        yield from [f"{where}: the example of {it} does not call it"] * (it in calls and not re.search(rf"\b{called}\(", text))
+
+
+def crate(callers):
+    """The crate whose tests the examples are, each by the name of its call. It uses what the crate of the callers uses."""
+    one = crates.Crate("examples", f"examples: {' '.join(it.name for it in callers.uses)}", callers.uses)
+    one.out = callers.out
+    one.files = one.sources = {"src/lib.rt": (HEAD + "".join(map(test, *zip(*examples())))).encode()}
+    return one
+
+
+def test(name, text):
+    lines = "let alloc = rt.alloc();\n" * bool(re.search(r"\balloc\b", text)) + text
+    name = re.sub(r"\W+", "_", name.replace("!", "_macro")).lower()
+    return TEST.format(name=name, lines=textwrap.indent(lines, "    "))
