@@ -37,8 +37,8 @@ def removed(v, span):
 
 @calls("drain R DRAIN")
 def drain(v, span, steps):
-    left = removed(v, span)
-    return " ".join(stepped(v, left, step, f"{v.kind}Drain") for step in steps)
+    left, name = removed(v, span), "TinyVecDrain" if v.kind == "TinyVec" else "ArrayVecDrain"
+    return " ".join(stepped(v, left, step, name) for step in steps)
 
 
 calls("drain_each R", IN_SLOTS)(lambda v, span: v.shown(removed(v, span)))
