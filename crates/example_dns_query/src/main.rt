@@ -9,7 +9,6 @@ pub mod record_type;
 
 use answer::Encoder;
 use example_lines::{Failure, answer_lines};
-use std::io::BufWriter;
 use std::process::ExitCode;
 use tinyvec_io::Counted;
 
@@ -27,11 +26,10 @@ fn main(rt: HostRuntime) -> ExitCode {
 // Answers standard input on standard output.
 fn answer_input(rt: &HostRuntime) -> Result<(), Failure> {
     let mut reader = Counted::new(rt.stdin());
-    let writer = BufWriter::new(rt.alloc(), rt.stdout()).map_err(Failure::Output)?;
     answer_lines(
         rt.alloc(),
-        &mut Encoder,
+        &mut Encoder::new(),
         &mut reader,
-        &mut Counted::new(writer),
+        &mut Counted::new(rt.stdout()),
     )
 }

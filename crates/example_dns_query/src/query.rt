@@ -113,12 +113,13 @@ fn body_of(name: &[u8]) -> Option<&[u8]>
 fn are_printed(name: &[u8]) -> bool
     ensures { IsTrue result ↔ All IsPrinted name.now }
 {
+    let mut are = true;
     for byte in name {
-        if *byte < 33 || *byte > 126 {
-            return false;
+        if !byte.is_ascii_graphic() {
+            are = false;
         }
     }
-    true
+    are
 }
 
 // What is wrong with the first label that has no byte or more than 63.

@@ -1,17 +1,11 @@
 -- A text that is read and answered line by line.
-use Rattle.std.proofs.Common.{◌≡◌, ◌≢◌, ◌∙◌, ℕ, ◌<◌, List, [], ◌∷◌, ◌++◌, map, length, Option, ap, refl, sym, subst, arith, append_assoc, append-nil}
+use Rattle.std.proofs.Common.{◌≡◌, ◌≢◌, ◌∙◌, ℕ, ◌<◌, List, [], ◌∷◌, ◌++◌, map, length, ap, refl, sym, subst, arith, append_assoc, append-nil}
 use Rattle.std.specs.Str.Lines.{strip_carriage_return}
 use Rattle.std.proofs.lemmas.List.{map-append}
 use Rattle.std.proofs.lemmas.List.Elements.{All-nil}
-use Rattle.std.specs.Io.KnownBytes.{Appends}
-use Rattle.tinyvec_io.specs.Counted.{AppendsFront}
 use Rattle.tinyvec_io.specs.Lines.{IsLine, last_line, Splits}
 use Rattle.tinyvec_io.proofs.LineLemmas.{Splits-line, Splits-piece, Splits-ended}
 use Rattle.example_lines.specs.Answers.{Advances, AnswersEach, AnswersUpTo, IsAnswered}
-
--- all bytes are a front of themselves
-pub front_whole : (old new : Option (List ℕ)) (bytes : List ℕ) → Appends old new bytes → AppendsFront old new bytes
-front_whole old new bytes all = (bytes, [], sym (append-nil bytes), all)
 
 module _ {S : Type 0} (IsAnswer : S → List ℕ → List ℕ → S → Type 0) where
   answers_then : (a b c : S) (lines more : List (List ℕ)) (x y : List ℕ) → AnswersEach IsAnswer a lines x b → AnswersEach IsAnswer b more y c → AnswersEach IsAnswer a (lines ++ more) (x ++ y) c

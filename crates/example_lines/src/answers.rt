@@ -1,5 +1,5 @@
 //! A text that is answered line by line.
-ghost use Rattle.std.specs.Prelude.{◌≡◌, ◌⊎◌, ◌≤◌, ◌-◌, ◌^◌, ◌++◌, ◌∷◌, List, ℕ, length, IfSome, IfNone, OnOk, IsErrOf, map};
+ghost use Rattle.std.specs.Prelude.{◌≡◌, ◌⊎◌, ◌≤◌, ◌-◌, ◌^◌, ◌++◌, ◌∷◌, [], List, ℕ, length, IfSome, IfNone, OnOk, OnErr, IsErrOf, map};
 ghost use Rattle.std.specs.Io.KnownBytes.{Appends, Consumes, IsAtEnd, Keeps};
 ghost use Rattle.std.specs.Str.Lines.{strip_carriage_return};
 ghost use Rattle.tinyvec_io.specs.Counted.{AppendsFront, CountsEnds, Reported};
@@ -21,9 +21,10 @@ pub trait Answer {
     // What it is before a line, the line, the answer, and what it is after it.
     ghost IsAnswer: { Self → List ℕ → List ℕ → Self → Type 0 };
 
-    /// Appends the answer to a line. The one error is that memory was refused.
+    /// Appends the answer to a line. The one error is that memory was refused; then nothing was appended.
     fn answer(&mut self, alloc: Global, line: &[u8], text: &mut Vec<u8>) -> Result<(), AllocError>
-        ensures { OnOk result (AppendsAnswer IsAnswer self.old line.now self.new text.old.items text.new.items) };
+        ensures answered { OnOk result (AppendsAnswer IsAnswer self.old line.now self.new text.old.items text.new.items) }
+        ensures refused { OnErr result (text.new.items ≡ text.old.items) };
 }
 
 /// Answers each line of the input. The answers to the lines that have come are written before more is waited for.
@@ -60,7 +61,7 @@ pub fn answer_lines<A: Answer, R: Read, W: Write>(
     ensures output { (error : IoError) → IsErrOf result (Failure.Output error) → (input left output line : List ℕ)
         × Consumes (R.remaining reader.old.inner) (R.remaining reader.new.inner) (input ++ left)
         × AppendsFront (W.contents writer.old.inner) (W.contents writer.new.inner) output
-        × (AnswersUpTo A.IsAnswer program.old input output line program.new
+        × (AnsweredSome A.IsAnswer program.old input output line
         ⊎ IsAnswered A.IsAnswer program.old input output program.new) }
     ensures output_fault { (error : IoError) → IsErrOf result (Failure.Output error)
         → Reported writer.old.faults writer.new.faults }
@@ -103,7 +104,8 @@ pub fn answer_lines<A: Answer, R: Read, W: Write>(
     Err(Failure::TooLong)
 }
 
-// Takes bytes of the input, answers the lines that they end, and flushes. The memory of `text` is used for each answer.
+// Takes bytes of the input, and writes the answers to the lines that they end: to all of them, or to those before the one
+// that memory was refused for. The memory of `text` is used for the answers to each piece.
 fn answer_chunk<A: Answer, W: Write>(
     alloc: Global,
     program: &mut A,
@@ -120,18 +122,57 @@ fn answer_chunk<A: Answer, W: Write>(
     ensures output { (error : IoError) → IsErrOf result (Stop.Output error)
         → (front rest said next : List ℕ) × (bytes.now ≡ front ++ rest)
         × AppendsFront (W.contents writer.old.inner) (W.contents writer.new.inner) said
-        × Advances A.IsAnswer program.old line.old.items front said next program.new }
+        × AdvancesSome A.IsAnswer program.old line.old.items front said next }
     ensures faults { Reports writer.old writer.new result }
 {
+    text.clear();
+    let answered = push_answers(alloc, program, line, bytes, text);
+    write_out(text.as_slice(), writer)?;
+    Ok(answered?)
+}
+
+// Appends the answers to the lines that the bytes end, and keeps what has come of the next line.
+fn push_answers<A: Answer>(
+    alloc: Global,
+    program: &mut A,
+    line: &mut Vec<u8>,
+    bytes: &[u8],
+    text: &mut Vec<u8>,
+) -> Result<(), AllocError>
+    ensures ok { OnOk result ((said : List ℕ) × (text.new.items ≡ text.old.items ++ said)
+        × Advances A.IsAnswer program.old line.old.items bytes.now said line.new.items program.new) }
+    // If memory is refused, what was appended answers lines before.
+    ensures some { (front rest said next : List ℕ) × (bytes.now ≡ front ++ rest)
+        × (text.new.items ≡ text.old.items ++ said)
+        × AdvancesSome A.IsAnswer program.old line.old.items front said next }
+{
     let mut rest = bytes;
-    while let Some((front, after)) = split_line(rest) {
-        line.extend_from_slice(front)?;
-        answer_line(alloc, program, line.as_slice(), text, writer)?;
-        line.clear();
+    while let Some((end, after)) = split_line(rest) {
+        push_answer(alloc, program, line, end, text)?;
         rest = after;
     }
-    line.extend_from_slice(rest)?;
-    writer.flush()?;
+    Ok(line.extend_from_slice(rest)?)
+}
+
+// Appends the answer to the line that `end` ends. Where `line` has nothing of it, it is read where it is.
+fn push_answer<A: Answer>(
+    alloc: Global,
+    program: &mut A,
+    line: &mut Vec<u8>,
+    end: &[u8],
+    text: &mut Vec<u8>,
+) -> Result<(), AllocError>
+    ensures ok { OnOk result (AppendsAnswer A.IsAnswer program.old (strip_carriage_return (line.old.items ++ end.now))
+        program.new text.old.items text.new.items) }
+    ensures next { OnOk result (line.new.items ≡ []) }
+    ensures refused { OnErr result (text.new.items ≡ text.old.items) }
+{
+    if line.is_empty() {
+        return program.answer(alloc, strip_return(end), text);
+    }
+    line.extend_from_slice(end)?;
+    program.answer(alloc, strip_return(line.as_slice()), text)?;
+    line.clear();
     Ok(())
 }
 
@@ -141,34 +182,12 @@ fn split_line(bytes: &[u8]) -> Option<(&[u8], &[u8])>
     ensures line { IfSome result (λ parts. IsLine parts.0.now) }
     ensures none { IfNone result (IsLine bytes.now) }
 {
-    for (index, byte) in bytes.iter().enumerate() {
-        if *byte == b'\n' {
+    for index in 0..bytes.len() {
+        if bytes[index] == b'\n' {
             return Some((&bytes[..index], &bytes[index + 1..]));
         }
     }
     None
-}
-
-// Writes the answer to a line, of which a carriage return at its end is no part. If memory is refused, nothing was written.
-fn answer_line<A: Answer, W: Write>(
-    alloc: Global,
-    program: &mut A,
-    line: &[u8],
-    text: &mut Vec<u8>,
-    writer: &mut Counted<W>,
-) -> Result<(), Stop>
-    ensures ok { OnOk result ((said : List ℕ) × Appends (W.contents writer.old.inner) (W.contents writer.new.inner) said
-        × A.IsAnswer program.old (strip_carriage_return line.now) said program.new) }
-    ensures memory { IsErrOf result Stop.Memory → Keeps (W.contents writer.old.inner) (W.contents writer.new.inner) }
-    ensures output { (error : IoError) → IsErrOf result (Stop.Output error) → (said : List ℕ)
-        × AppendsFront (W.contents writer.old.inner) (W.contents writer.new.inner) said
-        × A.IsAnswer program.old (strip_carriage_return line.now) said program.new }
-    ensures faults { Reports writer.old writer.new result }
-{
-    text.clear();
-    program.answer(alloc, strip_return(line), text)?;
-    writer.write_all(text.as_slice())?;
-    Ok(())
 }
 
 // The line, without a carriage return at its end.
@@ -179,6 +198,18 @@ fn strip_return(line: &[u8]) -> &[u8]
         Some(stripped) => stripped,
         None => line,
     }
+}
+
+// Writes the bytes, and flushes.
+fn write_out<W: Write>(bytes: &[u8], writer: &mut Counted<W>) -> Result<(), Stop>
+    ensures ok { OnOk result (Appends (W.contents writer.old.inner) (W.contents writer.new.inner) bytes.now) }
+    ensures output { OnErr result (AppendsFront (W.contents writer.old.inner) (W.contents writer.new.inner) bytes.now) }
+    ensures not_memory { IsErrOf result Stop.Memory → ⊥ }
+    ensures faults { Reports writer.old writer.new result }
+{
+    writer.write_all(bytes)?;
+    writer.flush()?;
+    Ok(())
 }
 
 // Answers the last line, if it has bytes, and flushes.
@@ -201,7 +232,8 @@ fn finish<A: Answer, W: Write>(
         writer.flush()?;
         return Ok(());
     }
-    answer_line(alloc, program, line, text, writer)?;
-    writer.flush()?;
+    text.clear();
+    program.answer(alloc, strip_return(line), text)?;
+    write_out(text.as_slice(), writer)?;
     Ok(())
 }

@@ -78,7 +78,7 @@ returns-in-Err-Output-answer_chunk-clause-output g c = λ error is.
       f.3,
       subst (Consumes before after) (ap (λ read. s.0 ++ read) f.4 ∙ sym (append_assoc s.0 f.0 f.1)) all,
       AppendsFront-then _ _ _ s.1 f.2 s.3 f.5,
-      inl (f.6 c.args.program.now s.0 s.1 s.4),
+      inl (f.6.0, f.6.1 c.args.program.now s.0 s.1 s.4),
     )
 
 pub loop-piece-preserved : goal.loop-piece-preserved
