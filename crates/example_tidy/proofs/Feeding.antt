@@ -3,7 +3,7 @@ use Rattle.std.proofs.Common.{◌≡◌, ◌≢◌, ◌∙◌, ℕ, List, [], �
 use Rattle.std.proofs.lemmas.List.{map-append}
 use Rattle.std.proofs.lemmas.List.Elements.{All-nil}
 use Rattle.tinyvec_io.specs.Lines.{IsLine, ended, Splits}
-use Rattle.tinyvec_io.proofs.LineLemmas.{ended_more, Splits-line, Splits-byte, Splits-ended}
+use Rattle.tinyvec_io.proofs.LineLemmas.{ended_more, Splits-line, Splits-piece, Splits-byte, Splits-ended}
 use Rattle.example_tidy.specs.Tidy.{Tidied, TidiedFront, TidiedUpTo, Advances, Ends, EndsSome, IsBegun, Refuses, normal_line}
 use Rattle.example_tidy.proofs.Lines.{tidied_whole}
 
@@ -33,6 +33,14 @@ advances_byte line grown byte inner is input output so_far = record {
   says = append-nil output ∙ so_far.says;
 }
 
+-- bytes that end no line
+pub advances_piece : (line piece : List ℕ) → IsLine piece → Advances line piece [] (line ++ piece)
+advances_piece line piece inner input output so_far = record {
+  all = so_far.all;
+  split = Splits-piece input so_far.all line piece inner so_far.split;
+  says = append-nil output ∙ so_far.says;
+}
+
 -- a line feed
 pub advances_line : (line said next : List ℕ) → said ≡ normal_line line ++ 10 ∷ [] → next ≡ [] → Advances line (10 ∷ []) said next
 advances_line line said next is none input output so_far = record {
@@ -42,6 +50,11 @@ advances_line line said next is none input output so_far = record {
       ap (λ front. front ++ said) so_far.says ∙ ap (λ back. ended (map normal_line so_far.all) ++ back) is
       ∙ sym (ended_more (map normal_line so_far.all) (normal_line line)) ∙ ap ended (sym (map-append normal_line so_far.all (line ∷ [])));
 }
+
+-- the rest of a line, and a line feed
+pub advances_end : (line end said next : List ℕ) → IsLine end → said ≡ normal_line (line ++ end) ++ 10 ∷ [] → next ≡ [] → Advances line (end ++ 10 ∷ []) said next
+advances_end line end said next inner is none =
+    advances_then line (line ++ end) next end (10 ∷ []) [] said (advances_piece line end inner) (advances_line (line ++ end) said next is none)
 
 -- from the beginning on
 pub advanced : (empty line text none output said : List ℕ) → empty ≡ [] → none ≡ [] → output ≡ none ++ said → Advances empty text said line
@@ -83,14 +96,14 @@ ends_last (byte ∷ bytes) some input output so_far =
 -- what was fed, whether memory was refused or not
 pub ends_either : {T E : Type 0} (r : Result T E) (old new bytes empty text : List ℕ) (line_room room : ℕ) → empty ≡ []
     → OnOk r ((said : List ℕ) × (text ≡ empty ++ said) × Advances old bytes said new)
-    → OnErr r ((said : List ℕ) × (text ≡ empty ++ said) × Refuses old bytes said new line_room room)
+    → OnErr r ((said kept : List ℕ) × (text ≡ empty ++ said) × Refuses old bytes said kept line_room room)
     → EndsSome old bytes text
 ends_either (Ok done) old new bytes empty text line_room room none fed refused =
     subst (EndsSome old bytes) (sym (fed.1 ∙ ap (λ front. front ++ fed.0) none)) (ends_some old new bytes [] bytes fed.0 (append-nil bytes) fed.2)
 ends_either (Err error) old new bytes empty text line_room room none fed refused =
-    let at : Refuses old bytes refused.0 new line_room room = refused.2 in
-    subst (EndsSome old bytes) (sym (refused.1 ∙ ap (λ front. front ++ refused.0) none))
-    (ends_some old new at.front (at.byte ∷ at.rest) bytes refused.0 (sym at.whole) at.advances)
+    let at : Refuses old bytes refused.0 refused.1 line_room room = refused.3 in
+    subst (EndsSome old bytes) (sym (refused.2 ∙ ap (λ front. front ++ refused.0) none))
+    (ends_some old refused.1 at.front (at.byte ∷ at.rest) bytes refused.0 (sym at.whole) at.advances)
 
 -- a front of what ends some lines was written
 pub begun_front : (input output said missing : List ℕ) → TidiedFront input (output ++ (said ++ missing)) → IsBegun input (output ++ said)

@@ -1,5 +1,5 @@
 -- Words that are said one behind another, each behind a space.
-use Rattle.std.proofs.Common.{◌≡◌, ◌≢◌, ◌∙◌, ℕ, ◌+◌, ◌≤◌, false, cond, List, [], ◌∷◌, ◌++◌, inl, inr, arith, ap, sym, append_assoc, append-nil, length, length-append}
+use Rattle.std.proofs.Common.{◌≡◌, ◌≢◌, ◌∙◌, ℕ, ◌≤◌, false, cond, List, [], ◌∷◌, ◌++◌, inl, inr, arith, ap, sym, append_assoc, append-nil, length, length-append}
 use Rattle.std.specs.List.{dedup, flat_map, join_with_byte}
 use Rattle.std.specs.Str.{bytes_eq}
 use Rattle.std.proofs.lemmas.Bool.{cases_Bool}

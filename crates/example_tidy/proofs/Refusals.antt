@@ -1,26 +1,57 @@
 -- What is said where memory is refused.
-use Rattle.std.proofs.Common.{◌≡◌, ◌≢◌, ◌∙◌, ℕ, ◌+◌, ◌<◌, ◌≤◌, ◌==◌, Bool, true, false, List, [], ◌∷◌, ◌++◌, ap, refl, sym, subst, length, take, drop, get_or, arith, append-nil, append_assoc, length-append, take-append-drop}
+use Rattle.std.proofs.Common.{◌≡◌, ◌≢◌, ◌∙◌, ℕ, ◌+◌, ◌<◌, ◌≤◌, ◌==◌, Bool, true, false, List, [], ◌∷◌, ◌++◌, ap, refl, sym, subst, length, take, drop, get_or, arith, append-nil, append_assoc, length-append, length-take-le, take-append-drop, ◌-◌}
 use Rattle.std.proofs.lemmas.Bool.{eqb-true, eqb-false}
 use Rattle.std.proofs.lemmas.List.{drop_more}
-use Rattle.std.proofs.lemmas.List.Elements.{All-push}
+use Rattle.std.proofs.lemmas.List.Elements.{All-get_or, All-push, All-take}
 use Rattle.tinyvec_io.specs.Lines.{IsLine, ended}
 use Rattle.example_tidy.specs.Tidy.{Advances, AllShort, EndsBeforeLong, IsShort, Refuses, SaysAtMost, TidiedBeforeLong, TidiedUpTo, normal_line}
+use Rattle.example_tidy.proofs.Feeding.{advances_piece, advances_then}
 use Rattle.example_tidy.proofs.Saying.{says_few, says_next}
 use Rattle.example_tidy.proofs.ShortLines.{short_fed, short_front, short_left, short_next}
 
--- a byte that was refused, behind what was said before it
-pub refuses_at : (old bytes said line kept : List ℕ) (i line_room room : ℕ) → i < length bytes → Advances old (take i bytes) said line → kept ≡ line
-    → ((get_or bytes i 0 ≢ 10 → length line < line_room) → (get_or bytes i 0 ≡ 10 → IsShort line × (length said + length (normal_line line) < room)) → ⊥)
-    → Refuses old bytes said kept line_room room
-refuses_at old bytes said line kept i line_room room inside advances same full =
-    subst (λ part. Refuses old bytes said part line_room room) (sym same) record {
-      front = take i bytes;
-      byte = get_or bytes i 0;
-      rest = drop (i + 1) bytes;
-      whole = sym (take-append-drop i bytes) ∙ ap (λ back. take i bytes ++ back) (drop_more bytes i 0 inside);
-      advances = advances;
-      full = full;
+-- the line feed of a line that is not short, or has no place in what is said
+pub refuses_feed : (old end : List ℕ) (line_room room : ℕ) → IsLine end → (IsShort (old ++ end) → length (normal_line (old ++ end)) < room → ⊥)
+    → Refuses old (end ++ 10 ∷ []) [] (old ++ end) line_room room
+refuses_feed old end line_room room inner full = record {
+  front = end;
+  byte = 10;
+  rest = [];
+  whole = refl;
+  advances = advances_piece old end inner;
+  full = λ _ feed. let fits = feed refl in full fits.0 (omega (arith, fits.1));
+}
+
+-- a piece of a line that has no room behind the line
+pub refuses_piece : (line piece : List ℕ) (c line_room room : ℕ) → IsLine piece → length line ≤ c → c < length line + length piece → line_room ≤ c
+    → Refuses line piece [] (line ++ take (c - length line) piece) line_room room
+refuses_piece line piece c line_room room inner held long wide =
+    let i = c - length line in
+    let inside : i < length piece = omega (arith, held, long) in
+    record {
+      front = take i piece;
+      byte = get_or piece i 0;
+      rest = drop (i + 1) piece;
+      whole = sym (take-append-drop i piece) ∙ ap (λ back. take i piece ++ back) (drop_more piece i 0 inside);
+      advances = advances_piece line (take i piece) (All-take (λ byte. byte ≢ 10) i piece inner);
+      full = λ other _.
+          let less = other (All-get_or (λ byte. byte ≢ 10) piece i 0 inside inner) in
+          omega (arith, less, length-append line (take i piece), length-take-le i piece (omega (arith, inside)), held, wide);
     }
+
+-- behind what was said before it
+pub refuses_then : (old taken line bytes part rest said more kept : List ℕ) (line_room place room less : ℕ) → bytes ≡ taken ++ (part ++ rest)
+    → Advances old taken said line → Refuses line part more kept place less → line_room ≤ place → room ≤ length said + less
+    → Refuses old bytes (said ++ more) kept line_room room
+refuses_then old taken line bytes part rest said more kept line_room place room less whole so_far at wide roomy = record {
+  front = taken ++ at.front;
+  byte = at.byte;
+  rest = at.rest ++ rest;
+  whole = whole ∙ ap (λ back. taken ++ (back ++ rest)) at.whole ∙ ap (λ back. taken ++ back) (append_assoc at.front (at.byte ∷ at.rest) rest) ∙ sym (append_assoc taken at.front (at.byte ∷ (at.rest ++ rest)));
+  advances = advances_then old line kept taken at.front said more so_far at.advances;
+  full = λ other feed. at.full
+      (λ is. omega (arith, other is, wide))
+      (λ is. let fits = feed is in (fits.0, omega (arith, fits.1, roomy, length-append said more)));
+}
 
 -- where the lines are short and what is said has room, nothing is refused
 pub refused_never : (old bytes said line : List ℕ) (line_room room : ℕ) → IsLine old → AllShort (old ++ bytes) → 80 ≤ line_room

@@ -47,9 +47,8 @@ fn lower(alloc: Global, line: &[u8]) -> Result<LineText, AllocError>
     ensures succeeds { length line.now ≤ 80 → IsOk result }
 {
     let mut low = TinyVec::new(alloc);
-    for byte in line {
-        low.push(byte.to_ascii_lowercase())?;
-    }
+    low.extend_from_slice_copy(line)?;
+    low.as_mut_slice().make_ascii_lowercase();
     Ok(low)
 }
 

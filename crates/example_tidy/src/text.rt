@@ -1,8 +1,8 @@
 //! The normal form of a whole text.
-ghost use Rattle.std.specs.Prelude.{◌≡◌, ◌≢◌, ◌+◌, ◌-◌, ◌<◌, ◌≤◌, ◌++◌, ◌∷◌, [], List, ℕ, map, length, IsOk, IfOk, OnOk, OnErr};
+ghost use Rattle.std.specs.Prelude.{◌≡◌, ◌+◌, ◌-◌, ◌<◌, ◌≤◌, ◌++◌, ◌∷◌, [], List, ℕ, map, length, IsOk, IfOk, IfSome, IfNone, OnOk, OnErr};
 ghost use Rattle.std.specs.Str.Lines.{lines};
 ghost use Rattle.tinyvec.specs.TinyVec.{tiny_items, tiny_len, tiny_capacity};
-ghost use Rattle.tinyvec_io.specs.Lines.{ended};
+ghost use Rattle.tinyvec_io.specs.Lines.{IsLine, ended};
 ghost use Rattle.example_tidy.specs.Tidy.{Advances, AllShort, Ends, IsShort, Refuses, Tidied, normal_line};
 
 use crate::line::{LineText, Output, end_line};
@@ -32,43 +32,59 @@ pub(crate) fn feed(
 ) -> Result<(), AllocError>
     ensures ok { OnOk result ((said : List ℕ) × (tiny_items output.new ≡ tiny_items output.old ++ said)
         × Advances (tiny_items line.old) bytes.now said (tiny_items line.new)) }
-    ensures refused { OnErr result ((said : List ℕ) × (tiny_items output.new ≡ tiny_items output.old ++ said)
-        × Refuses (tiny_items line.old) bytes.now said (tiny_items line.new) (tiny_capacity 80 line.old)
+    ensures refused { OnErr result ((said kept : List ℕ) × (tiny_items output.new ≡ tiny_items output.old ++ said)
+        × Refuses (tiny_items line.old) bytes.now said kept (tiny_capacity 80 line.old)
         (tiny_capacity 4096 output.old - tiny_len output.old)) }
     ensures line_room { tiny_capacity 80 line.old ≤ tiny_capacity 80 line.new }
     ensures capacity { tiny_capacity 4096 output.old ≤ tiny_capacity 4096 output.new }
 {
-    for byte in bytes {
-        feed_byte(alloc, line, output, *byte)?;
+    let mut rest = bytes;
+    while let Some((end, after)) = split_line(rest) {
+        feed_end(alloc, line, output, end)?;
+        rest = after;
     }
-    Ok(())
+    Ok(line.extend_from_slice_copy(rest)?)
 }
 
-// Takes a byte of the text. If memory was refused, nothing has changed.
-fn feed_byte(
+// Takes the end of a line and its line feed. If memory was refused, nothing was appended. Where `line` has nothing of it, it
+// is read where it is.
+fn feed_end(
     alloc: Global,
     line: &mut LineText,
     output: &mut Output,
-    byte: u8,
+    end: &[u8],
 ) -> Result<(), AllocError>
+    requires { IsLine end.now }
     ensures ok { OnOk result ((said : List ℕ) × (tiny_items output.new ≡ tiny_items output.old ++ said)
-        × Advances (tiny_items line.old) (byte ∷ []) said (tiny_items line.new)) }
-    ensures refused { OnErr result (tiny_items output.new ≡ tiny_items output.old) }
-    ensures line_kept { OnErr result (tiny_items line.new ≡ tiny_items line.old) }
+        × Advances (tiny_items line.old) (end.now ++ 10 ∷ []) said (tiny_items line.new)) }
+    ensures refused { OnErr result ((kept : List ℕ) × (tiny_items output.new ≡ tiny_items output.old)
+        × Refuses (tiny_items line.old) (end.now ++ 10 ∷ []) [] kept (tiny_capacity 80 line.old)
+        (tiny_capacity 4096 output.old - tiny_len output.old)) }
     ensures line_room { tiny_capacity 80 line.old ≤ tiny_capacity 80 line.new }
     ensures capacity { tiny_capacity 4096 output.old ≤ tiny_capacity 4096 output.new }
-    ensures succeeds { (byte ≢ 10 → tiny_len line.old < tiny_capacity 80 line.old)
-        → (byte ≡ 10 → IsShort (tiny_items line.old)
-        × (tiny_len output.old + length (normal_line (tiny_items line.old)) < tiny_capacity 4096 output.old))
-        → IsOk result }
 {
-    if byte == b'\n' {
-        end_line(alloc, line.as_slice(), output)?;
-        line.clear();
-    } else {
-        line.push(byte)?;
+    if line.is_empty() {
+        end_line(alloc, end, output)?;
+        return Ok(());
     }
+    line.extend_from_slice_copy(end)?;
+    end_line(alloc, line.as_slice(), output)?;
+    line.clear();
     Ok(())
+}
+
+// The bytes before the first line feed, and those after it.
+fn split_line(bytes: &[u8]) -> Option<(&[u8], &[u8])>
+    ensures whole { IfSome result (λ parts. bytes.now ≡ parts.0.now ++ 10 ∷ parts.1.now) }
+    ensures line { IfSome result (λ parts. IsLine parts.0.now) }
+    ensures none { IfNone result (IsLine bytes.now) }
+{
+    for (index, byte) in bytes.iter().enumerate() {
+        if *byte == b'\n' {
+            return Some((&bytes[..index], &bytes[index + 1..]));
+        }
+    }
+    None
 }
 
 // Ends the last line, if it has bytes. If memory was refused, nothing was appended.

@@ -34,6 +34,6 @@ returns-in_default-fed-clause-memory g c = λ _ place few.
     let empty = c.in-Ok.ensures.items ∙ c.new-output.ensures.items in
     let refused = c.in_default-fed.ensures.refused in
     let fits : length old + length bytes ≤ tiny_capacity 4096 output - tiny_len output = omega (arith, c.in-Ok.ensures.enough, ap length empty, ap length c.new-output.ensures.items) in
-    let said = before_long old bytes refused.0 _ _ _ place fits refused.2 in
-    let text : c.as_slice.result.now ≡ refused.0 = c.as_slice.ensures ∙ refused.1 ∙ ap (λ front. front ++ refused.0) empty in
+    let said = before_long old bytes refused.0 _ _ _ place fits refused.3 in
+    let text : c.as_slice.result.now ≡ refused.0 = c.as_slice.ensures ∙ refused.2 ∙ ap (λ front. front ++ refused.0) empty in
     (c.as_slice.result.now, c.in-Ok-write_all.ensures.bytes, subst (EndsBeforeLong old bytes) (sym text) said)

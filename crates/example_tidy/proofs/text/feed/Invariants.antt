@@ -1,13 +1,16 @@
-use Rattle.std.proofs.Common.{◌≡◌, ◌≤◌, ◌++◌, List, ℕ, take}
+use Rattle.std.proofs.Common.{◌≡◌, ◌≤◌, ◌++◌, List, ℕ, length}
 use Rattle.tinyvec.specs.TinyVec.{tiny_items, tiny_capacity}
 use Rattle.example_tidy.specs.Tidy.{Advances}
 use Rattle.example_tidy.proofs.text.feed.Given as goal
 
--- what was said for the bytes so far
-abbrev pub invariant-loop-byte : goal.invariant-loop-byte
-invariant-loop-byte l = record {
-  so_far : (said : List ℕ) × (tiny_items l.output ≡ tiny_items l.initial.output ++ said)
-      × Advances (tiny_items l.initial.line) (take l.byte-index l.bytes) said (tiny_items l.line);
-  line_room : tiny_capacity 80 l.initial.line ≤ tiny_capacity 80 l.line;
-  room : tiny_capacity 4096 l.initial.output ≤ tiny_capacity 4096 l.output;
+-- what was said for the lines before the rest
+abbrev pub invariant-loop-end : goal.invariant-loop-end
+invariant-loop-end l = record {
+  so_far : (taken : List ℕ) × (said : List ℕ) × (l.bytes ≡ taken ++ l.rest) × (tiny_items l.output ≡ tiny_items l.fn.output ++ said)
+      × Advances (tiny_items l.fn.line) taken said (tiny_items l.line);
+  line_room : tiny_capacity 80 l.fn.line ≤ tiny_capacity 80 l.line;
+  room : tiny_capacity 4096 l.fn.output ≤ tiny_capacity 4096 l.output;
 }
+
+abbrev pub decreases-loop-end : goal.decreases-loop-end
+decreases-loop-end l = length l.rest

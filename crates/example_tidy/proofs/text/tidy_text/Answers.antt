@@ -32,7 +32,7 @@ returns-in_err-feed-clause-succeeds c = λ each fits.
     (rw line.ensures.items each)
     place
     (λ said new advances. omega (arith, says_whole text _ line.ensures.items said new advances, fits, room, ap length output.ensures.items))
-    refused.2)
+    refused.3)
 
 pub returns-in_err-end_text-clause-succeeds : goal.returns-in_err-end_text-clause-succeeds
 returns-in_err-end_text-clause-succeeds c = λ each fits.
