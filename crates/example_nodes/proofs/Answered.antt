@@ -9,14 +9,19 @@ use Rattle.example_nodes.specs.declared.parse_error.ParseError.{ParseError}
 use Rattle.example_nodes.specs.declared.parse_error.ParseError.TheVariants.{Syntax, Memory}
 
 -- a number, and what follows it
-pub answered : (count : ℕ) (body first second text : List ℕ) → first ≡ decimal count ++ codes ": " → second ≡ first ++ body → text ≡ second ++ 10 ∷ []
-    → text ≡ decimal count ++ (codes ": " ++ (body ++ 10 ∷ []))
-answered count body first second text one two three =
+abbrev pub counted : ℕ → List ℕ → List ℕ
+counted count body = decimal count ++ (codes ": " ++ (body ++ 10 ∷ []))
+
+pub answered : (start : List ℕ) (count : ℕ) (body first second text : List ℕ) → first ≡ start ++ (decimal count ++ codes ": ") → second ≡ first ++ body → text ≡ second ++ 10 ∷ []
+    → text ≡ start ++ counted count body
+answered start count body first second text one two three =
     let n = decimal count in
+    let rest = body ++ 10 ∷ [] in
     three
-    ∙ ap (λ t. t ++ 10 ∷ []) (two ∙ ap (λ t. t ++ body) one ∙ append_assoc n (codes ": ") body)
-    ∙ append_assoc n (codes ": " ++ body) (10 ∷ [])
-    ∙ ap (λ t. n ++ t) (append_assoc (codes ": ") body (10 ∷ []))
+    ∙ ap (λ t. t ++ 10 ∷ []) (two ∙ ap (λ t. t ++ body) one)
+    ∙ append_assoc (start ++ (n ++ codes ": ")) body (10 ∷ [])
+    ∙ append_assoc start (n ++ codes ": ") rest
+    ∙ ap (λ t. start ++ t) (append_assoc n (codes ": ") rest)
 
 -- by whether a line has squares
 abbrev pub line_by : List ℕ → Bool → Outcome (List ℕ)

@@ -34,6 +34,10 @@ abbrev pub said_of : {A B : Type 0} → (A → B) → Outcome A → Outcome B
 said_of f (right read) = right (f read)
 said_of f (wrong column fault) = wrong column fault
 
+-- the text grows by what a line says, which is right
+abbrev pub AppendsSaid : Outcome (List ℕ) → (old new : List ℕ) → Type 0
+AppendsSaid said old new = (more : List ℕ) × (said ≡ right more) × (new ≡ old ++ more)
+
 -- the words of a line of nodes; of one that ends with a plus, their leaves
 abbrev pub nodes_outcome : List ℕ → Outcome (List Word)
 nodes_outcome line =

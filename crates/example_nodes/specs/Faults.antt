@@ -18,3 +18,7 @@ IsSaid said Memory = ⊤
 -- a byte has no such fault, and the state is the next; or the error is the fault
 abbrev pub Answers : {S : Type 0} → Result Unit ParseError → ℕ → Option Fault → S → S → Type 0
 Answers result column fault new next = MatchResult result (λ _. (fault ≡ None) × (new ≡ next)) (λ error. IsAt error column fault)
+
+-- the same, where the state depends on what is returned
+abbrev pub Gives : {T S : Type 0} → Result T ParseError → ℕ → Option Fault → (T → S) → S → Type 0
+Gives result column fault state next = MatchResult result (λ value. (fault ≡ None) × (state value ≡ next)) (λ error. IsAt error column fault)

@@ -43,8 +43,11 @@ abbrev pub next : State → ℕ → State
 next s byte = if is_ascii_digit byte then digit s byte else sign (ended s) byte
 
 -- a number fits 64 bits
+abbrev pub number_fault : Option ℕ → ℕ → Option Fault
+number_fault last byte = demanded (nat_lt (with_digit last byte) (2 ^ 64)) Number
+
 abbrev pub digit_fault : State → ℕ → Option Fault
-digit_fault s byte = demanded (nat_lt (with_digit s.last byte) (2 ^ 64)) Number
+digit_fault s byte = number_fault s.last byte
 
 -- no more than 128 brackets are open at a time
 abbrev pub open_fault : State → Option Fault

@@ -1,9 +1,8 @@
 //! The answer to a line.
-ghost use Rattle.std.specs.Prelude.{◌≡◌, IfOk, IfErr, string_bytes};
-ghost use Rattle.example_nodes.specs.Machine.{right};
+ghost use Rattle.std.specs.Prelude.{◌≡◌, IfErr, OnOk, string_bytes};
 ghost use Rattle.example_nodes.specs.Squares.{squares_outcome};
 ghost use Rattle.example_nodes.specs.Faults.{IsSaid};
-ghost use Rattle.example_nodes.specs.Answer.{AnswersLine, later, line_outcome, nodes_outcome};
+ghost use Rattle.example_nodes.specs.Answer.{AnswersLine, AppendsSaid, later, line_outcome, nodes_outcome};
 ghost use Rattle.example_nodes.specs.Answer.{said_of, nodes_said, squares_said};
 
 use crate::count::count;
@@ -18,6 +17,8 @@ use std::alloc::{AllocError, Global};
 #[derive(Drop)]
 pub struct Reader {
     pub line: u64,
+    /// The last answer. The next takes its memory.
+    pub said: String,
 }
 
 impl Answer for Reader {
@@ -25,58 +26,65 @@ impl Answer for Reader {
 
     fn answer(&mut self, alloc: Global, line: &[u8], text: &mut Vec<u8>) -> Result<(), AllocError> {
         self.line = self.line.saturating_add(1);
-        let said = answer_to(alloc, self.line, line)?;
-        Ok(text.extend_from_slice(said.as_bytes())?)
+        answer_to(alloc, self.line, line, &mut self.said)?;
+        Ok(text.extend_from_slice(self.said.as_bytes())?)
     }
 }
 
-// What a line has, or what is wrong with it.
-fn answer_to(alloc: Global, number: u64, line: &[u8]) -> Result<String, AllocError>
-    ensures { IfOk result (λ text. AnswersLine number line.now (string_bytes text)) }
+// The text becomes what a line has, or what is wrong with it.
+fn answer_to(alloc: Global, number: u64, line: &[u8], text: &mut String) -> Result<(), AllocError>
+    ensures { OnOk result (AnswersLine number line.now (string_bytes text.new)) }
 {
-    match written(alloc, line) {
-        Ok(text) => Ok(text),
+    text.clear();
+    match push_line(alloc, line, text) {
+        Ok(()) => Ok(()),
         Err(ParseError::Syntax { column, fault }) => {
+            text.clear();
             let fault = fault.text();
-            format!(in alloc; "line {number}, column {column}: {fault}\n")
+            write!(text, "line {number}, column {column}: {fault}\n")
         }
-        Err(ParseError::Memory) => format!(in alloc; "line {number}: out of memory\n"),
+        Err(ParseError::Memory) => {
+            text.clear();
+            write!(text, "line {number}: out of memory\n")
+        }
     }
 }
 
-// What a line has. A line of squares begins with a bracket of theirs.
-fn written(alloc: Global, line: &[u8]) -> Result<String, ParseError>
-    ensures right { IfOk result (λ text. line_outcome line.now ≡ right (string_bytes text)) }
+// Appends what a line has. A line of squares begins with a bracket of theirs.
+fn push_line(alloc: Global, line: &[u8], text: &mut String) -> Result<(), ParseError>
+    ensures right { OnOk result (AppendsSaid (line_outcome line.now) (string_bytes text.old) (string_bytes text.new)) }
     ensures wrong { IfErr result (IsSaid (line_outcome line.now)) }
 {
     if line.starts_with(b"[") {
-        return written_squares(alloc, line);
+        return push_squares_line(alloc, line, text);
     }
-    written_nodes(alloc, line)
+    push_nodes_line(alloc, line, text)
 }
 
-// The number of nodes and the trees of a line.
-fn written_nodes(alloc: Global, line: &[u8]) -> Result<String, ParseError>
-    ensures right { IfOk result (λ text. said_of nodes_said (nodes_outcome line.now) ≡ right (string_bytes text)) }
+// Appends the number of nodes and the trees of a line.
+fn push_nodes_line(alloc: Global, line: &[u8], text: &mut String) -> Result<(), ParseError>
+    ensures right { OnOk result (AppendsSaid (said_of nodes_said (nodes_outcome line.now)) (string_bytes text.old)
+        (string_bytes text.new)) }
     ensures wrong { IfErr result (IsSaid (nodes_outcome line.now)) }
 {
     let trees = parse_nodes(alloc, line)?;
     let count = count(trees.as_slice());
-    let mut text = format!(in alloc; "{count}: ")?;
-    push_trees(&mut text, trees.as_slice())?;
+    write!(text, "{count}: ")?;
+    push_trees(text, trees.as_slice())?;
     text.push('\n')?;
-    Ok(text)
+    Ok(())
 }
 
-// The number of squares and the squares of a line.
-fn written_squares(alloc: Global, line: &[u8]) -> Result<String, ParseError>
-    ensures right { IfOk result (λ text. said_of squares_said (squares_outcome line.now) ≡ right (string_bytes text)) }
+// Appends the number of squares and the squares of a line.
+fn push_squares_line(alloc: Global, line: &[u8], text: &mut String) -> Result<(), ParseError>
+    ensures right { OnOk result (AppendsSaid (said_of squares_said (squares_outcome line.now)) (string_bytes text.old)
+        (string_bytes text.new)) }
     ensures wrong { IfErr result (IsSaid (squares_outcome line.now)) }
 {
     let parts = parse_squares(alloc, line)?;
     let count = count_squares(parts.as_slice());
-    let mut text = format!(in alloc; "{count}: ")?;
-    push_squares(&mut text, parts.as_slice())?;
+    write!(text, "{count}: ")?;
+    push_squares(text, parts.as_slice())?;
     text.push('\n')?;
-    Ok(text)
+    Ok(())
 }

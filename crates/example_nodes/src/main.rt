@@ -34,7 +34,10 @@ fn answer_input(rt: &HostRuntime) -> Result<(), Failure> {
     let writer = BufWriter::new(rt.alloc(), rt.stdout()).map_err(Failure::Output)?;
     answer_lines(
         rt.alloc(),
-        &mut Reader { line: 0 },
+        &mut Reader {
+            line: 0,
+            said: String::new(rt.alloc()),
+        },
         &mut input,
         &mut Counted::new(writer),
     )

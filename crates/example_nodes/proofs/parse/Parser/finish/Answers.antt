@@ -11,5 +11,5 @@ pub returns-clause-right : goal.returns-clause-right
 returns-clause-right c =
     let outer = c.end_number.new.self.outer.items in
     let empty : c.is_empty.result ≡ (length outer == 0) = search rules in
-    all_closed c.end_number.new.self (ended (state_of c.args.self)) c.in_ok-end_number.ensures
+    all_closed c.end_number.new.self (ended (state_of c.args.self c.args.number)) c.in_ok-end_number.ensures
     (eqb-true (length outer) 0 (sym empty ∙ none_demanded c.is_empty.result NotClosed c.in_ok-demand.ensures.ok))
