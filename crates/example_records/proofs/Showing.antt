@@ -1,11 +1,9 @@
 -- Records that are shown one after another, and the text of an answer.
-use Rattle.std.proofs.Common.{◌≡◌, ◌≢◌, ◌∙◌, List, ℕ, [], ◌∷◌, ◌++◌, if◌then◌else◌, codes, length, Err, IfErr, ap, refl, subst, sym, append_assoc, append-nil}
-use Rattle.std.specs.Fmt.{decimal}
+use Rattle.std.proofs.Common.{◌≡◌, ◌∙◌, List, ℕ, [], ◌∷◌, ◌++◌, length, Err, IfErr, ap, refl, subst, sym, append_assoc, append-nil}
 use Rattle.std.specs.Str.{IsUtf8}
-use Rattle.std.proofs.lemmas.Bool.{ne_eqb}
 use Rattle.example_records.specs.Commands.{Answer, Answers, Commands, IsCommand, Tells, rest_of, word_of}
 use Rattle.example_records.specs.Readings.{Said}
-use Rattle.example_records.specs.Shown.{AreLinesOf, IsAnswered, IsLineOf, IsTextOf, len_text}
+use Rattle.example_records.specs.Shown.{AreLinesOf, IsAnswered, IsLineOf, IsTextOf}
 use Rattle.example_records.specs.declared.command_error.CommandError.TheVariants.{Text, Unknown}
 
 -- a record more is shown
@@ -14,10 +12,13 @@ AreLinesOf-push [] c lines line none is = (line, [], is, refl, ap (λ front. fro
 AreLinesOf-push (d ∷ cs) c lines line are is =
     (are.0, are.1 ++ line, are.2, AreLinesOf-push cs c are.1 line are.3 is, ap (λ front. front ++ line) are.4 ∙ append_assoc are.0 are.1 line)
 
--- how long a stream is that has not just one byte
-pub more_bytes : (len : ℕ) → len ≢ 1 → decimal len ++ (codes " bytes" ++ 10 ∷ []) ≡ len_text len ++ 10 ∷ []
-more_bytes len other =
-    sym (ap (λ one. (if one then codes "1 byte" else decimal len ++ codes " bytes") ++ 10 ∷ []) (ne_eqb len 1 other) ∙ append_assoc (decimal len) (codes " bytes") (10 ∷ []))
+-- the text grew by a line for each record
+abbrev pub GrewBy : List Said → (old new : List ℕ) → Type 0
+GrewBy cs old new = (lines : List ℕ) × AreLinesOf cs lines × (new ≡ old ++ lines)
+
+pub GrewBy-push : (cs : List Said) (c : Said) (old mid new line : List ℕ) → GrewBy cs old mid → IsLineOf c line → new ≡ mid ++ line → GrewBy (cs ++ c ∷ []) old new
+GrewBy-push cs c old mid new line so_far is grown =
+    (so_far.0 ++ line, AreLinesOf-push cs c so_far.0 line so_far.1 is, grown ∙ ap (λ text. text ++ line) so_far.2 ∙ append_assoc old so_far.0 line)
 
 -- what `run` answered, and the text of it
 pub answered : (line old new text : List ℕ) (answer said : Answer) → Answers (Commands line) old new answer → ((IsUtf8 line → ⊥) → answer ≡ Err Text)

@@ -1,8 +1,10 @@
 //! The answer to a line.
-ghost use Rattle.std.specs.Prelude.{IfOk, string_bytes};
-ghost use Rattle.example_records.specs.Shown.{IsAnswered};
+ghost use Rattle.std.specs.Prelude.{◌≡◌, ◌++◌, ◌∷◌, [], ℕ, List, OnOk, codes};
+ghost use Rattle.example_records.specs.Errors.{command_error_text};
+ghost use Rattle.example_records.specs.Shown.{IsAnswered, len_text};
 
-use crate::command::{run, shown};
+use crate::command::{push_shown, run};
+use crate::command_error::CommandError;
 use example_lines::Answer;
 use std::alloc::{AllocError, Global};
 
@@ -10,34 +12,59 @@ use std::alloc::{AllocError, Global};
 #[derive(Drop)]
 pub struct Records {
     pub stream: Vec<u8>,
+    /// The last piece of an answer. The next takes its memory.
+    pub piece: String,
 }
 
 impl Answer for Records {
     ghost IsAnswer = { λ old line text new. IsAnswered line old.stream.items new.stream.items text };
 
     fn answer(&mut self, alloc: Global, line: &[u8], text: &mut Vec<u8>) -> Result<(), AllocError> {
-        let said = answer_to(alloc, line, &mut self.stream)?;
-        Ok(text.extend_from_slice(said.as_bytes())?)
+        answer_to(alloc, line, &mut self.stream, &mut self.piece, text)
     }
 }
 
-// What the command on the line recovers, how long the stream then is, or why it is refused.
-fn answer_to(alloc: Global, line: &[u8], stream: &mut Vec<u8>) -> Result<String, AllocError>
-    ensures { IfOk result (λ text. IsAnswered line.now stream.old.items stream.new.items (string_bytes text)) }
+// Appends what the command on the line recovers, how long the stream then is, or why it is refused.
+fn answer_to(
+    alloc: Global,
+    line: &[u8],
+    stream: &mut Vec<u8>,
+    piece: &mut String,
+    text: &mut Vec<u8>,
+) -> Result<(), AllocError>
+    ensures { OnOk result ((said : List ℕ) × (text.new.items ≡ text.old.items ++ said)
+        × IsAnswered line.now stream.old.items stream.new.items said) }
 {
     match run(alloc, line, stream) {
         Ok(Some(recovered)) => {
-            let mut text = shown(alloc, &recovered)?;
-            text.push('\n')?;
-            Ok(text)
+            push_shown(text, piece, &recovered)?;
+            Ok(text.push(b'\n')?)
         }
-        Ok(None) => {
-            let len = stream.len();
-            if len == 1 {
-                return format!(in alloc; "1 byte\n");
-            }
-            format!(in alloc; "{len} bytes\n")
-        }
-        Err(error) => format!(in alloc; "refused: {error}\n"),
+        Ok(None) => push_len(text, piece, stream.len()),
+        Err(error) => push_refusal(text, error),
     }
+}
+
+// Appends how long the stream is.
+fn push_len(text: &mut Vec<u8>, piece: &mut String, len: usize) -> Result<(), AllocError>
+    ensures { OnOk result (text.new.items ≡ text.old.items ++ (len_text len ++ 10 ∷ [])) }
+{
+    if len == 1 {
+        text.extend_from_slice(b"1 byte\n")?;
+        return Ok(());
+    }
+    piece.clear();
+    write!(piece, "{len} bytes\n")?;
+    text.extend_from_slice(piece.as_bytes())?;
+    Ok(())
+}
+
+// Appends why a command is refused.
+fn push_refusal(text: &mut Vec<u8>, error: CommandError) -> Result<(), AllocError>
+    ensures { OnOk result
+        (text.new.items ≡ text.old.items ++ (codes "refused: " ++ (command_error_text error ++ 10 ∷ []))) }
+{
+    text.extend_from_slice(b"refused: ")?;
+    text.extend_from_slice(error.text().as_bytes())?;
+    Ok(text.push(b'\n')?)
 }

@@ -1,5 +1,5 @@
 //! The commands of the program.
-ghost use Rattle.std.specs.Prelude.{◌≡◌, ◌↔◌, ◌-◌, ◌^◌, ℕ, List, Err, codes, length, map, min, IfErr, IfOk, OnErr, IsTrue, IsUtf8, string_bytes};
+ghost use Rattle.std.specs.Prelude.{◌≡◌, ◌↔◌, ◌-◌, ◌^◌, ◌++◌, ℕ, List, Err, codes, length, map, min, IfErr, IfOk, OnErr, OnOk, IsTrue, IsUtf8, string_bytes};
 ghost use Rattle.std.specs.Option.{option_copied};
 ghost use Rattle.tinyvec_array.specs.ArrayVec.{items};
 ghost use Rattle.example_records.specs.Commands.{Answers, AreSamples, Commands, HasTag, IsCommand, IsMemoryOr, IsRecord, IsTold, Says, Tells};
@@ -40,19 +40,23 @@ pub fn run(
     }
 }
 
-/// The records, a line each, and then where they end, and why no more were read.
-pub fn shown(alloc: Global, recovered: &Recovered) -> Result<String, AllocError>
-    ensures { IfOk result (λ text.
-        IsShown (map said recovered.now.records.items) recovered.now.end (string_bytes text)) }
+/// Appends the records, a line each, and then where they end, and why no more were read.
+pub fn push_shown(
+    text: &mut Vec<u8>,
+    piece: &mut String,
+    recovered: &Recovered,
+) -> Result<(), AllocError>
+    ensures { OnOk result ((shown : List ℕ) × (text.new.items ≡ text.old.items ++ shown)
+        × IsShown (map said recovered.now.records.items) recovered.now.end shown) }
 {
-    let mut text = String::new(alloc);
+    // Each line is written apart: of a note that is not ASCII, `write!` does not state that the text before it stays.
     for reading in &recovered.records {
-        let line = shown_reading(alloc, reading)?;
-        text.push_str(line.as_str())?;
+        show_reading(piece, reading)?;
+        text.extend_from_slice(piece.as_bytes())?;
     }
-    let end = shown_end(alloc, recovered)?;
-    text.push_str(end.as_str())?;
-    Ok(text)
+    show_end(piece, recovered)?;
+    text.extend_from_slice(piece.as_bytes())?;
+    Ok(())
 }
 
 // Carries out the command of a text.
@@ -227,29 +231,31 @@ fn copy(alloc: Global, rest: &str, stream: &[u8]) -> Result<Option<Recovered>, C
     }
 }
 
-// The line of a record.
-fn shown_reading(alloc: Global, reading: &Reading) -> Result<String, AllocError>
-    ensures { IfOk result (λ text. IsLineOf (said reading.now) (string_bytes text)) }
+// The text becomes the line of a record.
+fn show_reading(text: &mut String, reading: &Reading) -> Result<(), AllocError>
+    ensures { OnOk result (IsLineOf (said reading.now) (string_bytes text.new)) }
 {
     let station = reading.station;
     let samples = &reading.samples;
+    text.clear();
     match str::from_utf8(reading.note.as_slice()) {
-        Ok(note) => format!(in alloc; "{station} {samples:?} {note:?}\n"),
+        Ok(note) => write!(text, "{station} {samples:?} {note:?}\n"),
         Err(_) => {
             let note = &reading.note;
-            format!(in alloc; "{station} {samples:?} {note:?}\n")
+            write!(text, "{station} {samples:?} {note:?}\n")
         }
     }
 }
 
-// Says where the records end, and why no more were read.
-fn shown_end(alloc: Global, recovered: &Recovered) -> Result<String, AllocError>
-    ensures { IfOk result (λ text. (bytes : List ℕ) → SpellsStream (map said recovered.now.records.items) bytes
-        → string_bytes text ≡ end_text (min (length bytes) (2 ^ 64 - 1)) recovered.now.end) }
+// The text becomes what says where the records end, and why no more were read.
+fn show_end(text: &mut String, recovered: &Recovered) -> Result<(), AllocError>
+    ensures { OnOk result ((bytes : List ℕ) → SpellsStream (map said recovered.now.records.items) bytes
+        → string_bytes text.new ≡ end_text (min (length bytes) (2 ^ 64 - 1)) recovered.now.end) }
 {
     let len = stream_len(recovered.records.as_slice());
+    text.clear();
     match recovered.end {
-        Ok(()) => format!(in alloc; "end after {len} bytes"),
-        Err(error) => format!(in alloc; "end after {len} bytes: {error}"),
+        Ok(()) => write!(text, "end after {len} bytes"),
+        Err(error) => write!(text, "end after {len} bytes: {error}"),
     }
 }

@@ -21,7 +21,8 @@ pub fn stream_len(readings: &[Reading]) -> u64
     len
 }
 
-fn frame_len(reading: &Reading) -> u64
+/// How many bytes a record takes in a stream, or `u64::MAX` if it takes more.
+pub fn frame_len(reading: &Reading) -> u64
     ensures { (bytes : List ℕ) → SpellsFrame (said reading.now) bytes → result ≡ min (length bytes) (2 ^ 64 - 1) }
 {
     let samples = 2 * reading.samples.len() as u64;

@@ -10,6 +10,7 @@ ghost use Rattle.example_records.specs.Stream.{BeginsWith, Gives, GivesCut, IsCo
 ghost use Rattle.example_records.specs.Stream.{SpellsStream, StandsBehind};
 ghost use Rattle.example_records.specs.declared.stream_error.StreamError.{StreamError};
 
+use crate::length::frame_len;
 use crate::reading::Reading;
 use crate::stream_error::StreamError;
 use std::alloc::{AllocError, Global};
@@ -54,7 +55,8 @@ pub fn append_to(alloc: Global, reading: &Reading, stream: &mut Vec<u8>) -> Resu
         × ReadingFits (said reading.now) × (stream.new.items ≡ stream.old.items ++ frame)) }
     ensures refused { OnErr result (stream.new.items ≡ stream.old.items) }
 {
-    let mut writer = Counted::new(Vec::new(alloc));
+    let len = frame_len(reading) as usize;
+    let mut writer = Counted::new(Vec::with_capacity(alloc, len)?);
     let Ok(()) = append(reading, &mut writer) else {
         return Err(AllocError);
     };

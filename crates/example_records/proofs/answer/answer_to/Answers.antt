@@ -1,41 +1,38 @@
-use Rattle.std.proofs.Common.{◌≡◌, ◌∙◌, ◌++◌, ◌∷◌, [], None, Some, Ok, Err, ap, length, rules, string_bytes, sym}
-use Rattle.std.proofs.lemmas.Result.{IfOk-weaker}
+use Rattle.std.proofs.Common.{◌≡◌, ◌∙◌, ◌++◌, ◌∷◌, [], None, Some, Ok, Err, ap, append_assoc, length, refl, rules}
+use Rattle.std.proofs.lemmas.Result.{on_ok_weaker}
 use Rattle.example_records.specs.Shown.{len_text}
-use Rattle.example_records.proofs.Showing.{answered, more_bytes}
+use Rattle.example_records.proofs.Showing.{answered}
 use Rattle.example_records.proofs.answer.answer_to.Goals as goal
 
-pub returns-then-len-eq1 : goal.returns-then-len-eq1
-returns-then-len-eq1 c =
-    let run = c.run.ensures in
-    let is : c.run.result ≡ Ok None = search rules in
-    let one : length c.run.new.stream.items ≡ 1 = search rules in
-    IfOk-weaker c.format.result _ _
-    (λ text same. answered c.args.line.now c.args.stream.now.items c.run.new.stream.items (string_bytes text) c.run.result (Ok None) run.answers run.text run.unknown run.tells is
-    (same ∙ ap (λ len. len_text len ++ 10 ∷ []) (sym one)))
-    c.format.ensures.ok
-
 pub returns-in_ok-push-in-Ok-Some : goal.returns-in_ok-push-in-Ok-Some
-unfolding lib.Utf8.encode
 returns-in_ok-push-in-Ok-Some c =
     let run = c.run.ensures in
-    let is : c.run.result ≡ Ok (Some c.in-Ok-Some.recovered) = search rules in
-    let shown = string_bytes c.in_ok-text-in-Ok-Some.text in
-    answered c.args.line.now c.args.stream.now.items c.run.new.stream.items (string_bytes c.push.new.self) c.run.result (Ok (Some c.in-Ok-Some.recovered)) run.answers run.text run.unknown run.tells is
-    (shown, c.in_ok-text-in-Ok-Some.ensures, c.in_ok-push-in-Ok-Some.ensures.bytes)
+    let recovered = c.in-Ok-Some.recovered in
+    let is : c.run.result ≡ Ok (Some recovered) = search rules in
+    let shown = c.in_ok-push_shown-in-Ok-Some.ensures in
+    let pushed : c.push.new.self.items ≡ c.push_shown.new.text.items ++ 10 ∷ [] = search rules in (
+      shown.0 ++ 10 ∷ [],
+      pushed ∙ ap (λ text. text ++ 10 ∷ []) shown.1 ∙ append_assoc c.args.text.now.items shown.0 (10 ∷ []),
+      answered c.args.line.now c.args.stream.now.items c.run.new.stream.items _ c.run.result (Ok (Some recovered)) run.answers run.text run.unknown run.tells is (shown.0, shown.2, refl),
+    )
 
-pub returns-else-len-eq1 : goal.returns-else-len-eq1
-returns-else-len-eq1 c =
+pub returns-in-Ok-None : goal.returns-in-Ok-None
+returns-in-Ok-None c =
     let run = c.run.ensures in
     let is : c.run.result ≡ Ok None = search rules in
-    let len : c.len-len.result ≡ length c.run.new.stream.items = search rules in
-    IfOk-weaker c.format-in-Ok-None.result _ _
-    (λ text same. answered c.args.line.now c.args.stream.now.items c.run.new.stream.items (string_bytes text) c.run.result (Ok None) run.answers run.text run.unknown run.tells is
-    (same ∙ more_bytes c.len-len.result c.if-len-eq1.false ∙ ap (λ n. len_text n ++ 10 ∷ []) len))
-    c.format-in-Ok-None.ensures.ok
+    let len : c.len.result ≡ length c.run.new.stream.items = search rules in
+    on_ok_weaker c.push_len.result
+    (λ grown. (
+      _,
+      grown,
+      answered c.args.line.now c.args.stream.now.items c.run.new.stream.items _ c.run.result (Ok None) run.answers run.text run.unknown run.tells is
+          (ap (λ n. len_text n ++ 10 ∷ []) len),
+    ))
+    c.push_len.ensures
 
 pub returns-in-Err : goal.returns-in-Err
 returns-in-Err c =
     let run = c.run.ensures in
-    IfOk-weaker c.format-in-Err.result _ _
-    (λ text same. answered c.args.line.now c.args.stream.now.items c.run.new.stream.items (string_bytes text) c.run.result (Err c.in-Err.error) run.answers run.text run.unknown run.tells c.in-Err.is same)
-    c.format-in-Err.ensures.ok
+    on_ok_weaker c.push_refusal.result
+    (λ grown. (_, grown, answered c.args.line.now c.args.stream.now.items c.run.new.stream.items _ c.run.result (Err c.in-Err.error) run.answers run.text run.unknown run.tells c.in-Err.is refl))
+    c.push_refusal.ensures

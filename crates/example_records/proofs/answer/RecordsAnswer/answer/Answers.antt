@@ -1,5 +1,0 @@
-use Rattle.std.proofs.Common.{string_bytes, rules}
-use Rattle.example_records.proofs.answer.RecordsAnswer.answer.Goals as goal
-
-pub returns-clause-answered : goal.returns-clause-answered
-returns-clause-answered c = (string_bytes c.in_ok-said.said, search rules, c.in_ok-said.ensures)
