@@ -12,7 +12,8 @@ use std::alloc::{AllocError, Global};
 #[derive(Drop)]
 pub struct Records {
     pub stream: Vec<u8>,
-    /// The last piece of an answer. The next takes its memory.
+    /// The last answer. The next takes its memory, as a piece of it takes that of the last.
+    pub said: Vec<u8>,
     pub piece: String,
 }
 
@@ -20,7 +21,15 @@ impl Answer for Records {
     ghost IsAnswer = { λ old line text new. IsAnswered line old.stream.items new.stream.items text };
 
     fn answer(&mut self, alloc: Global, line: &[u8], text: &mut Vec<u8>) -> Result<(), AllocError> {
-        answer_to(alloc, line, &mut self.stream, &mut self.piece, text)
+        self.said.clear();
+        answer_to(
+            alloc,
+            line,
+            &mut self.stream,
+            &mut self.piece,
+            &mut self.said,
+        )?;
+        Ok(text.extend_from_slice(self.said.as_slice())?)
     }
 }
 

@@ -33,6 +33,7 @@ fn answer_input(rt: &HostRuntime) -> Result<(), Failure> {
     let writer = BufWriter::new(rt.alloc(), rt.stdout()).map_err(Failure::Output)?;
     let mut records = Records {
         stream: Vec::new(rt.alloc()),
+        said: Vec::new(rt.alloc()),
         piece: String::new(rt.alloc()),
     };
     answer_lines(
