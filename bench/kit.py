@@ -52,9 +52,9 @@ INLINE = COPIED | {
     r"\bmade\.as_bytes\(\)": "made.as_str().as_bytes()",
 }
 # Rows that the toolchain's vectors do not have.
-OF_OWN = r"\bof_(lent|long_lists|slice_edits|slots|text_own|tiny_calls|tiny_forms)\b|mod (long|prints|slot_calls|text_own|tiny_(calls|own));"
+OF_OWN = r"\bof_(lent|long_lists|slice_edits|slots|text_own|tiny_calls|tiny_forms)\b|mod (long|slot_calls|text_own|tiny_(calls|own));"
 NOT_INLINE = OF_OWN + (
-    r"|mod (calls|form|growth|nodes|slices|splicing|text_calls|text_more);|\bof_(arrays|forms|lists|nodes|slices|text_calls)\b"
+    r"|mod (calls|form|growth|nodes|prints|slices|splicing|text_calls|text_more);|\bof_(arrays|forms|lists|nodes|slices|text_calls)\b"
     r"|of_cuts::<R, ArrayVec|\bsplices\b|\"(extract_half|splice_more)\"|of_texts::<R, (2|8|32)>"
 )
 
@@ -69,9 +69,6 @@ STD = COPIED | {
     r"self\.replace_range\((.*), numbers\)": r"self.splice(\1, numbers.iter().copied())",
     r"alloc, Place::Inline\b": "alloc, Place::Heap",
     r"InlineText<\w+>|InlineText": "String",
-    # A `String` does not tell how many bytes an array has.
-    r"\bof_more_texts\(": "of_more_texts::<R, N>(",
-    r"\bMoreTexts \{": "MoreTexts::<N> {",
 }
 NOT_STD = OF_OWN + r"|mod (arrays|form|growth|nodes|slices);|\bof_(arrays|forms|lists|nodes|slices)\b|\"extract_half\""
 

@@ -22,6 +22,7 @@ GROUPS = {
     "`TinyVec` of items with a drop": "tiny_nodes_",
     "`SliceVec`": "slice_",
     "`InlineText`": "text_",
+    "`InlineText` on the heap": "heap_text_",
     "Borsh form": "borsh_",
 }
 

@@ -4,12 +4,18 @@ use crate::texts::look_at;
 
 /// A text that is made.
 pub trait Letters: Default {
+    /// Makes room for so many bytes, if it is not there.
+    fn reserve(&mut self, count: usize);
     fn push(&mut self, letter: char);
     fn push_str(&mut self, letters: &str);
     fn as_bytes(&self) -> &[u8];
 }
 
 impl Letters for String {
+    fn reserve(&mut self, count: usize) {
+        self.reserve(count);
+    }
+
     fn push(&mut self, letter: char) {
         self.push(letter);
     }
@@ -24,6 +30,8 @@ impl Letters for String {
 }
 
 impl Letters for arrayvec::ArrayString<64> {
+    fn reserve(&mut self, _count: usize) {}
+
     fn push(&mut self, letter: char) {
         self.push(letter);
     }
@@ -41,6 +49,10 @@ impl Letters for arrayvec::ArrayString<64> {
 macro_rules! letters {
     ($vector:ty) => {
         impl Letters for $vector {
+            fn reserve(&mut self, count: usize) {
+                self.reserve(count);
+            }
+
             fn push(&mut self, letter: char) {
                 self.push(letter as u8);
             }
@@ -63,6 +75,15 @@ letters!(smallvec::SmallVec<[u8; 64]>);
 #[inline(never)]
 pub fn text_mail_date<L: Letters>(made: &mut L, x: u64) -> u64 {
     *made = L::default();
+    push_mail_date(made, (x % 8) as u8);
+    look_at(made.as_bytes(), x)
+}
+
+/// The same in room that is made once.
+#[inline(never)]
+pub fn text_mail_date_reserved<L: Letters>(made: &mut L, x: u64) -> u64 {
+    *made = L::default();
+    made.reserve(31);
     push_mail_date(made, (x % 8) as u8);
     look_at(made.as_bytes(), x)
 }

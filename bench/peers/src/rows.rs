@@ -3,7 +3,7 @@
 use crate::benchmarks::*;
 use crate::calls::runs_of;
 use crate::comparing::{compare, equal, hash, hash_key};
-use crate::dates::{text_iso_date, text_mail_date, Letters};
+use crate::dates::{text_iso_date, text_mail_date, text_mail_date_reserved, Letters};
 use crate::form::{borsh_read, borsh_write};
 use crate::growing::Growing;
 use crate::nodes::Node;
@@ -305,4 +305,5 @@ pub fn of_dates<L: Letters>(report: &Report) {
     let mut made = L::default();
     report.row("text_mail_date", 64, |x| text_mail_date(&mut made, x));
     report.row("text_iso_date", 64, |x| text_iso_date(&mut made, x));
+    report.row("text_mail_date_reserved", 64, |x| text_mail_date_reserved(&mut made, x));
 }

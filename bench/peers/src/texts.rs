@@ -1,4 +1,10 @@
-//! Short texts in std's `String`.
+//! Texts in std's `String`.
+
+use crate::comparing::hash;
+use crate::report::Report;
+use crate::sources::LETTERS;
+use std::fmt::Write;
+use std::hint::black_box;
 
 /// Makes a new text, to which `text` is added.
 #[inline(never)]
@@ -22,4 +28,91 @@ pub fn text_push(made: &mut String, text: &str, x: u64) -> u64 {
 pub fn look_at(bytes: &[u8], x: u64) -> u64 {
     let byte = bytes.get((x % 64) as usize).map_or(0, |b| *b as u64);
     x.wrapping_add(byte).wrapping_add(bytes.len() as u64)
+}
+
+/// The calls of a text of `n` bytes, with room for some more.
+pub fn of_text_calls(report: &Report, n: usize) {
+    let letters = LETTERS.repeat(n / 64);
+    let mut text = String::with_capacity(n + 16);
+    text.push_str(&letters);
+    let like = text.clone();
+    report.row("text_insert_front", n, |_| insert_front(&mut text));
+    report.row("text_compare", n, |x| x ^ u64::from(*black_box(&text) < like));
+    report.row("text_as_str", n, |x| look_at(black_box(&text).as_str().as_bytes(), x));
+    let mut out = String::new();
+    report.row("text_display", n, |x| {
+        out.clear();
+        let _ = write!(out, "{text}");
+        look_at(out.as_bytes(), x)
+    });
+    report.row("text_collect", n, |x| look_at_new(&letters, |it| it.chars().collect(), x));
+    report.row("text_push_pieces", n, |x| look_at_new(&letters, of_pieces, x));
+    report.row("text_write_and_truncate", n, |_| write_and_truncate(&mut text));
+    report.row("text_extend_from_within", n, |_| extend_from_within(&mut text));
+    report.row("text_push_five", n, |_| push_five(&mut text));
+    report.row("text_hash", n, |x| hash(&text, x));
+    report.row("text_reserve_and_shrink", n, |_| reserve_and_shrink(&mut text, &letters));
+}
+
+/// A copy of `n` letters.
+pub fn of_text_own(report: &Report, n: usize) {
+    let letters = LETTERS.repeat(n / 64);
+    report.row("text_from_str", n, |x| look_at_new(&letters, str::to_owned, x));
+}
+
+/// Looks at what is made of the letters, which LLVM does not leave out.
+#[inline(never)]
+fn look_at_new(letters: &str, make: impl Fn(&str) -> String, x: u64) -> u64 {
+    let text = make(letters);
+    black_box(&text);
+    look_at(text.as_bytes(), x)
+}
+
+fn of_pieces(letters: &str) -> String {
+    let mut text = String::new();
+    for _ in 0..letters.len() / 8 {
+        text.push_str("01234567");
+    }
+    text
+}
+
+#[inline(never)]
+fn insert_front(text: &mut String) -> u64 {
+    text.insert(0, 'x');
+    text.remove(0) as u64
+}
+
+#[inline(never)]
+fn write_and_truncate(text: &mut String) -> u64 {
+    let len = text.len();
+    let _ = text.write_str("01234567");
+    text.truncate(len);
+    len as u64
+}
+
+#[inline(never)]
+fn extend_from_within(text: &mut String) -> u64 {
+    let len = text.len();
+    text.extend_from_within(0..len / 2);
+    text.truncate(len);
+    len as u64
+}
+
+#[inline(never)]
+fn push_five(text: &mut String) -> u64 {
+    let len = text.len();
+    text.push_str("Sat");
+    text.push_str(", ");
+    text.push('x');
+    text.push(' ');
+    text.push_str("July");
+    text.truncate(len);
+    len as u64
+}
+
+#[inline(never)]
+fn reserve_and_shrink(text: &mut String, letters: &str) -> u64 {
+    text.reserve(letters.len() * 2);
+    text.shrink_to_fit();
+    text.len() as u64
 }

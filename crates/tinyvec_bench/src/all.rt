@@ -155,7 +155,7 @@ fn in_texts<R: Report>(report: &mut R, alloc: Global) {
     of_texts::<R, 32>(report, InlineText::new(alloc), alloc, 64);
     of_dates::<R, 64>(report, InlineText::new(alloc), alloc);
     of_text_calls::<R, 128>(report, alloc, 64);
-    of_text_own::<R, 128>(report, alloc, 64);
+    of_text_own::<R, 64>(report, alloc, 64);
     report.set_prefix("heap_");
     of_text_calls::<R, 16>(report, alloc, 64);
     report.set_prefix("");

@@ -1,4 +1,5 @@
 //! Dates that are printed piece by piece into a new text, as the header of a mail has them and as ISO 8601 does.
+ghost use Rattle.std.specs.Prelude.{◌≡◌, length};
 
 use crate::report::{Bench, Report, run};
 use crate::texts::look_at;
@@ -106,7 +107,10 @@ fn push_two<const N: usize>(made: &mut InlineText<N>, n: u8) -> Result<(), Refus
     Ok(())
 }
 
-fn weekday(n: u8) -> &'static str {
+/// The name of a day, in three letters.
+pub fn weekday(n: u8) -> &'static str
+    ensures { length result.now ≡ 3 }
+{
     match n {
         0 => "Mon",
         1 => "Tue",
@@ -118,7 +122,10 @@ fn weekday(n: u8) -> &'static str {
     }
 }
 
-fn month(n: u8) -> &'static str {
+/// The name of a month, in three letters.
+pub fn month(n: u8) -> &'static str
+    ensures { length result.now ≡ 3 }
+{
     match n {
         1 => "Jan",
         2 => "Feb",

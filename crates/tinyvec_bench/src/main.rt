@@ -27,6 +27,7 @@ mod sources;
 mod spilling;
 mod splicing;
 mod text_calls;
+mod text_more;
 mod text_own;
 mod texts;
 mod tiny;

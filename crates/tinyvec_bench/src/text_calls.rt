@@ -1,8 +1,10 @@
 //! Calls of a text that has bytes, in its array or on the heap. Each row leaves the text as it was.
 ghost use Rattle.std.specs.Prelude.{◌*◌, ◌^◌, ◌<◌};
 
+use crate::prints::{Print, PrintBench};
 use crate::report::{Bench, Report, run};
 use crate::sources::letters_of;
+use crate::text_more::more;
 use crate::texts::look_at;
 use std::alloc::Global;
 use tinyvec_text::InlineText;
@@ -39,6 +41,7 @@ pub enum TextCopy {
 /// A text, one like it, and the letters of both.
 #[derive(Drop)]
 pub struct TextCalls<'a, const N: usize> {
+    pub alloc: Global,
     pub text: InlineText<N>,
     pub like: InlineText<N>,
     pub letters: &'a str,
@@ -88,6 +91,7 @@ pub fn of_text_calls<R: Report, const N: usize>(report: &mut R, alloc: Global, c
     let source = letters_of(alloc, count);
     let letters = source.as_str();
     let mut calls = TextCalls::<N> {
+        alloc,
         text: made::<N>(alloc, letters),
         like: made::<N>(alloc, letters),
         letters,
@@ -95,6 +99,13 @@ pub fn of_text_calls<R: Report, const N: usize>(report: &mut R, alloc: Global, c
     edits(report, count, &mut calls);
     replacements(report, count, &mut calls);
     copies(report, count, &mut calls);
+    let mut out = String::new(alloc);
+    let mut list = PrintBench {
+        vec: &calls.text,
+        text: &mut out,
+    };
+    run(report, "text_display", count, Print::Display, &mut list);
+    more(report, count, &mut calls);
 }
 
 // The text of these letters, with room for some more.
