@@ -1,5 +1,6 @@
 //! Callers of a `TinyVec`: one list, and where it is.
-ghost use Rattle.std.specs.Prelude.{◌≡◌, ◌+◌, ◌-◌, ◌<◌, ◌≤◌, ◌++◌, ◌∷◌, [], pos, slice_get, slice_set, false, IsTrue, IsOk, OnOk, OnErr};
+ghost use Rattle.std.specs.Prelude.{◌≡◌, ◌==◌, ◌+◌, ◌-◌, ◌%◌, ◌<◌, ◌≤◌, ◌++◌, ◌∷◌, [], pos, slice_get, slice_set, false, IsTrue, IsOk, OnOk, OnErr};
+ghost use Rattle.std.specs.List.{filter};
 ghost use Rattle.tinyvec.specs.Ranges.{IsRangeOf, before, removed, after};
 ghost use Rattle.tinyvec.specs.TinyVec.{tiny_items, tiny_items_of, tiny_len, tiny_len_of, tiny_spare, tiny_spare_of, is_inline, IsInline, tiny_view_of};
 ghost use Rattle.tinyvec.specs.View.{Becomes, Unchanged};
@@ -124,6 +125,13 @@ pub fn middle_drained(alloc: Global) -> TinyVec<[i32; 4]>
         let _two = d.next();
     }
     v
+}
+
+/// Keeps the even numbers, in order.
+pub fn keep_even(v: &mut TinyVec<[u32; 16]>)
+    ensures { tiny_items v.new ≡ filter (λ x. x % 2 == 0) (tiny_items v.old) }
+{
+    v.retain(|x| *x % 2 == 0);
 }
 
 /// The list cut in two and joined again is the same list.

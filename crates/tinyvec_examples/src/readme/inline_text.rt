@@ -1,7 +1,7 @@
-//! A name joined from its parts.
-ghost use Rattle.std.specs.Prelude.{◌≡◌, ◌+◌, ◌≤◌, ◌++◌, ◌∷◌, [], ◌↔◌, length, chars, IsTrue, IfOk};
-ghost use Rattle.tinyvec.specs.View.{lies_inline};
-ghost use Rattle.tinyvec_text.specs.InlineText.{text_chars};
+//! A name joined from its parts, and a line.
+ghost use Rattle.std.specs.Prelude.{◌≡◌, ◌+◌, ◌≤◌, ◌++◌, ◌∷◌, [], ◌↔◌, length, chars, codes, IsTrue, IfOk, OnOk};
+ghost use Rattle.tinyvec.specs.View.{lies_inline, capacity_in};
+ghost use Rattle.tinyvec_text.specs.InlineText.{text_chars, text_len};
 
 use std::alloc::{AllocError, Global};
 use tinyvec_text::InlineText;
@@ -15,4 +15,23 @@ pub fn full_name(alloc: Global, first: &str, last: &str) -> Result<InlineText<22
     name.push(' ')?;
     name.push_str(last)?;
     Ok(name)
+}
+
+/// Appends a line, by pushes that cannot fail.
+pub fn push_line(text: &mut InlineText<64>, path: &str) -> Result<(), AllocError>
+    ensures { OnOk result (text.new.bytes ≡ text.old.bytes ++ codes "GET " ++ path.now ++ codes " HTTP/1.1") }
+{
+    text.reserve(path.len() + 13)?;
+    put(text, "GET ");
+    put(text, path);
+    put(text, " HTTP/1.1");
+    Ok(())
+}
+
+fn put(text: &mut InlineText<64>, piece: &str)
+    requires { text_len text.old + length piece.now ≤ capacity_in 64 text.old.place }
+    ensures bytes { text.new.bytes ≡ text.old.bytes ++ piece.now }
+    ensures capacity { capacity_in 64 text.new.place ≡ capacity_in 64 text.old.place }
+{
+    text.push_str_reserved(piece);
 }

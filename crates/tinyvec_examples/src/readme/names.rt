@@ -40,11 +40,3 @@ pub fn name(names: &Names, i: usize) -> &str
         None => unreachable!(),
     }
 }
-
-/// Whether there are two names, which are the same.
-pub fn are_twins(names: &Names) -> bool {
-    match names.as_slice() {
-        [Some(one), Some(other)] => one == other,
-        _ => false,
-    }
-}
