@@ -52,7 +52,7 @@ INLINE = COPIED | {
     r"\bmade\.as_bytes\(\)": "made.as_str().as_bytes()",
 }
 # Rows that the toolchain's vectors do not have.
-OF_OWN = r"\bof_(lent|long_lists|slice_edits|slots|text_own|tiny_calls|tiny_forms)\b|mod (long|slot_calls|text_own|tiny_(calls|own));"
+OF_OWN = r"\bof_(front_half|lent|long_lists|slice_edits|slots|text_forms|text_own|tiny_calls|tiny_forms)\b|mod (long|slot_calls|text_own|tiny_(calls|own));"
 NOT_INLINE = OF_OWN + (
     r"|mod (calls|form|growth|nodes|prints|slices|splicing|text_calls|text_more);|\bof_(arrays|forms|lists|nodes|slices|text_calls)\b"
     r"|of_cuts::<R, ArrayVec|\bsplices\b|\"(extract_half|splice_more)\"|of_texts::<R, (2|8|32)>"

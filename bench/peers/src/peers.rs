@@ -8,7 +8,7 @@ use crate::rows::{
     of_bytes, of_dates, of_few, of_forms, of_heap, of_inline, of_long, of_long_array, of_long_lists, of_nodes, of_slice_edits,
     of_slices, of_spilling, of_texts, of_words,
 };
-use crate::texts::{of_text_calls, of_text_own};
+use crate::texts::{of_front_half, of_text_calls, of_text_own};
 
 /// The lengths of a list that grows.
 const LENGTHS: [usize; 10] = [4, 16, 64, 256, 1024, 4096, 16384, 65536, 262144, 1048576];
@@ -173,10 +173,14 @@ pub fn rows_of(peer: Option<&str>, report: Report) -> bool {
             of_dates::<String>(&report);
             of_text_calls(&report, 64);
             of_text_own(&report, 64);
-            of_text_calls(&report.with_prefix("heap_"), 64);
+            let heap = report.with_prefix("heap_");
+            of_text_calls(&heap, 64);
+            of_text_own(&heap, 64);
+            of_front_half(&heap, 64);
             of_text_calls(&report, 1024);
             of_text_calls(&report, 16384);
             of_text_own(&report, 16384);
+            of_front_half(&report, 16384);
         }
         _ => return false,
     }

@@ -5,6 +5,7 @@ use crate::report::Report;
 use crate::sources::LETTERS;
 use std::fmt::Write;
 use std::hint::black_box;
+use std::mem;
 
 /// Makes a new text, to which `text` is added.
 #[inline(never)]
@@ -54,10 +55,19 @@ pub fn of_text_calls(report: &Report, n: usize) {
     report.row("text_reserve_and_shrink", n, |_| reserve_and_shrink(&mut text, &letters));
 }
 
-/// A copy of `n` letters.
+/// A copy of `n` letters, and the bytes of one.
 pub fn of_text_own(report: &Report, n: usize) {
     let letters = LETTERS.repeat(n / 64);
     report.row("text_from_str", n, |x| look_at_new(&letters, str::to_owned, x));
+    let mut made = letters.clone();
+    report.row("text_through_bytes", n, |x| through_bytes(&mut made, x));
+}
+
+/// The first half of a text of `n` bytes, taken off.
+pub fn of_front_half(report: &Report, n: usize) {
+    let letters = LETTERS.repeat(n / 64);
+    let mut made = String::new();
+    report.row("text_drain", n, |x| front_half(&mut made, &letters, x));
 }
 
 /// Looks at what is made of the letters, which LLVM does not leave out.
@@ -74,6 +84,23 @@ fn of_pieces(letters: &str) -> String {
         text.push_str("01234567");
     }
     text
+}
+
+#[inline(never)]
+fn through_bytes(made: &mut String, x: u64) -> u64 {
+    let Ok(text) = String::from_utf8(mem::take(made).into_bytes()) else {
+        return 0;
+    };
+    *made = text;
+    look_at(made.as_bytes(), x)
+}
+
+#[inline(never)]
+fn front_half(made: &mut String, letters: &str, x: u64) -> u64 {
+    made.clear();
+    made.push_str(letters);
+    let front = made.drain(0..letters.len() / 2);
+    look_at(front.as_str().as_bytes(), x)
 }
 
 #[inline(never)]

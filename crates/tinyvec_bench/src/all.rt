@@ -16,7 +16,7 @@ use crate::sources::pairs;
 use crate::spilling::{of_long, of_spilling};
 use crate::splicing::splices;
 use crate::text_calls::of_text_calls;
-use crate::text_own::of_text_own;
+use crate::text_own::{of_front_half, of_text_own};
 use crate::texts::of_texts;
 use crate::tiny_calls::of_tiny_calls;
 use crate::vector::{Place, Vector, Words};
@@ -158,10 +158,13 @@ fn in_texts<R: Report>(report: &mut R, alloc: Global) {
     of_text_own::<R, 64>(report, alloc, 64);
     report.set_prefix("heap_");
     of_text_calls::<R, 16>(report, alloc, 64);
+    of_text_own::<R, 16>(report, alloc, 64);
+    of_front_half(report, alloc, 64);
     report.set_prefix("");
     of_text_calls::<R, 16>(report, alloc, 1024);
     of_text_calls::<R, 16>(report, alloc, 16384);
     of_text_own::<R, 16>(report, alloc, 16384);
+    of_front_half(report, alloc, 16384);
 }
 
 /// The lengths of a list that grows.

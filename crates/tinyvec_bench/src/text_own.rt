@@ -3,11 +3,13 @@ ghost use Rattle.std.specs.Prelude.{◌≡◌, ◌+◌, ◌*◌, ◌^◌, ◌<�
 ghost use Rattle.tinyvec.specs.View.{capacity_in};
 ghost use Rattle.tinyvec_text.specs.InlineText.{text_len};
 
+use crate::calls::rows;
 use crate::dates::{month, weekday};
-use crate::report::{Bench, Report, run};
+use crate::report::{Bench, Report};
 use crate::sources::letters_of;
 use crate::texts::look_at;
 use std::alloc::{AllocError, Global};
+use std::mem;
 use tinyvec_text::InlineText;
 
 /// What is done with the text.
@@ -15,6 +17,7 @@ use tinyvec_text::InlineText;
 pub enum OwnText {
     FromStr,
     IntoString,
+    ThroughBytes,
     MailDate,
 }
 
@@ -30,6 +33,7 @@ impl<const N: usize> Bench<OwnText> for OwnTexts<'_, N> {
     #[inline(always)]
     fn round(&mut self, benchmark: OwnText, x: u64) -> u64 {
         match benchmark {
+            OwnText::ThroughBytes => through_bytes::<N>(self.alloc, &mut self.made, x),
             OwnText::MailDate => mail_date::<N>(self.alloc, &mut self.made, x),
             _ => copied::<N>(self.alloc, &self.made, self.letters, benchmark, x),
         }
@@ -40,23 +44,34 @@ impl<const N: usize> Bench<OwnText> for OwnTexts<'_, N> {
 pub fn of_text_own<R: Report, const N: usize>(report: &mut R, alloc: Global, n: usize)
     requires { N * 64 < 2 ^ 63 }
 {
-    let letters = letters_of(alloc, n);
-    let mut own = OwnTexts::<N> {
+    let source = letters_of(alloc, n);
+    let letters = source.as_str();
+    let mut made: InlineText<N> = InlineText::new(alloc);
+    let _refused = made.push_str(letters);
+    let own = &mut OwnTexts::<N> {
+        alloc,
+        made,
+        letters,
+    };
+    rows!(report, n, own:
+        "text_from_str" OwnText::FromStr,
+        "text_into_string" OwnText::IntoString,
+        "text_through_bytes" OwnText::ThroughBytes,
+    );
+    if n <= N {
+        rows!(report, n, own: "text_mail_date_reserved" OwnText::MailDate,);
+    }
+}
+
+/// Those of a text of `n` bytes on the heap alone.
+pub fn of_front_half<R: Report>(report: &mut R, alloc: Global, n: usize) {
+    let source = letters_of(alloc, n);
+    let own = &mut OwnTexts::<16> {
         alloc,
         made: InlineText::new(alloc),
-        letters: letters.as_str(),
+        letters: source.as_str(),
     };
-    run(report, "text_from_str", n, OwnText::FromStr, &mut own);
-    run(report, "text_into_string", n, OwnText::IntoString, &mut own);
-    if n <= N {
-        run(
-            report,
-            "text_mail_date_reserved",
-            n,
-            OwnText::MailDate,
-            &mut own,
-        );
-    }
+    rows!(report, n, own: "text_drain" FrontHalf,);
 }
 
 // A new text of the letters, as it is or as a `String`.
@@ -80,6 +95,43 @@ fn copied<const N: usize>(
         }
         _ => look_at(text.as_bytes(), x),
     }
+}
+
+// The bytes of the text, and the text of them.
+#[inline(never)]
+fn through_bytes<const N: usize>(alloc: Global, made: &mut InlineText<N>, x: u64) -> u64 {
+    let taken = mem::replace(made, InlineText::new(alloc));
+    let Some(text) = InlineText::from_utf8_or_none(taken.into_bytes()) else {
+        return 0;
+    };
+    *made = text;
+    look_at(made.as_bytes(), x)
+}
+
+/// The first half of a text, taken off.
+#[derive(Clone, Copy)]
+pub struct FrontHalf;
+
+// With an array of any length it is not proved that a drain is small enough to be a value.
+impl Bench<FrontHalf> for OwnTexts<'_, 16> {
+    #[inline(always)]
+    fn round(&mut self, _benchmark: FrontHalf, x: u64) -> u64 {
+        front_half(&mut self.made, self.letters, x)
+    }
+}
+
+#[inline(never)]
+fn front_half(made: &mut InlineText<16>, letters: &str, x: u64) -> u64 {
+    made.clear();
+    let _refused = made.push_str(letters);
+    let half = made.len() / 2;
+    if !made.is_char_boundary(half) {
+        return 0;
+    }
+    let Ok(front) = made.drain(0..half) else {
+        return 0;
+    };
+    look_at(front.as_str().as_bytes(), x)
 }
 
 // The date of the row `text_mail_date`, in room that is made once, by pushes that cannot fail.
@@ -106,12 +158,20 @@ fn push_mail_date<const N: usize>(made: &mut InlineText<N>, n: u8)
     put_two::<N>(made, 20);
     put_two::<N>(made, n);
     put_letter::<N>(made, b' ');
-    put_two::<N>(made, n);
-    put_letter::<N>(made, b':');
-    put_two::<N>(made, n);
-    put_letter::<N>(made, b':');
-    put_two::<N>(made, n);
+    put_time::<N>(made, n);
     put::<N>(made, " +0000");
+}
+
+fn put_time<const N: usize>(made: &mut InlineText<N>, n: u8)
+    requires { text_len made.old + 8 ≤ capacity_in N made.old.place }
+    ensures len { text_len made.new ≡ text_len made.old + 8 }
+    ensures capacity { capacity_in N made.new.place ≡ capacity_in N made.old.place }
+{
+    put_two::<N>(made, n);
+    put_letter::<N>(made, b':');
+    put_two::<N>(made, n);
+    put_letter::<N>(made, b':');
+    put_two::<N>(made, n);
 }
 
 // A push whose contract says no more than the next one needs.
