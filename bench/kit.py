@@ -152,7 +152,7 @@ def main():
         crate.out.mkdir(parents=True, exist_ok=True)
         begin_with(crate.base, crate)
         crates.say(f"{NAME}, {name}: proved and built now")
-        if not Run([crate], is_told=False).build(crate, crates.CORES):
+        if not Run([crate]).build(crate, crates.CORES):
             sys.exit(f"{crate.out}/build.log: not proved")
 
 

@@ -1,10 +1,8 @@
 """The crates of this repository, and how they are proved side by side, over what earlier runs kept.
 
-As long as `rt` works in a crate's folder, it keeps every other `rt` out of it and out of the folders below, so that two
-crates over one library would be proved in turn. Here each is proved in a copy: a repository of its own, inside the crate's
-out/, that has the crate and those below it, while this process keeps others out of the folders themselves. A copy also
-holds the sources still: an edit made meanwhile is seen by the next run, and a run that is cut off leaves nothing
-half-made in out/.
+`rt` keeps every other `rt` out of a crate's folder and of those below, so that two crates over one library would be proved in
+turn. Here each is proved in a copy inside its out/, a repository of the crate and those below it, while this process keeps others
+out of the folders themselves. An edit made meanwhile is seen by the next run, and a run that is cut off leaves nothing half-made.
 """
 import concurrent.futures
 import contextlib
@@ -29,12 +27,16 @@ PARTS = ("src", "specs", "proofs")
 # As `nproc` counts them.
 CORES = len(os.sched_getaffinity(0))
 
-# What rt says of how far it is. Its first count may take a minute.
-COUNT = re.compile(r"^so far: (\d+) of (\d+) functions checked")
-WAITING = re.compile(r"^rt: .*\bwaiting for ")
+# Seconds that a program or a test may run, also on a busy machine.
+LIMIT = 300
 
-# Goes to the start of a terminal's line, and removes what stands there.
-CLEAR = "\r\033[K"
+# The lines that say what is wrong: of the prover, of rt, and of a test with what it printed.
+TELLING = re.compile(
+    r"^.*\berror(?:\[[\w-]+\])?: .*$|^note: \S+: it is not proved.*$|^fn \S+: (?:not proved|no proof).*$"
+    r"|^test \S+ \.\.\. FAILED\n(?:    .*\n?)*|^call=.*$|^checked: .*$",
+    re.M,
+)
+MOST_LINES = 30
 
 # By this an edit of a body has `./check` leave the crates above alone, which saves minutes each time. What a built library has
 # that no proof above can cite: its code, the proofs of single functions, sums over all of it, and
@@ -87,10 +89,6 @@ class Crate:
     def statements(self):
         """Differs where anything differs that a proof above can cite, but neither by a body nor by the proof of one."""
         return text_of(self.out / "statements")
-
-    def took_last(self):
-        """How many seconds it took to prove and build the crate when that was last done here, or None."""
-        return int(text_of(self.out / "took") or 0) or None
 
     def has_tests(self):
         return any(path.endswith(".rt") and b"#[test]" in text for path, text in self.sources.items())
@@ -186,7 +184,14 @@ def sum_of_file(file):
 
 
 def text_of(file):
-    return file.read_text(encoding="utf-8") if file.is_file() else ""
+    return file.read_text(encoding="utf-8", errors="replace") if file.is_file() else ""
+
+
+def telling(said):
+    """The lines that say what is wrong, or the last ones."""
+    lines = "\n".join(it[0].rstrip() for it in TELLING.finditer(said)).splitlines() or said.splitlines()[-MOST_LINES:]
+    more = len(lines) - MOST_LINES
+    return lines[:MOST_LINES] + [f"and {more} lines more"] * (more > 0)
 
 
 def statements_of(library):
@@ -201,13 +206,10 @@ def statements_of(library):
 
 def require_rt():
     if not shutil.which("rt"):
-        sys.exit(
-            "The command `rt`, which proves and builds the crates, is not on the path: take the version that README.md names, "
-            "and add the folder of its `rt` to PATH."
-        )
+        sys.exit("The command `rt` is not on the path: take the version that README.md names, and add its folder to PATH.")
 
 
-@functools.lru_cache(maxsize=None)
+@functools.cache
 def kit():
     return subprocess.run(["rt", "version"], check=True, stdin=subprocess.DEVNULL, stdout=subprocess.PIPE).stdout
 
@@ -215,16 +217,14 @@ def kit():
 def lock(crates):
     """Keeps other runs of these scripts, and of rt, out of the crates' folders until this process ends, or closes the files
     that are returned."""
-    has_told, held = False, []
+    held = []
     # In the order in which rt takes them, so that no two runs wait for each other.
     for crate in sorted(crates, key=lambda it: str(it.folder)):
         held.append(os.open(crate.folder, os.O_RDONLY))
         try:
             fcntl.flock(held[-1], fcntl.LOCK_EX | fcntl.LOCK_NB)
         except BlockingIOError:
-            if not has_told:
-                say(f"waiting for another run, which works on {crate.name}, to end")
-                has_told = True
+            say(f"waiting for another run, which works on {crate.name}, to end")
             fcntl.flock(held[-1], fcntl.LOCK_EX)
     return held
 
@@ -307,32 +307,25 @@ class Copy:
 
 
 class Run:
-    """Runs rt for some crates side by side, and says on standard error how far it is.
+    """Runs rt for some crates side by side. `expected` is how many seconds that may take."""
 
-    On a terminal that is one line, which is written over. Elsewhere it is, where it is asked for, a line where a crate begins
-    and one where it ends.
-    """
-
-    def __init__(self, crates, is_told=True, expected=None):
+    def __init__(self, crates, expected=None):
         self.read_at = time.time()
         for crate in crates:
             # One state of all sources is proved, and not of each crate when its turn comes.
             _ = crate.files
-        self.number, self.is_told, self.is_terminal, self.expected = len(crates), is_told, sys.stderr.isatty(), expected
-        self.begun, self.begun_at, self.states = time.monotonic(), {}, {}
+        self.number, self.expected, self.begun, self.begun_at = len(crates), expected, time.monotonic(), {}
         self.started, self.is_stopped, self.ended = [], False, set()
         self.guard = threading.RLock()
 
     def build(self, crate, jobs):
         """Proves and builds a crate over those below it. Returns whether it is proved."""
-        began = time.monotonic()
         with Copy(crate) as copy:
             # The program is run too, on no input: its status tells nothing, but rt's mark does.
             self.rt(crate, copy.folder, ["run" if crate.is_program else "lib", "--jobs", str(jobs)], "build.log")
             is_proved = all((copy.out / it).exists() for it in [*crate.made, crate.mark])
             if is_proved:
                 copy.publish()
-                (crate.out / "took").write_text(f"{max(1, round(time.monotonic() - began))}\n", encoding="utf-8")
         return is_proved
 
     def build_all(self, crates):
@@ -344,12 +337,8 @@ class Run:
                 raise NotProved(crate)
             self.ends(crate, "proved and built")
 
-        steps = {}
-        for it in crates:
-            after = [steps[used] for used in it.uses if used in steps]
-            steps[it] = Step(lambda jobs, it=it: build_one(it, jobs), after)
         try:
-            self.do(steps.values())
+            self.do(steps_of(crates, build_one).values())
         except NotProved as error:
             refused = error.args[0]
             sys.stderr.write(text_of(refused.out / "build.log"))
@@ -357,20 +346,31 @@ class Run:
 
     def rt(self, crate, folder, words, log):
         """Runs rt, with what it says in a file of the crate's out/. Returns its status."""
-        self.states[crate] = "reads and checks"
-        pipes = {"stdin": subprocess.DEVNULL, "stdout": subprocess.PIPE, "stderr": subprocess.STDOUT}
-        ran = self.start(["rt", *words], folder, encoding="utf-8", errors="replace", **pipes)
-        with ran, open(crate.out / log, "w", encoding="utf-8") as written:
-            for line in ran.stdout:
-                written.write(line)
-                counted = COUNT.match(line)
-                if counted:
-                    self.states[crate] = f"{counted[1]} of {counted[2]} functions"
-                elif WAITING.match(line):
-                    self.states[crate] = "waits for another run of rt"
+        with open(crate.out / log, "wb") as said:
+            pipes = {"stdin": subprocess.DEVNULL, "stdout": said, "stderr": subprocess.STDOUT}
+            with self.start(["rt", *words], folder, **pipes) as ran:
+                ran.wait()
         if self.is_stopped:
             raise Stopped
         return ran.returncode
+
+    def ask(self, words, given=b"", limit=LIMIT):
+        """The status of a command, None where it has not ended in time, what it wrote, and what it said of itself."""
+        pipes = {"stdin": subprocess.PIPE, "stdout": subprocess.PIPE, "stderr": subprocess.PIPE}
+        with self.start(words, TOP, **pipes) as ran:
+            try:
+                wrote, said = ran.communicate(given, limit)
+            except subprocess.TimeoutExpired:
+                ran.kill()
+                return None, b"", b""
+        return ran.returncode, wrote, said
+
+    def output_faults(self, crate, words):
+        """What a program does otherwise, on its file stdin, than its file stdout has it."""
+        status, wrote, _ = self.ask(words, crate.files.get("stdin", b""))
+        faults = [f"error: {crate.name} ends with status {status}, and not 0"] if status != 0 else []
+        is_right = wrote == crate.files.get("stdout", b"")
+        return faults if is_right else [*faults, f"error: {crate.name} writes something else than its file stdout has"]
 
     def start(self, words, cwd, **how):
         """Starts a command that ends where this process is told to end."""
@@ -400,58 +400,30 @@ class Run:
                     for step in ready:
                         waiting.remove(step)
                         running[pool.submit(step.do, jobs_of(step, beside))] = step
-                    pause = 1 if self.is_terminal else None
-                    over, _ = concurrent.futures.wait(running, pause, concurrent.futures.FIRST_COMPLETED)
+                    over, _ = concurrent.futures.wait(running, return_when=concurrent.futures.FIRST_COMPLETED)
                     for it in over:
                         ended.add(running.pop(it))
                         it.result()
-                    self.tell()
             except BaseException:
                 self.stop()
                 raise
-            finally:
-                self.clear_line()
 
     def begins(self, crate):
-        with self.guard:
-            self.begun_at[crate], self.states[crate] = time.monotonic(), "begins"
-        if self.is_told and not self.is_terminal:
-            took = crate.took_last()
-            self.print(f"{crate.name}: begun{f', {duration(took)} last time' if took else ''}", sys.stderr)
+        self.begun_at[crate] = time.monotonic()
+        say(f"{crate.name}: begun")
 
     def ends(self, crate, how):
-        with self.guard:
-            taken = duration(time.monotonic() - self.begun_at.pop(crate))
-            self.ended.add(crate)
-        if self.is_told and not self.is_terminal:
-            self.print(f"{crate.name}: {how} in {taken}; {self.so_far()}", sys.stderr)
-
-    def tell(self):
-        """Writes the line of a terminal over: how far the whole is, and each crate that is at work."""
-        if not self.is_terminal:
-            return
-        with self.guard:
-            at_work = [
-                f"{it.name} {self.states[it]}, {clock(began, it.took_last())}" for it, began in self.begun_at.items()
-            ]
-            line = f"{len(self.ended)} of {self.number}, {clock(self.begun, self.expected)}: {'; '.join(at_work)}"
-            width = os.get_terminal_size(sys.stderr.fileno()).columns or 80
-            print(CLEAR + line[: width - 1], end="", file=sys.stderr, flush=True)
-
-    def print(self, line, to):
-        """Writes a line of its own, which stands in the place of the one that is written over."""
-        with self.guard:
-            self.clear_line()
-            print(line, file=to, flush=True)
-
-    def clear_line(self):
-        if self.is_terminal:
-            with self.guard:
-                print(CLEAR, end="", file=sys.stderr, flush=True)
+        self.ended.add(crate)
+        say(f"{crate.name}: {how} in {duration(time.monotonic() - self.begun_at[crate])}; {self.so_far()}")
 
     def so_far(self):
         expected = f" of some {minutes(self.expected)}" if self.expected else ""
         return f"{len(self.ended)} of {self.number} crates, {minutes(time.monotonic() - self.begun)} so far{expected}"
+
+    def print(self, line):
+        """Writes a line of its own to standard output."""
+        with self.guard:
+            print(line, flush=True)
 
 
 class Step:
@@ -459,6 +431,15 @@ class Step:
 
     def __init__(self, do, after=(), is_last=False):
         self.do, self.after, self.is_last = do, after, is_last
+
+
+def steps_of(crates, do):
+    """By each crate the step that does this of it and a number of jobs, after those of the crates that it uses."""
+    steps = {}
+    for it in crates:
+        after = [steps[used] for used in it.uses if used in steps]
+        steps[it] = Step(lambda jobs, it=it: do(it, jobs), after)
+    return steps
 
 
 def jobs_of(step, beside):
@@ -477,12 +458,6 @@ def duration(seconds):
 
 def minutes(seconds):
     return f"{round(seconds / 60)} min" if seconds >= 60 else f"{round(seconds)} s"
-
-
-def clock(began, expected):
-    """The time since then, and how much is expected if that is known, as short as a terminal's line wants it."""
-    short = lambda seconds: f"{seconds // 60}:{seconds % 60:02}"
-    return short(round(time.monotonic() - began)) + (f" of some {short(expected)}" if expected else "")
 
 
 class NotProved(Exception):

@@ -214,7 +214,7 @@ def run(lines, is_tried=False, refusing=None):
         answers, told = answered(crate, crate.out / PROGRAM, lines, env=env)
         return (answers, [int(it) for it in WINDOW.findall(told)]) if refusing else answers
     said = [None] * len(lines)
-    tries, asked = crates.Run([], is_told=False), {}
+    tries, asked = crates.Run([]), {}
     for at, line in enumerate(lines):
         word = WORD.match(line)[0]
         asked.setdefault(next((it for it in PARTS if word in it), PARTS[0]), []).append(at)
