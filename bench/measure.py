@@ -1,33 +1,26 @@
-"""usage: bench/run [--quick] [--programs] [--times] [--instructions] [--growth] [--results]
+"""usage: bench/run [--quick] [--results]
 
 Measures whole programs against plain Rust programs, and the vectors against those that users would pick instead, the
-toolchain's and Rust's, and prints a table of each. With none of the four words in the middle, all four are measured.
+toolchain's and Rust's, and prints a table of each: instructions as callgrind counts them, times, memory, and how they grow.
 
---programs      instructions, time and memory of whole programs
---times         nanoseconds a round, with the ratios to the peers
---instructions  instructions a round, as callgrind counts them, and where they and the times disagree
---growth        the time an item against the number of items, and that of tv against the number of lines
---quick         fewer and shorter runs
---results       writes what is printed into bench/results, the programs and the means into docs/PERFORMANCE.md, the numbers
-                that documents quote, and what --growth measured into docs/pictures, and names the rows that rose by 3 %
+--quick    fewer and shorter runs
+--results  writes what is printed into bench/results, the programs and the means into docs/PERFORMANCE.md, the numbers that
+           documents quote, and how the time grows into docs/pictures, and names the rows that rose by 3 %
 """
 import contextlib
 import io
 import os
 import sys
 
-import growth
 import instructions
 import kit
 import plots
 import quotes
 import rises
 import tables
-import times
 import whole
-from programs import TOP, beside_rust, beside_toolchain, check_sums, describe
+from programs import TOP, beside_rust, beside_toolchain, check_sums, describe, nanoseconds
 
-PARTS = {"--programs", "--times", "--instructions", "--growth"}
 CORES = os.sched_getaffinity(0)
 CORE = {max(CORES)}
 
@@ -46,25 +39,23 @@ class Effort:
 
 def main():
     words = set(sys.argv[1:])
-    if words - PARTS - {"--quick", "--results"}:
+    if words - {"--quick", "--results"}:
         sys.exit(__doc__)
-    parts = PARTS & words or PARTS
     effort, is_kept = Effort("--quick" in words), "--results" in words
-    if "--programs" in parts:
-        with result("programs", is_kept):
-            measured = whole.measure(effort.program_lines, effort.program_runs, CORE)
-            print(f"{effort.program_lines} lines for each program. Times are the least of {effort.program_runs} runs.\n")
-            print_table("programs", is_kept, tables.print_programs, measured)
-    if parts & {"--times", "--instructions"}:
-        for name, programs in (("toolchain", beside_toolchain()), ("rust", beside_rust())):
-            with result(name, is_kept):
-                measure_rows(name, programs, parts, effort, is_kept)
-    if "--instructions" in parts:
-        with result(kit.CPU, is_kept):
-            count_for(kit.CPU, effort)
-    if "--growth" in parts:
-        with result("growth", is_kept):
-            measure_growth(effort, is_kept)
+    with result("programs", is_kept):
+        measured = whole.measure(effort.program_lines, effort.program_runs, CORE)
+        print(f"{effort.program_lines} lines for each program. Times are the least of {effort.program_runs} runs.\n")
+        print_table("programs", is_kept, tables.print_programs, measured)
+    for name, programs in (("toolchain", beside_toolchain()), ("rust", beside_rust())):
+        with result(name, is_kept):
+            measure_rows(name, programs, effort, is_kept)
+    with result(kit.CPU, is_kept):
+        # The instructions of both sides for another processor.
+        counted = instructions.count(beside_rust(kit.CPU), effort.counted_rounds)
+        tables.print_means(counted)
+        tables.print_groups(counted, "instructions")
+    with result("growth", is_kept):
+        measure_growth(effort, is_kept)
     if is_kept:
         quotes.put()
 
@@ -86,19 +77,16 @@ def result(name, is_kept):
         rises.put(name, before, path.read_text(encoding="utf-8"))
 
 
-def measure_rows(name, programs, parts, effort, is_kept):
+def measure_rows(name, programs, effort, is_kept):
     check_sums(programs, "rows")
-    if "--instructions" in parts:
-        counted = instructions.count(programs, effort.counted_rounds)
-        print_table(name, is_kept, tables.print_means, counted)
-        tables.print_groups(counted, "instructions")
-    if "--times" in parts:
-        os.sched_setaffinity(0, CORE)
-        timed = times.measure(programs, "rows", effort.runs, effort.rounds)
-        print(f"Times are the least of {effort.runs} runs.\n")
-        tables.print_groups(timed, "nanoseconds")
-    if {"--times", "--instructions"} <= parts:
-        tables.print_disagreements(timed, counted)
+    counted = instructions.count(programs, effort.counted_rounds)
+    print_table(name, is_kept, tables.print_means, counted)
+    tables.print_groups(counted, "instructions")
+    os.sched_setaffinity(0, CORE)
+    timed = nanoseconds(programs, "rows", effort.runs, effort.rounds)
+    print(f"Times are the least of {effort.runs} runs.\n")
+    tables.print_groups(timed, "nanoseconds")
+    tables.print_disagreements(timed, counted)
 
 
 def print_table(name, is_kept, print_it, measured):
@@ -110,22 +98,14 @@ def print_table(name, is_kept, print_it, measured):
         tables.put(name, table.getvalue())
 
 
-def count_for(cpu, effort):
-    """The instructions of both sides for another processor."""
-    counted = instructions.count(beside_rust(cpu), effort.counted_rounds)
-    tables.print_means(counted)
-    tables.print_groups(counted, "instructions")
-
-
 def measure_growth(effort, is_kept):
     os.sched_setaffinity(0, CORE)
     check_sums(beside_rust(), "growth")
-    grown = growth.an_item(times.measure(beside_rust(), "growth", effort.growth_runs, effort.growth_rounds))
-    print(f"Times are the least of {effort.growth_runs} runs, of tv of {effort.length_runs}.\n")
-    growth.print_rows(grown)
+    grown = plots.an_item(nanoseconds(beside_rust(), "growth", effort.growth_runs, effort.growth_rounds))
     os.sched_setaffinity(0, CORES)
     lines = whole.grow(effort.lengths, effort.length_runs)
-    growth.print_lines(*lines)
+    print(f"Times are the least of {effort.growth_runs} runs, of tv of {effort.length_runs}.\n")
+    plots.print_all(grown, *lines)
     if is_kept:
         plots.draw(TOP / "docs/pictures", grown, *lines)
 

@@ -1,11 +1,14 @@
-"""Draws how the time grows: small plots side by side, both axes by powers. A picture has its own background, so that it can
-be read on any page, and is dark where the reader's system is.
-"""
+"""How the time grows with the number of items, and that of `tv` with the number of lines: tables, and pictures of small plots side
+by side, both axes by powers. A picture has its own background, and is dark where the reader's system is."""
 import html
 import math
 import pathlib
 
-import growth
+import tables
+
+# What a row of growth is measured on, by the prefix of its name.
+KINDS = {"array_": "ArrayVec", "tiny_": "TinyVec"}
+CALLS = ["push", "extend", "splice", "drain", "retain"]
 
 WIDTH, HEIGHT, GAP, LEFT, TOP = 150, 120, 30, 48, 58
 
@@ -43,9 +46,37 @@ STYLE = """
 """
 
 
+def an_item(measured):
+    """The nanoseconds an item of each program, by row and number of items."""
+    return {name: {(row, count): nanos / count for (row, count), nanos in rows.items()} for name, rows in measured.items()}
+
+
+def lines_of(measured, row):
+    """The values by the number of items, of each program that has the row."""
+    found = {name: {count: value for (it, count), value in rows.items() if it == row} for name, rows in measured.items()}
+    return {name: values for name, values in found.items() if values}
+
+
+def print_all(measured, micros, peaks):
+    """A table for each call, a line for each number of items; and of `tv`, a line for each number of lines."""
+    for prefix, kind in KINDS.items():
+        for call in CALLS:
+            print_table(f"{call} of {kind}: nanoseconds an item", "Items", lines_of(measured, prefix + call), 2)
+    print_table("tv: microseconds a line", "Lines", micros, 3)
+    print_table("tv: peak of memory in KiB", "Lines", peaks, 0)
+
+
+def print_table(title, first, lines, digits):
+    print(f"{title}\n")
+    tables.print_head(first, lines)
+    for count in sorted({count for values in lines.values() for count in values}):
+        tables.print_line(count, (f"{it[count]:.{digits}f}" if count in it else tables.NOTHING for it in lines.values()))
+    print(flush=True)
+
+
 def draw(folder, measured, micros, peaks):
-    for prefix, kind in growth.KINDS.items():
-        panels = [(call, growth.lines_of(measured, prefix + call)) for call in growth.CALLS]
+    for prefix, kind in KINDS.items():
+        panels = [(call, lines_of(measured, prefix + call)) for call in CALLS]
         write(folder, f"growth_{kind.lower()}", f"{kind}: nanoseconds an item, against the number of items", panels)
     panels = [("microseconds a line", micros), ("peak of memory, KiB", peaks)]
     write(folder, "growth_tv", "tv against the number of lines", panels)

@@ -44,6 +44,17 @@ def output(command):
     return subprocess.run(command, check=True, capture_output=True, text=True).stdout.strip()
 
 
+def nanoseconds(programs, kind, runs, rounds):
+    """Of each program, by row and capacity: the least of many runs, in rotated order, which is what it takes if the machine does
+    nothing else."""
+    taken, names = {name: {} for name in programs}, list(programs)
+    for turn in (run % len(names) for run in range(runs)):
+        for name in names[turn:] + names[:turn]:
+            for row, capacity, count, nanos, _ in lines([*programs[name], kind, str(rounds)]):
+                taken[name].setdefault((row, int(capacity)), []).append(int(nanos) / int(count))
+    return {name: {key: min(times) for key, times in rows.items()} for name, rows in taken.items()}
+
+
 def check_sums(programs, kind):
     """Stops where two programs disagree on a row that both have."""
     sums = {}

@@ -14,7 +14,7 @@ QUOTED = re.compile(r"(\d+(?:\.(\d+))?)<!-- (?!test |rows |run )(\w+) (.+?) -->"
 MEANS = re.compile(r"\| Instructions of \| (.*) \| cells above .*\n.*\n((?:\|.*\n)+)")
 
 
-@functools.lru_cache(maxsize=None)
+@functools.cache
 def cells(name):
     """What the tables of instructions in the file of this name have, by the words of a comment."""
     text, found = tables.read(tables.RESULTS / f"{name}.md"), {}
@@ -23,11 +23,9 @@ def cells(name):
             known = {capacity: it for capacity, it in zip(head.split(" | "), means) if it != tables.NOTHING}
             known |= {"least": min(known.values()), "most": max(known.values())}
             found |= {f"{label} {capacity}": it for capacity, it in known.items()}
-    for table in tables.TABLE.finditer(text):
-        _, *capacities, _ = tables.cells_of(table[1].splitlines()[2])
-        for row, *ratios, _ in map(tables.cells_of, table[3].splitlines()):
-            for capacity, it in zip(capacities, ratios):
-                found |= {f"{row} {capacity} {peer}": ratio for peer, ratio in zip(table[2].split(", "), it.split()[1:])}
+    for peers, row, ratios in tables.rows_of(text):
+        for capacity, it in ratios.items():
+            found |= {f"{row} {capacity} {peer}": ratio for peer, ratio in zip(peers, it.split()[1:])}
     return found
 
 

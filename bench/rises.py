@@ -18,12 +18,8 @@ SAID = "Instructions rose"
 
 def cells(text):
     """The instructions of each row, by name and capacity."""
-    found = {}
-    for table in tables.TABLE.finditer(text):
-        _, *capacities, _ = tables.cells_of(table[1].splitlines()[2])
-        for row, *values, _ in map(tables.cells_of, table[3].splitlines()):
-            found |= {(row, capacity): float(it.split(":")[0]) for capacity, it in zip(capacities, values) if it}
-    return found
+    rows = ((row, *it) for _, row, found in tables.rows_of(text) for it in found.items())
+    return {(row, capacity): float(it.partition(":")[0]) for row, capacity, it in rows}
 
 
 def read():
@@ -39,16 +35,14 @@ def put(name, then, now):
         first = noted.get((name, *key), (before.get(key),))[0]
         if first and value >= LEAST * first:
             kept[name, *key] = (first, value)
-    lines = (f"{' '.join(key)} {first:g} {value:g}\n" for key, (first, value) in sorted(kept.items()))
+    lines = [f"{' '.join(key)} {first:g} {value:g}\n" for key, (first, value) in sorted(kept.items())]
     FILE.write_text(HEAD + "".join(lines), encoding="utf-8")
-    for key, (first, value) in sorted(kept.items()):
-        print(f"{' '.join(key)}: {first:g} > {value:g}")
+    print(*lines, sep="", end="")
 
 
 def faults():
     unreleased = re.split(r"^## ", tables.read(CHANGES), flags=re.M)[1]
     said = [it for line in unreleased.splitlines() if SAID in line for it in re.findall(r"`([^`]+)`", line)]
-    rows = {row for _, row, _ in read()}
-    for row in sorted(rows):
+    for row in sorted({row for _, row, _ in read()}):
         if not any(fnmatch.fnmatchcase(row, it) for it in said):
             yield f"CHANGELOG.md: no line with '{SAID}' says why {row} rose, which bench/results/rises.txt has"

@@ -1,13 +1,19 @@
-"""Tables in Markdown of what is measured: here, and how much of each peer's that is."""
+"""Tables in Markdown of what is measured: here, and how much of each peer's that is; and why a row takes more of a peer's
+instructions than the limit, as bench/reasons.txt says."""
+import collections
+import fnmatch
+import functools
 import math
 import pathlib
 import re
 
-import reasons
-
 TOP = pathlib.Path(__file__).resolve().parent.parent
 PERFORMANCE = TOP / "docs/PERFORMANCE.md"
 RESULTS = TOP / "bench/results"
+REASONS = TOP / "bench/reasons.txt"
+
+# Rows that have a reason, over all peers or some.
+Reason = collections.namedtuple("Reason", "key pattern peers")
 
 # A row belongs to the group with the longest prefix that its name has.
 GROUPS = {
@@ -56,6 +62,23 @@ def name_of(peer, group):
     return NAMES.get((peer, re.match("`.*?`|", group)[0]), NAMES.get(peer, peer))
 
 
+@functools.cache
+def reasons():
+    found, key = [], None
+    for line in read(REASONS).splitlines():
+        if line.startswith(" "):
+            patterns, _, peers = line.partition(" over ")
+            found += [Reason(key, it, tuple(peers.split())) for it in patterns.split()]
+        elif re.match(r"\w+: ", line):
+            key = line.partition(":")[0]
+    return found
+
+
+def reasons_of(row, peers):
+    """What says why the row is above the limit over these peers."""
+    return [it for it in reasons() if set(it.peers or peers) & set(peers) and fnmatch.fnmatchcase(row, it.pattern)]
+
+
 def peers_of(measured, keys):
     return [it for it in measured if it != "here" and any(key in measured[it] for key in keys)]
 
@@ -89,7 +112,7 @@ def print_group(group, keys, measured, unit):
 
 def why(row, peers):
     """The last cell of a row that is above the limit over these peers."""
-    return ", ".join(dict.fromkeys(it.key for it in reasons.of(row, peers)))
+    return ", ".join(dict.fromkeys(it.key for it in reasons_of(row, peers)))
 
 
 def slow(peers, cells):
@@ -177,21 +200,22 @@ def faults():
     used = set()
     for file in sorted(RESULTS.glob("*.md")):
         text = read(file)
-        for row, peer in slow_rows(text):
-            found = reasons.of(row, [peer])
+        for row, peer in ((row, peer) for peers, row, cells in rows_of(text) for peer in slow(peers, cells.values())):
+            found = reasons_of(row, [peer])
             used.update(found)
             if not found:
                 yield f"bench/reasons.txt: no reason why {row} is above {LIMIT} over {peer} in {file.name}"
         if explained(text) != text:
             yield f"bench/results/{file.name}: its reasons are not those of bench/reasons.txt, which bench/tables.py writes"
-    yield from (f"bench/reasons.txt: {it.key} explains no row: {it.pattern}" for it in reasons.ROWS if it not in used)
+    yield from (f"bench/reasons.txt: {it.key} explains no row: {it.pattern}" for it in reasons() if it not in used)
 
 
-def slow_rows(text):
-    """The rows above the limit, with the peer."""
+def rows_of(text):
+    """The rows of the tables of instructions, each with the peers of its table, and its cells by capacity."""
     for table in TABLE.finditer(text):
+        _, *capacities, _ = cells_of(table[1].splitlines()[2])
         for row, *cells, _ in map(cells_of, table[3].splitlines()):
-            yield from ((row, peer) for peer in slow(table[2].split(", "), cells))
+            yield table[2].split(", "), row, {capacity: it for capacity, it in zip(capacities, cells) if it}
 
 
 def explained(text):
