@@ -2,15 +2,14 @@
 
 A line `clauses CALL: SUM NAMES` has the names of the call's clauses and a sum of what they state. A clause that cites a relation
 has the fields of that too, as proofs cite them: `room.place` is in `room(place)`. The fields of a clause without a name stand
-alone. An impl and a trait have the names of their methods' clauses and of their ghost items. What each `ArrayVec` states, and a
-`SliceVec` as well, is in a line of both: `clauses ArrayVec::pop, of SliceVec: ..`. The sum is of the clauses and ghost items, and
-of the definitions in `specs/` that these cite, and those that those cite, without comments and white space; std's words count by
-their names.
+alone. What each `ArrayVec` states, and a `SliceVec` as well, is in a line of both: `clauses ArrayVec::pop, of SliceVec: ..`. The
+sum is of the clauses and ghost items, and of the definitions in `specs/` that these cite, and those that those cite, without
+comments and white space; std's words count by their names.
 
-`tests/docs` compares the lock with the sources. It names what the lock lacks and each sum that differs, which this writes, so that
-the list's diff has each call that states something else. It also names each clause that the sources lack, unless a line of the
-first part of CHANGELOG.md has it and its call in backticks (of a call that is gone, the call alone), and each edit that is gone
-while its function is there. This keeps the names of both: where an edit is replaced, its name is removed by hand.
+`tests/docs` names what the lock lacks and each sum that differs, which this writes, so that its diff has each call that states
+something else. It also names each clause that the sources lack, unless a line of the first part of CHANGELOG.md has it and its call
+in backticks (of a call that is gone, the call alone), and each edit that is gone while its function is there. This keeps the
+names of both: where an edit is replaced, its name is removed by hand.
 """
 import copy
 import functools
@@ -149,14 +148,11 @@ def stated(crate):
 def stated_by(export):
     """The calls of one export, each with the names of its clauses, and with what these state."""
     scope = Scope(export.source.file)
-    if export.item.kind == "fn":
-        yield export.key(), *clauses_of(export.item, scope)
-    members = list(exports.item_members(export.item))
-    for it in (it for it in members if it.kind == "fn"):
-        yield f"{export.key()}::{it.name}", *clauses_of(it, scope)
+    for it in export.functions():
+        yield export.key() if it is export.item else f"{export.key()}::{it.name}", *clauses_of(it, scope)
     # The laws of a trait are promises, and those of an impl proofs.
     is_proof = lambda line: line.startswith("ghost use") or export.kind == "impl" and reference.PROOFS.match(line)
-    ghosts = [it for it in members if it.kind == "ghost" and not is_proof(it.lines[0])]
+    ghosts = [it for it in exports.item_members(export.item) if it.kind == "ghost" and not is_proof(it.lines[0])]
     if ghosts:
         texts = [contracts.without_comments("\n".join(it.lines) + "\n") for it in ghosts]
         yield f"{export.key()}::ghost", [GHOST.match(it.lines[0])[1] for it in ghosts], scope.whole(texts)

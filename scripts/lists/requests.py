@@ -55,20 +55,12 @@ class Table:
 
 def calls_of(crate):
     """The public calls that may hold or be passed an allocator, each with its type, or its crate if it is a function."""
-    for it in exports.Crate(crate).exports():
-        members = [it.item] if it.item.kind == "fn" else exports.item_members(it.item)
-        for one in members:
-            holder = owner(it, crate)
-            holds = crate not in WITHOUT_ALLOCATOR or holder in HOLDING
-            if one.kind == "fn" and (holds or "alloc: " in one.signature()):
-                yield holder, one.name
-
-
-def owner(export, crate):
-    if export.trait:
-        form = exports.head_of(export.trait)
-        return form if form in FORMS else exports.head_of(exports.impl_of(export.item)[1])
-    return export.of or (export.name if export.kind == "trait" else crate)
+    for export in exports.Crate(crate).exports():
+        form = exports.head_of(export.trait or "")
+        holder = form if form in FORMS else export.holder()
+        for it in export.functions():
+            if crate not in WITHOUT_ALLOCATOR or holder in HOLDING or "alloc: " in it.signature():
+                yield holder, it.name
 
 
 def shown_by_rows():

@@ -50,7 +50,4 @@ def lacking(kind, row, rows):
 def calls():
     for crate in exports.LIBRARIES:
         for it in exports.Crate(crate).exports():
-            kind = exports.head_of(exports.impl_of(it.item)[1]) if it.trait else it.of or (it.name if it.kind == "trait" else crate)
-            for one in [it.item] if it.item.kind == "fn" else exports.item_members(it.item):
-                if one.kind == "fn" and kind not in SHARED:
-                    yield kind, one.name
+            yield from ((it.holder(), one.name) for one in it.functions() if it.holder() not in SHARED)

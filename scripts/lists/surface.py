@@ -9,8 +9,7 @@ each that only these crates have:
                               column names this call
 
 and, for a crate of the toolchain that a library uses, `CRATE of the kit in CRATE`. What `pub use` passes on is there as of the
-crate that passes it on. `tests/docs` names each line that no longer holds, each name that the list lacks, which this adds, and
-a part that has fewer lines than its heading says. Nothing here takes a line away or lowers a heading.
+crate that passes it on. Nothing here takes a line away, or lowers the number of a heading.
 """
 import functools
 import re

@@ -94,16 +94,16 @@ class Outcomes:
                 self.read(label, [], fact)
 
     def read(self, path, premises, fact):
-        *before, fact = top_split(bare(fact), " → ")
+        *before, fact = contracts.parts_of(bare(fact), " → ")
         premises = [*premises, *(it for it in before if not BINDER.fullmatch(it))]
-        facts = top_split(bare(fact), " × ")
+        facts = contracts.parts_of(bare(fact), " × ")
         # Several facts, unless they are of something that is only said to exist.
         if len(facts) > 1 and not any(BINDER.fullmatch(it) for it in facts):
             for it in facts:
                 self.read(path, premises, it)
             return
-        sides = top_split(fact, " ↔ ")
-        head, *values = top_split(fact, " ")
+        sides = contracts.parts_of(fact, " ↔ ")
+        head, *values = contracts.parts_of(fact, " ")
         if fact == "IsOk result" and not premises:
             self.always = path
         elif len(sides) == 2 and not premises and (found := IS.fullmatch(sides[0])):
@@ -117,7 +117,7 @@ class Outcomes:
         elif premises and (found := IS.match(fact)) and found[1] in ("IsOk", "IsErr"):
             (self.never if found[1] == "IsOk" else self.exact).append((path, "if", " → ".join(premises)))
         elif found := MATCH.fullmatch(fact):
-            failed = bare(top_split(found[1], " ")[-1])
+            failed = bare(contracts.parts_of(found[1], " ")[-1])
             if failed.startswith("λ _. ") and not AFTER.search(failed[5:]):
                 self.only.append((path, "", failed[5:]))
         elif word := self.word(head, len(values)):
@@ -159,8 +159,8 @@ class Outcomes:
 
     def error(self):
         """The name of the error, if it has one."""
-        parts = exports.split_top(self.returned[self.returned.find("<") + 1 : -1], ", ")
-        error = exports.head_of(parts[2]) if parts[1] else self.returned.replace("Result", "Error").partition("<")[0]
+        parts = contracts.parts_of_types(self.returned[self.returned.find("<") + 1 : -1], ", ")
+        error = exports.head_of(parts[1]) if parts[1:] else self.returned.replace("Result", "Error").partition("<")[0]
         return error.removeprefix("(") if ERROR.fullmatch(exports.head_of(error)) else ""
 
     def failure(self):
@@ -172,7 +172,7 @@ class Outcomes:
     def case(self, fact):
         path, kind, text = fact
         if kind == "IsOk":
-            sides = top_split(bare(text), " ≤ ")
+            sides = contracts.parts_of(bare(text), " ≤ ")
             if len(sides) == 2:
                 return f"exactly if {condition(f'{sides[1]} < {sides[0]}', path)}"
             return f"exactly unless {condition(text, path)}"
@@ -180,7 +180,7 @@ class Outcomes:
 
     def needs(self, fact):
         path, kind, text = fact
-        *premises, last = top_split(text, " → ")
+        *premises, last = contracts.parts_of(text, " → ")
         of = (f"with `{kind}` " if kind else "") + (f"if {condition(' → '.join(premises), path)}, " if premises else "")
         return f"{of}only if {condition(last, path)}"
 
@@ -201,7 +201,7 @@ class Outcomes:
         """When what returns a `Result` cannot fail."""
         if not self.can_fail():
             return f"- *Cannot fail*: the clause `{self.always}` says so.\n" if self.always else ""
-        premises = [frozenset(english(bare(it)) for it in top_split(text, " → ")) for _, _, text in self.never]
+        premises = [frozenset(english(bare(it)) for it in contracts.parts_of(text, " → ")) for _, _, text in self.never]
         kept = [it for it, own in zip(self.never, premises) if not any(other < own for other in premises)]
         cases = dict.fromkeys(f"if {condition(text, path)}" for path, _, text in kept)
         if cases:
@@ -224,7 +224,7 @@ def returned(signature, name):
 
 def condition(fact, path):
     """Premises, or the name of their clause where they are long."""
-    parts = [english(bare(it)) for it in top_split(fact, " → ")]
+    parts = [english(bare(it)) for it in contracts.parts_of(fact, " → ")]
     return " and ".join(parts) if sum(map(len, parts)) <= 200 else f"the condition of `{path}` holds"
 
 
@@ -233,10 +233,10 @@ def outcome(fact):
     if found := re.fullmatch(r"λ (\w+)\. (.*)", fact):
         name = found[1]
         passed_in = re.compile(rf"{name}(?:\.\w+)? ≡ (\w+)(?:\.entry|\.old)?")
-        parts = [bare(it) for it in top_split(found[2], " × ")]
+        parts = [bare(it) for it in contracts.parts_of(found[2], " × ")]
         said = [f"`{it[1]}` is returned" if (it := passed_in.fullmatch(part)) else english(part) for part in parts]
         return " and ".join(said) if not any(re.search(rf"\b{name}\b", it) for it in said) else ""
-    parts = [english(bare(it)) for it in top_split(fact, " → ")]
+    parts = [english(bare(it)) for it in contracts.parts_of(fact, " → ")]
     if sum(map(len, parts)) > LONGEST:
         return ""
     return parts[-1] + f", if {' and '.join(parts[:-1])}," * (len(parts) > 1)
@@ -267,7 +267,7 @@ def article(name):
 def tidy(fact):
     """A comparison without parentheses around a whole side."""
     for sign in (" ≤ ", " < ", " ≡ "):
-        sides = top_split(fact, sign)
+        sides = contracts.parts_of(fact, sign)
         if len(sides) == 2:
             return sign.join(bare(it) for it in sides)
     return fact
@@ -284,14 +284,3 @@ def bare(text):
     while text.startswith("(") and contracts.end_of(text) == len(text):
         text = text[1:-1].strip()
     return text
-
-
-def top_split(text, separator):
-    """A text split at each separator that is in no brackets."""
-    parts, depth, start = [], 0, 0
-    for at, letter in enumerate(text):
-        depth += (letter in "([{⟦") - (letter in ")]}⟧")
-        if depth == 0 and at >= start and text.startswith(separator, at):
-            parts.append(text[start:at].strip())
-            start = at + len(separator)
-    return [*parts, text[start:].strip()]

@@ -7,14 +7,8 @@ from reading import contracts, exports
 
 # Whose functions are shown as callers, the shortest first.
 CRATES = (
-    "tinyvec_examples",
-    "example_fields",
-    "example_tidy",
-    "example_lines",
-    "example_dns_query",
-    "example_nodes",
-    "example_records",
-    "example_script",
+    *("tinyvec_examples", "example_fields", "example_tidy", "example_lines", "example_dns_query"),
+    *("example_nodes", "example_records", "example_script"),
 )
 
 MADE_BY = {"array_vec!": "ArrayVec", "tiny_vec!": "TinyVec"}
@@ -122,7 +116,7 @@ class Known:
             return None
         text = re.sub(r"^(?:&(?:'\w+ )?(?:mut )?|io::)*", "", found[1])
         while wrapped := re.match(r"(?:Result|Option)<(.*)>$", text):
-            text = exports.split_top(wrapped[1], ", ")[0]
+            text = contracts.parts_of_types(wrapped[1], ", ")[0]
         return of if text == "Self" else self.type_named(text)
 
     def answers(self, of, name):
@@ -145,10 +139,8 @@ def is_closed(lines):
 
 def parameters(text):
     """The parameters of a function, whose list begins the text, each with its type."""
-    inside = text[1 : contracts.end_of(text, 0) - 1]
-    while inside.strip():
-        one, _, inside = exports.split_top(inside, ",")
-        name, _, of = one.strip().partition(": ")
+    for one in filter(None, contracts.parts_of_types(text[1 : contracts.end_of(text, 0) - 1], ",")):
+        name, _, of = one.partition(": ")
         yield name.removeprefix("mut "), of.strip()
 
 

@@ -1,4 +1,4 @@
-"""Functions with their contracts, read off sources and off what documents quote, and compared."""
+"""Functions with their contracts, read off sources and off what documents quote, and compared; and texts with brackets."""
 import re
 
 COMMENT = re.compile(r"^ *//.*\n", re.M)
@@ -38,6 +38,22 @@ def end_of(text, at=0):
         if depth == 0:
             return end + 1
     return len(text)
+
+
+def parts_of(text, separator, opens="([{⟦", closes=")]}⟧"):
+    """A text split at each separator that is in no brackets. The `>` of an arrow closes none."""
+    parts, depth, start = [], 0, 0
+    for at, letter in enumerate(text):
+        depth += (letter in opens) - (letter in closes and text[at - 1 : at + 1] != "->")
+        if depth == 0 and at >= start and text.startswith(separator, at):
+            parts.append(text[start:at].strip())
+            start = at + len(separator)
+    return [*parts, text[start:].strip()]
+
+
+def parts_of_types(text, separator):
+    """The same of a text with types, where angles are brackets."""
+    return parts_of(text, separator, "<([", ">)]")
 
 
 def squeezed(text):

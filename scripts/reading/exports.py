@@ -3,16 +3,9 @@ import functools
 import re
 
 from building.crates import TOP
+from reading import contracts
 
-LIBRARIES = (
-    "tinyvec_slots",
-    "tinyvec_array",
-    "tinyvec",
-    "tinyvec_text",
-    "tinyvec_io",
-    "tinyvec_borsh",
-    "tinyvec_script",
-)
+LIBRARIES = "tinyvec_slots tinyvec_array tinyvec tinyvec_text tinyvec_io tinyvec_borsh tinyvec_script".split()
 
 # Text in which a bracket is none: strings, characters and comments.
 OPAQUE = re.compile(r'"(?:\\.|[^"\\])*"|\'(?:\\.|[^\'\\])\'|//.*')
@@ -132,6 +125,16 @@ class Export:
             return f"{self.of}: {self.trait}"
         return f"{self.of}::{self.name}" if self.of else self.name + "!" * (self.kind == "macro_rules!")
 
+    def holder(self):
+        """The type or trait that has it, or its crate if it is a function."""
+        if self.trait:
+            return head_of(impl_of(self.item)[1])
+        return self.of or (self.name if self.kind == "trait" else self.source.crate)
+
+    def functions(self):
+        """What can be called of it."""
+        return [self.item] if self.item.kind == "fn" else [it for it in item_members(self.item) if it.kind == "fn"]
+
     def has_self(self):
         return bool(re.search(r"\(\s*(?:&(?:'\w+ )?)?(?:mut )?self\b", self.item.signature()))
 
@@ -238,8 +241,8 @@ def impl_of(item):
     """The trait of an impl, if it is of one, its type, and its parameters."""
     text = re.sub(r"\bwhere\b.*", "", item.signature())
     parameters, rest = split_angles(text.removeprefix("impl"))
-    trait, is_one, of = split_top(rest.strip(), " for ")
-    return (trait, of, parameters) if is_one else (None, trait, parameters)
+    *trait, of = contracts.parts_of_types(rest.strip(), " for ")
+    return (trait[0] if trait else None), of, parameters
 
 
 def split_angles(text):
@@ -252,16 +255,6 @@ def split_angles(text):
         if depth == 0:
             return text[1:at], text[at + 1 :]
     raise ValueError(text)
-
-
-def split_top(text, separator):
-    """A text split at a separator that is in no brackets, with whether there is one."""
-    depth = 0
-    for at, letter in enumerate(text):
-        depth += (letter in "<([") - (letter in ")]" or letter == ">" and text[at - 1] != "-")
-        if depth == 0 and text.startswith(separator, at):
-            return text[:at], True, text[at + len(separator) :]
-    return text, False, ""
 
 
 def head_of(type_):
@@ -280,9 +273,8 @@ def plain(type_):
 
 def bounds_of(parameters):
     """The type parameters of an impl, each with its bound."""
-    while parameters:
-        one, _, parameters = split_top(parameters, ",")
-        name, _, bound = one.strip().partition(": ")
+    for one in filter(None, contracts.parts_of_types(parameters, ",")):
+        name, _, bound = one.partition(": ")
         yield name, plain(bound).strip(" +")
 
 
