@@ -94,7 +94,8 @@ class Made(crates.Crate):
     def files(self):
         texts = {path: self.changed(path, text.decode()) for path, text in self.base.sources.items()}
         kept = {"main", *re.findall(r"\bmod (\w+);", texts[LISTS[0]])}
-        return {path: text.encode() for path, text in texts.items() if module_of(path) in kept}
+        # Of src/edits.rt, and of each file below proofs/edits, the module is edits.
+        return {path: text.encode() for path, text in texts.items() if path.removesuffix(".rt").split("/")[1] in kept}
 
     def changed(self, path, text):
         if path == UNCHANGED:
@@ -104,11 +105,6 @@ class Made(crates.Crate):
         if path in LISTS:
             text = "".join(it for it in text.splitlines(True) if not re.search(self.lacked, it))
         return text
-
-
-def module_of(path):
-    """Of src/edits.rt, and of each file below proofs/edits, it is edits."""
-    return path.removesuffix(".rt").split("/")[1]
 
 
 class Run(crates.Run):

@@ -101,7 +101,7 @@ def print_table(name, is_kept, print_it, measured):
 def measure_growth(effort, is_kept):
     os.sched_setaffinity(0, CORE)
     check_sums(beside_rust(), "growth")
-    grown = plots.an_item(nanoseconds(beside_rust(), "growth", effort.growth_runs, effort.growth_rounds))
+    grown = nanoseconds(beside_rust(), "growth", effort.growth_runs, effort.growth_rounds)
     os.sched_setaffinity(0, CORES)
     lines = whole.grow(effort.lengths, effort.length_runs)
     print(f"Times are the least of {effort.growth_runs} runs, of tv of {effort.length_runs}.\n")

@@ -46,14 +46,9 @@ STYLE = """
 """
 
 
-def an_item(measured):
-    """The nanoseconds an item of each program, by row and number of items."""
-    return {name: {(row, count): nanos / count for (row, count), nanos in rows.items()} for name, rows in measured.items()}
-
-
 def lines_of(measured, row):
-    """The values by the number of items, of each program that has the row."""
-    found = {name: {count: value for (it, count), value in rows.items() if it == row} for name, rows in measured.items()}
+    """The nanoseconds an item by the number of items, of each program that has the row."""
+    found = {name: {count: it / count for (of, count), it in rows.items() if of == row} for name, rows in measured.items()}
     return {name: values for name, values in found.items() if values}
 
 

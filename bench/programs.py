@@ -69,19 +69,12 @@ def check_sums(programs, kind):
 def describe(core):
     """Says what this runs on."""
     load = os.getloadavg()[0]
-    print(f"    machine   {processor()}, {os.cpu_count()} cores, {platform.system()} {platform.release()}, load {load:.1f}")
-    print(f"    here      {output(['rt', 'version'])}")
-    print(f"    peers     {output(['rustc', '--version'])}; {', '.join(debian_versions())}")
-    print(f"    pinned    to core {core}\n")
-
-
-def processor():
     with open("/proc/cpuinfo", encoding="utf-8") as info:
-        models = [line.split(":", 1)[1].strip() for line in info if line.startswith("model name")]
-    return models[0] if models else "unknown processor"
-
-
-def debian_versions():
-    names = [f"librust-{crate}-dev" for crate in CRATES]
-    listed = output(["dpkg-query", "-W", "-f", "${Package} ${Version}\n", *names])
-    return [line.removeprefix("librust-").replace("-dev ", " ") for line in listed.splitlines()]
+        model = next(line.partition(":")[2].strip() for line in info if line.startswith("model name"))
+    print(f"    machine   {model}, {os.cpu_count()} cores, {platform.system()} {platform.release()}, load {load:.1f}")
+    print(f"    here      {output(['rt', 'version'])}")
+    packages = [f"librust-{crate}-dev" for crate in CRATES]
+    listed = output(["dpkg-query", "-W", "-f", "${Package} ${Version}\n", *packages]).splitlines()
+    crates = ", ".join(it.removeprefix("librust-").replace("-dev ", " ") for it in listed)
+    print(f"    peers     {output(['rustc', '--version'])}; {crates}")
+    print(f"    pinned    to core {core}\n")

@@ -3,9 +3,9 @@ instructions than the limit, as bench/reasons.txt says."""
 import collections
 import fnmatch
 import functools
-import math
 import pathlib
 import re
+import statistics
 
 TOP = pathlib.Path(__file__).resolve().parent.parent
 PERFORMANCE = TOP / "docs/PERFORMANCE.md"
@@ -132,7 +132,8 @@ def print_means(measured):
         keys = [key for key in measured["here"] if group_of(key[0]) == group]
         for peer in peers_of(measured, keys):
             ratios = {key: ratio(measured, peer, key) for key in keys if key in measured[peer]}
-            means = [mean([it for key, it in ratios.items() if key[1] == capacity]) for capacity in CAPACITIES]
+            known = ([it for key, it in ratios.items() if key[1] == capacity] for capacity in CAPACITIES)
+            means = [statistics.geometric_mean(it) if it else None for it in known]
             above = sum(is_above(text_of(it)) for it in ratios.values())
             print_line(f"{group} over `{name_of(peer, group)}`", [*map(text_of, means), f"{above} of {len(ratios)}"])
     print(flush=True)
@@ -165,10 +166,6 @@ def ratio(measured, peer, key):
 
 def text_of(ratio):
     return NOTHING if ratio is None else f"{ratio:.2f}"
-
-
-def mean(ratios):
-    return math.exp(sum(map(math.log, ratios)) / len(ratios)) if ratios else None
 
 
 def print_disagreements(times, instructions):
@@ -220,12 +217,12 @@ def rows_of(text):
 
 def explained(text):
     """The text with the last column anew in its tables of instructions."""
-    return TABLE.sub(lambda it: it[1] + "".join(explained_row(line, it[2].split(", ")) for line in it[3].splitlines()), text)
 
+    def explained_table(table):
+        rows = ((row, cells) for row, *cells, _ in map(cells_of, table[3].splitlines()))
+        return table[1] + "".join(line_of(row, [*it, why(row, slow(table[2].split(", "), it))]) + "\n" for row, it in rows)
 
-def explained_row(line, peers):
-    row, *cells, _ = cells_of(line)
-    return line_of(row, [*cells, why(row, slow(peers, cells))]) + "\n"
+    return TABLE.sub(explained_table, text)
 
 
 def cells_of(line):

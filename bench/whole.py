@@ -22,17 +22,14 @@ def measure(lines, runs, cores):
             inputs.write(source, name, lines)
             check_answers(name, source)
         with concurrent.futures.ThreadPoolExecutor(os.cpu_count()) as pool:
-            counts = dict(zip(sources, pool.map(millions, sources, sources.values())))
+            count = lambda name: [instructions.of_run(it, sources[name]) / 1000000 for it in programs.whole(name).values()]
+            counts = [*pool.map(count, sources)]
         os.sched_setaffinity(0, cores)
-        times = {name: least_times(programs.whole(name), source, runs) for name, source in sources.items()}
-        peaks = {name: peaks_of(name, source) for name, source in sources.items()}
-    times = {name: {side: 1000 * it for side, it in sides.items()} for name, sides in times.items()}
+        times = [least_times(programs.whole(name), source, runs).values() for name, source in sources.items()]
+        peaks = [[peak_of(it, source) for it in programs.whole(name).values()] for name, source in sources.items()]
+    times = [[1000 * it for it in sides] for sides in times]
     units = {"Million instructions": counts, "Milliseconds": times, "KiB at most": peaks}
-    return {unit: by_side(taken) for unit, taken in units.items()}
-
-
-def by_side(taken):
-    return {side: {name: it[side] for name, it in taken.items()} for side in programs.SIDES}
+    return {unit: {side: dict(zip(sources, it)) for side, it in zip(programs.SIDES, zip(*of))} for unit, of in units.items()}
 
 
 def grow(lengths, runs):
@@ -57,14 +54,6 @@ def check_answers(name, source):
             seconds_of(command, source, f"{folder}/{number}")
         if not filecmp.cmp(f"{folder}/0", f"{folder}/1", shallow=False):
             sys.exit(f"{name} and the plain Rust program write different lines")
-
-
-def millions(name, source):
-    return {side: instructions.of_run(it, source) / 1000000 for side, it in programs.whole(name).items()}
-
-
-def peaks_of(name, source):
-    return {side: peak_of(it, source) for side, it in programs.whole(name).items()}
 
 
 def least_times(commands, source, runs):

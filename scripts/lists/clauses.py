@@ -58,7 +58,8 @@ def kept(locked, current):
     gone = {line: [it for it in names if it not in current.get(line, ())] for line, names in locked.items()}
     for line, names in gone.items():
         if line.startswith("clauses "):
-            needed = {it: {call_of(line), *[it.split(".")[-1]] * (line in current)} for it in names}
+            call = re.findall(r"\w+", line)[-1]
+            needed = {it: {call, *[it.split(".")[-1]] * (line in current)} for it in names}
             gone[line] = [it for it in names if not any(needed[it] <= row for row in told)]
         elif line not in there:
             gone[line] = []
@@ -69,10 +70,6 @@ def changed():
     """The words in backticks of each line of the first part of the changelog."""
     first = (TOP / "CHANGELOG.md").read_text(encoding="utf-8").split("\n## ")[1]
     return [set(re.findall(r"[\w.]+", " ".join(re.findall(r"`([^`]*)`", line)))) for line in first.splitlines()]
-
-
-def call_of(line):
-    return re.findall(r"\w+", line)[-1]
 
 
 def read():
@@ -131,7 +128,7 @@ def found():
     for line, edit in edited():
         names.setdefault(line, [])
         names[line] += [edit.name] if edit else []
-    return names, {line: sum_of(text) for line, _, text in calls if text}
+    return names, {line: hashlib.sha256(text.encode()).hexdigest()[:8] for line, _, text in calls if text}
 
 
 def stated(crate):
@@ -174,10 +171,6 @@ def names_of(clauses, scope):
 
 def squeezed(text):
     return " ".join(text.split())
-
-
-def sum_of(text):
-    return hashlib.sha256(text.encode()).hexdigest()[:8]
 
 
 @functools.cache

@@ -243,17 +243,13 @@ def outcome(fact):
 
 
 def english(fact):
-    fact = tidy(by_name(fact).replace(" + 0", ""))
+    for pattern, word in BY_NAME:
+        fact = pattern.sub(word, fact)
+    fact = tidy(fact.replace(" + 0", ""))
     for pattern, said in PHRASES:
         if found := pattern.fullmatch(fact):
             return said.format(*(bare(it or "") for it in found.groups()))
     return f"`{fact}`"
-
-
-def by_name(fact):
-    for pattern, word in BY_NAME:
-        fact = pattern.sub(word, fact)
-    return fact
 
 
 def listed(names):

@@ -36,7 +36,8 @@ class Function:
             return "::".join([*modules_of(self.file), self.name])
         if self.is_of_trait():
             return "::".join([*modules_of(self.file), flat(self.type) + flat(self.trait), self.name])
-        if has_plain_parameters(self.type) and not self.has_default:
+        # A type is taken for all its parameters, and not for some types in the place of these.
+        if all(len(it) == 1 for it in words_of(self.type)[1:]) and not self.has_default:
             return f"{plain_name(self.type)}::{self.name}"
         return "::".join([*modules_of(self.file), "+".join(words_of(self.type)), self.name])
 
@@ -68,7 +69,8 @@ def of_file(file, text, defaults):
     macros = {it.name: span(it, starts) for it in items if it.kind == "macro_rules!"}
     found = []
     for block in items:
-        trait, type_ = of_block(block)
+        # A trait is the type of its own functions.
+        trait, type_, _ = exports.impl_of(block) if block.kind == "impl" else ("", block.name * (block.kind == "trait"), "")
         for it in [block] if block.kind == "fn" else exports.item_members(block):
             if it.kind == "fn" and not it.lines[-1].endswith(";"):
                 start, end = span(it, starts)
@@ -77,14 +79,8 @@ def of_file(file, text, defaults):
                 body = text.rindex("{", starts[at], starts[at + 1])
                 called = tuple(place for name, place in macros.items() if re.search(rf"\b{name}!", text[body:end]))
                 has_default = bool(type_) and plain_name(type_) in defaults
-                found.append(Function(file, it.name, type_, trait, start, body, end, called, has_default))
+                found.append(Function(file, it.name, type_, trait or "", start, body, end, called, has_default))
     return found
-
-
-def of_block(item):
-    """The trait and the type of an impl. A trait is the type of its own functions."""
-    trait, type_, _ = exports.impl_of(item) if item.kind == "impl" else ("", item.name if item.kind == "trait" else "", "")
-    return trait or "", type_
 
 
 def span(item, starts):
@@ -107,11 +103,6 @@ def plain_name(text):
 def words_of(text):
     """The words by which a check tells the types of one name apart, as in `ArrayVec+mut+slice+T`."""
     return re.findall(r"\w+", re.sub(r"'\w+", "", text).replace("[", "slice "))
-
-
-def has_plain_parameters(text):
-    """Whether a type is taken for all its parameters, and not for some types in the place of these."""
-    return all(len(it) == 1 for it in words_of(text)[1:])
 
 
 def flat(text):

@@ -73,14 +73,11 @@ def items_in(lines, first):
         else:
             body.append(line)
             depth += balance(line)
-        if body and depth == 0 and (line.startswith("}") or line.endswith((";", "{}")) or is_braced(line, body)):
+        # A declaration in one line ends by a brace, as `pub struct A { .. }`.
+        is_end = line.startswith("}") or line.endswith((";", "{}")) or len(body) == 1 and line.endswith("}")
+        if body and depth == 0 and is_end:
             yield Item(comment, note, attributes, body, begins)
             comment, note, attributes, body = [], [], [], []
-
-
-def is_braced(line, body):
-    """Whether a declaration ends where it begins, as `pub struct A { .. }` in one line."""
-    return len(body) == 1 and line.endswith("}")
 
 
 def balance(line):
