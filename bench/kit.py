@@ -15,9 +15,7 @@ NAME = "tinyvec_bench"
 CPU = "x86-64-v3"
 
 # The toolchain's vectors cannot be emptied without a write, so beside them each side begins a row by `clear`.
-CLEARED = {
-    r"(?s)(fn empty\(&mut self\) \{\n).*?\n    \}": r"\1        self.clear();\n    }",
-}
+CLEARED = {r"(?s)(fn empty\(&mut self\) \{\n).*?\n    \}": r"\1        self.clear();\n    }"}
 
 # Their `extend_from_slice` copies, so their items are numbers alone.
 COPIED = CLEARED | {

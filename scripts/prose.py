@@ -7,8 +7,7 @@ usage: scripts/prose.py [DOCUMENT..]
 The sentences of all documents together have at most MOST words, without code, tables and CHANGELOG. With these the documents have
 at most MOST_IN_ALL, as far as they and docs/reference are written by hand, and each of ALONE at most its own number. A sentence
 or a cell of a table is named if it has more than LONGEST words, or one of the words of ODD; code is left out of that.
-`--comments` names such sentences of the comments in crates/*/src and crates/*/specs, which the pages of docs/reference show. At
-the end it counts what Rust says otherwise (RUST).
+`--comments` names such sentences of the comments in crates/*/src and crates/*/specs, which the pages of docs/reference show.
 """
 import pathlib
 import re
@@ -28,14 +27,6 @@ ODD = re.compile(
     r"(?:^Of (?!course)|^Where (?!Rust|it is)|\btakes? it where\b)|\b(of so many|so many as|so many (?:slots|items|bytes)|(?:is|are) told|giv(?:es?|ing) up|gave up|lies?|lay|stands?(?! for\b)|stood(?! for\b)|behind"
     r"|hand(?:s|ed)? back|ask(?:s|ed)? for (?:memory|room)|(?:inner|counted|standard) ends?|the end that it holds|it is so)\b"
 )
-# What Rust's documentation says otherwise. The counts say which documents to read again; no number is wrong by itself.
-RUST = {
-    "is refused": r"\brefus(?:ed|al|als)\b",
-    "answers": r"\banswer(?:s|ed)?\b",
-    "room": r"\broom\b",
-    "in the value": r"\bin the value\b",
-    "lent": r"\blent\b",
-}
 TICKED = re.compile(r"`[^`]*`")
 CODE = re.compile(r"^( *)```.*?^\1```$", re.M | re.S)
 TABLE = re.compile(r"^ *\|.*$", re.M)
@@ -57,8 +48,6 @@ def main():
         text = read(name)
         found = hard(text)
         show(f"{name}: {words_in(text)} words, {len(found)} hard sentences", found if arguments else [])
-    for name, count in others(arguments or documents()):
-        print(f"{name}: {count}")
     print(f"prose: {len(documents())} documents, {total()} words of {MOST} in sentences, {in_all()} of {MOST_IN_ALL} in all")
     sys.exit(any(too_long()))
 
@@ -101,15 +90,6 @@ def too_long():
 def words_in(text):
     """How many words its sentences have."""
     return len(TABLE.sub("", CODE.sub("", text)).split())
-
-
-def others(names):
-    """How often documents say what Rust says otherwise: the sum, and the documents that say it most."""
-    for said, pattern in RUST.items():
-        found = {it: len(re.findall(pattern, TICKED.sub("", CODE.sub("", read(it))))) for it in names if it not in UNCOUNTED}
-        most = sorted((it for it in found if found[it]), key=found.get, reverse=True)[:3]
-        where = ", ".join(f"{it} ({found[it]})" for it in most)
-        yield said, f"{sum(found.values())} times" + f", most in {where}" * bool(most)
 
 
 def unended():

@@ -21,8 +21,8 @@ exit 1
 """
 
 
-class NotCompiled(Exception):
-    pass
+class NotCompiled(SystemExit):
+    """Ends the command, with what `rt try` says, where nothing else is done about it."""
 
 
 def program_of(crate, *words, start=subprocess.Popen):

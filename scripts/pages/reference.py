@@ -1,12 +1,7 @@
 """Writes the reference, docs/reference/*.md: all that the library crates export, with contracts, callers and what differs in Rust.
 
-An entry has a signature, the `///`, what it requires, when it fails, when it cannot and what holds then (read off the clauses
-by scripts/pages/outcomes.py), what it costs (docs/reference/costs.txt), an example (docs/reference/examples.txt) or else a
-caller, and the contract.
-
 `tests/docs` names the pages that differ from what this would write or have more than MOST lines, exports that are on no page or
-on two, comments that are missing, and calls without a caller. What precedes the line MARK of a page is written by hand, and
-stays.
+on two, comments that are missing, and calls without a caller. What precedes the line MARK of a page is written by hand.
 """
 import functools
 import re
@@ -151,7 +146,8 @@ def said_twice(text):
 
 def wrong_errors(library):
     """Where the table of errors names other calls than those whose signature has the error."""
-    rows = re.findall(r"^\| `(\w+)(?:<[^`]*)?` \| (.*?) \|", pages_above(INDEX), re.M)
+    above = (FOLDER / f"{INDEX}.md").read_text(encoding="utf-8").partition(MARK)[0]
+    rows = re.findall(r"^\| `(\w+)(?:<[^`]*)?` \| (.*?) \|", above, re.M)
     entries = [it for found in library.pages.values() for it in found]
     types = {it.name for it in entries if it.kind in ("struct", "enum")}
     made = [it for it in entries if it.kind in ("fn", "method") and not it.is_part]
@@ -159,11 +155,6 @@ def wrong_errors(library):
         returning = {it.name for it in made if re.search(rf"-> .*\b{error}\b", it.item.signature())}
         named = set(re.findall(r"`([a-z]\w+)`", cell))
         yield from (f"docs/reference/{INDEX}.md: {error}: {it}" for it in sorted(returning ^ named))
-
-
-def pages_above(name):
-    """What is written by hand on a page."""
-    return (FOLDER / f"{name}.md").read_text(encoding="utf-8").partition(MARK)[0]
 
 
 # Calls of one name that do different things.
@@ -340,15 +331,12 @@ class Entry(exports.Export):
             return "parts"
         if self.kind == "macro_rules!" or self.kind == "method" and of == main and not self.has_self():
             return "making"
-        if self.kind == "method":
-            return self.own_section() if of == main and stem == snake(main) else stem
+        if self.kind == "method" and of == main and stem == snake(main):
+            signature = self.item.signature()
+            return "reading" if "&self" in signature else "writing" if "&mut self" in signature else "taking"
         # An impl for a type of std is of the type that its trait names.
-        is_own = main and (of == main or main in (self.trait or ""))
+        is_own = self.kind != "method" and main and (of == main or main in (self.trait or ""))
         return "traits" if is_own else stem
-
-    def own_section(self):
-        signature = self.item.signature()
-        return "reading" if "&self" in signature else "writing" if "&mut self" in signature else "taking"
 
     def functions(self):
         """The functions whose clauses tell when it fails. What prints fails if its writer does."""

@@ -1,11 +1,7 @@
-"""Finds what was left behind in the sources, and edits that can no longer be applied.
-
-Of a crate it tells
-- a definition of specs/ or proofs/ that nothing reaches from the contracts, the answers to goals and the documents;
-- a name that a file imports and does not use, or that an item imports and its file has at its top already;
-- a header, the first line `//!` of a file, with a name in backticks that is nowhere; in a library also one that says
-  `inserted` where its file has no `insert`, or a noun of NOUNS for an impl that its file lacks;
-- an edit of tests/mutations that cannot be read or applied.
+"""Finds what was left behind in the sources, and edits that can no longer be applied: a definition of specs/ or proofs/ that nothing
+reaches from the contracts, the answers to goals and the documents; a name that a file imports and does not use, or that an item
+imports and its file has at its top; a header, the first line `//!` of a file, with a name in backticks that is nowhere, in a library
+also one that says `inserted` where its file has no `insert`, or a noun of NOUNS for an impl that its file lacks.
 
 Names are compared as words, so one that two things share is told of neither. First it looks for a fault of each kind in
 PLANTED, and fails where it does not tell one.
@@ -35,22 +31,13 @@ CONTAINER = re.compile(r"(?:abbrev )?mutual$|(?:pub )?module \S")
 
 # What a header calls the impls of a file.
 NOUNS = {
-    "comparisons": "cmp|eq|Ord",
-    "hashes": "Hash",
-    "indexing": "Index",
-    "iteration": "Iterator|iter",
-    "writers": "Write",
+    "comparisons": "cmp|eq|Ord", "hashes": "Hash", "indexing": "Index", "iteration": "Iterator|iter", "writers": "Write",
 }
 
 # The methods and macros of std's traits that files call.
 METHODS = {
-    "Write": r"write\w*|flush",
-    "Read": r"read\w*|bytes",
-    "BufRead": r"fill_buf|consume|lines|read\w*",
-    "Hash": "hash",
-    "Hasher": r"write\w*|finish",
-    "Borrow": "borrow",
-    "AllocGlobal": "alloc",
+    "Write": r"write\w*|flush", "Read": r"read\w*|bytes", "BufRead": r"fill_buf|consume|lines|read\w*",
+    "Hash": "hash", "Hasher": r"write\w*|finish", "Borrow": "borrow", "AllocGlobal": "alloc",
 }
 
 AT_TOP = "which the file has at its top already"
@@ -76,9 +63,13 @@ def faults(asked=()):
     asked = asked or list(known)
     yield from untold()
     sources = [Source(it.name, path, text.decode()) for it in known.values() for path, text in it.sources.items()]
-    found = (it for it in Workspace(sources, documents()).faults() if it[0].crate in asked)
+    documents = {word for pattern in DOCUMENTS for it in crates.TOP.glob(pattern) for word in SPACE.split(crates.text_of(it))}
+    found = (it for it in Workspace(sources, documents).faults() if it[0].crate in asked)
     yield from sorted(f"crates/{source.crate}/{source.path}: {what}" for source, what in found)
-    yield from sorted(misfits([it for it in asked if (edits.FOLDER / it).is_dir()], known))
+    changes, broken = edits.read_all([it for it in asked if (edits.FOLDER / it).is_dir()])
+    texts = {name: edits.reader(known[name].folder) for name in asked}
+    broken += [(str(it), why) for it in changes for why in [edits.misfit(it, texts[it.crate])] if why]
+    yield from sorted(f"tests/mutations: {name}: {why}" for name, why in broken)
 
 
 def untold():
@@ -93,10 +84,6 @@ def untold():
         yield f"of the planted {path} it should tell: {wanted or 'nothing'}; it tells: {told[path]}"
     if not edits.misfit(AMBIGUOUS, lambda path: "x x"):
         yield "it applies an edit whose old text is in its file twice"
-
-
-def documents():
-    return {word for pattern in DOCUMENTS for it in crates.TOP.glob(pattern) for word in SPACE.split(crates.text_of(it))}
 
 
 class Source:
@@ -144,11 +131,6 @@ class Definition:
     def text(self):
         return self.source.code[self.start : self.end]
 
-    def is_answer(self):
-        """Whether rt looks for it by its name."""
-        of_function = self.source.path.endswith("/Proof.antt") and self.name.endswith("_spec")
-        return of_function or ANSWER.match(self.text()) is not None
-
 
 def definitions(source):
     """The definitions of a file of proofs or specs, each up to the next one."""
@@ -192,7 +174,8 @@ class Workspace:
             for it in definitions(source):
                 words = words_of(IMPORT.sub("", it.text()), source.kind)
                 words |= {stands[word] for word in words if word in stands}
-                if it.is_answer():
+                # rt looks for these by their names.
+                if source.path.endswith("/Proof.antt") and it.name.endswith("_spec") or ANSWER.match(it.text()):
                     left |= words
                 else:
                     known.append(it)
@@ -258,11 +241,3 @@ def stems(word):
         yield from (word[:-2], word[:-1])
         if word[-3:-2] == word[-4:-3]:
             yield word[:-3]
-
-
-def misfits(names, known):
-    """The edits of these crates that cannot be read or applied."""
-    found, broken = edits.read_all(names)
-    texts = {name: edits.reader(known[name].folder) for name in names}
-    broken += [(str(it), why) for it in found for why in [edits.misfit(it, texts[it.crate])] if why]
-    return [f"tests/mutations: {name}: {why}" for name, why in broken]

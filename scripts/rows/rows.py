@@ -38,8 +38,8 @@ LIMIT = 900
 ESCAPES = {"n": "\n", "t": "\t", "r": "\r", "0": "\0"}
 
 
-class BadRow(Exception):
-    pass
+class BadRow(SystemExit):
+    """Ends the command, with the reason, where nothing else is done about it."""
 
 
 class Chain:
@@ -203,6 +203,10 @@ def sent(text):
 def unquoted(text):
     text = re.sub(r"\\u\{([0-9a-fA-F]+)\}", lambda it: chr(int(it[1], 16)), text[1:-1])
     return re.sub(r"\\(.)", lambda it: ESCAPES.get(it[1], it[1]), text)
+
+
+def short(text):
+    return text if len(text) < 700 else f"{text[:450]} .. {text[-200:]}"
 
 
 def run(lines, is_tried=False, refusing=None):

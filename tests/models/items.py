@@ -32,23 +32,14 @@ ITEMS = {
     "()": Item((), 0, [()], of=lambda _number: (), number=lambda _x: 0, added=lambda x, _more: x),
     # A number behind two others.
     "Wide": Item(
-        (0, 0, 0),
-        24,
-        [(1, 2, it) for it in range(-3, 10)],
-        passed=lambda x: str(x[2]),
-        of=lambda number: (1, 2, number),
-        number=lambda x: x[2],
+        (0, 0, 0), 24, [(1, 2, it) for it in range(-3, 10)],
+        passed=lambda x: str(x[2]), of=lambda number: (1, 2, number), number=lambda x: x[2],
         added=lambda x, more: (*x[:2], x[2] + more),
     ),
     # A number on the heap, or none.
     "Box": Item(
-        None,
-        8,
-        [None, *range(-3, 10)],
-        shown=lambda x: "None" if x is None else f"Some({x})",
-        number=lambda x: -1 if x is None else x,
-        added=lambda x, more: None if x is None else x + more,
-        is_owner=True,
+        None, 8, [None, *range(-3, 10)], shown=lambda x: "None" if x is None else f"Some({x})", is_owner=True,
+        number=lambda x: -1 if x is None else x, added=lambda x, more: None if x is None else x + more,
     ),
 }
 
