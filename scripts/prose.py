@@ -39,22 +39,20 @@ def main():
         count = 0
         for file in sorted([*TOP.glob("crates/*/src/**/*.rt"), *TOP.glob("crates/*/specs/*.antt")]):
             if len(arguments) == 1 or file.relative_to(TOP).parts[1] in arguments:
-                found = hard(comments(file.read_text(encoding="utf-8"), MARK[file.suffix]))
+                # The comments, each as a paragraph.
+                mark, text = MARK[file.suffix], file.read_text(encoding="utf-8")
+                found = hard(re.sub(rf"^{mark}", "", re.sub(rf"^(?!{mark}).*$", "", text, flags=re.M), flags=re.M))
                 count += len(found)
-                show(f"{file.relative_to(TOP)}: {len(found)} hard sentences", found) if found else None
+                print("".join(f"{file.relative_to(TOP)}: {it}\n" for it in found), end="")
         print(f"prose: {count} hard sentences in comments")
         return
     for name in arguments or documents():
         text = read(name)
         found = hard(text)
-        show(f"{name}: {words_in(text)} words, {len(found)} hard sentences", found if arguments else [])
+        print(f"{name}: {words_in(text)} words, {len(found)} hard sentences")
+        print("".join(f"    {it}\n" for it in found if arguments), end="")
     print(f"prose: {len(documents())} documents, {total()} words of {MOST} in sentences, {in_all()} of {MOST_IN_ALL} in all")
     sys.exit(any(too_long()))
-
-
-def show(line, sentences):
-    print(line)
-    print("".join(f"    {it}\n" for it in sentences), end="")
 
 
 def documents():
@@ -117,11 +115,6 @@ def faults():
 
 def hard(text):
     return [it for it in sentences(text) if len(it.split()) > LONGEST or ODD.search(it)]
-
-
-def comments(text, mark):
-    """The comments of a source, each as a paragraph."""
-    return re.sub(rf"^{mark}", "", re.sub(rf"^(?!{mark}).*$", "", text, flags=re.M), flags=re.M)
 
 
 def sentences(text):

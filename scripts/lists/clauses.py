@@ -54,7 +54,10 @@ def faults():
 
 def kept(locked, current):
     """The names that went, and that have no reason for it."""
-    there, told = {line for line, _ in edited()}, changed()
+    there = {line for line, _ in edits_by_function()}
+    # The words in backticks of each line of the first part of the changelog.
+    first = (TOP / "CHANGELOG.md").read_text(encoding="utf-8").split("\n## ")[1]
+    told = [set(re.findall(r"[\w.]+", " ".join(re.findall(r"`([^`]*)`", line)))) for line in first.splitlines()]
     gone = {line: [it for it in names if it not in current.get(line, ())] for line, names in locked.items()}
     for line, names in gone.items():
         if line.startswith("clauses "):
@@ -64,12 +67,6 @@ def kept(locked, current):
         elif line not in there:
             gone[line] = []
     return {line: names for line, names in gone.items() if names}
-
-
-def changed():
-    """The words in backticks of each line of the first part of the changelog."""
-    first = (TOP / "CHANGELOG.md").read_text(encoding="utf-8").split("\n## ")[1]
-    return [set(re.findall(r"[\w.]+", " ".join(re.findall(r"`([^`]*)`", line)))) for line in first.splitlines()]
 
 
 def read():
@@ -125,7 +122,7 @@ def found():
     """The names by call, as the sources have them, and the edits by function; and the sums of the calls."""
     calls = [(f"clauses {key}", sorted(set(names)), text) for crate in exports.LIBRARIES for key, names, text in stated(crate)]
     names = {line: its for line, its, _ in calls}
-    for line, edit in edited():
+    for line, edit in edits_by_function():
         names.setdefault(line, [])
         names[line] += [edit.name] if edit else []
     return names, {line: hashlib.sha256(text.encode()).hexdigest()[:8] for line, _, text in calls if text}
@@ -222,17 +219,14 @@ def file_of(path):
 
 
 @functools.cache
-def edited():
-    return list(edits_by_function())
-
-
 def edits_by_function():
     """Each function that edits may change, with one of its edits, or with none."""
-    folders = sorted(it for it in edits.FOLDER.iterdir() if it.is_dir())
-    all_edits, _ = edits.read_all([it.name for it in folders])
-    for crate in (it.name for it in folders):
+    found, folders = [], sorted(it.name for it in edits.FOLDER.iterdir() if it.is_dir())
+    all_edits, _ = edits.read_all(folders)
+    for crate in folders:
         known = functions.of_crate(TOP / "crates" / crate)
         texts = edits.reader(TOP / "crates" / crate)
-        yield from ((f"edits {crate} {it.path()}", None) for it in known)
+        found += [(f"edits {crate} {it.path()}", None) for it in known]
         for edit in (it for it in all_edits if it.crate == crate and not edits.misfit(it, texts)):
-            yield from ((f"edits {crate} {it}", edit) for it in {one.path() for one in edits.owners(edit, known, texts)})
+            found += [(f"edits {crate} {it}", edit) for it in {one.path() for one in edits.owners(edit, known, texts)}]
+    return found

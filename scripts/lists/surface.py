@@ -38,23 +38,18 @@ def write():
 
 def faults():
     lines = LIST.read_text(encoding="utf-8").splitlines()
-    yield from short_parts(lines)
+    for heading, *inside in (f"# {it}".splitlines() for it in "\n".join(lines).split("\n# ")[1:]):
+        found, count = HEADING.match(heading), sum(bool(it) for it in inside)
+        if not found or int(found[2]) != count:
+            yield f"{NAME}: {count} lines stand below this heading: {heading}"
     yield from (f"{NAME}: {it}" for it in gone(lines))
     yield from (f"{NAME}: run tests/docs --write: it lacks {it}" for it in lacking(lines))
 
 
-def short_parts(lines):
-    """Headings that tell of more lines than there are, and of fewer."""
-    parts = "\n".join(lines).split("\n# ")[1:]
-    for heading, *inside in (f"# {it}".splitlines() for it in parts):
-        found, count = HEADING.match(heading), sum(bool(it) for it in inside)
-        if not found or int(found[2]) != count:
-            yield f"{NAME}: {count} lines stand below this heading: {heading}"
-
-
 def gone(lines):
     """Lines that hold no longer."""
-    known, used, told = here(), of_the_kit(), differences()
+    known, used = here(), of_the_kit()
+    told = [it.removeprefix("| ") for it in crates.text_of(TOP / "docs/DIFFERENCES.md").splitlines()]
     for line in (it for it in lines if it and not it.startswith("#")):
         if found := KIT.match(line):
             if (found["name"], found["crate"]) not in used:
@@ -118,7 +113,3 @@ def is_told(line, found):
     """Whether a line of docs/DIFFERENCES.md is the one that tells of a name. A feature is named there."""
     feature = found["name"].removeprefix("feature ")
     return line.startswith(found["why"]) and (feature == found["name"] or f"`{feature}`" in line)
-
-
-def differences():
-    return [it.removeprefix("| ") for it in (TOP / "docs/DIFFERENCES.md").read_text(encoding="utf-8").splitlines()]

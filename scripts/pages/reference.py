@@ -84,6 +84,7 @@ PROOFS = re.compile(
 )
 # What precedes the clauses of a declaration, or the functions of an impl.
 CONTRACT = re.compile(r"(?:\n +(?:requires|ensures\*?|ghost|fn)\b| (?=(?:requires|ensures\*?) (?:\w+ )?\{))")
+SELF = re.compile(r"\(\s*(?:&(?:'\w+ )?)?(?:mut )?self\b")
 NO_WORDS = re.compile(r"\.declared\.|\.proofs\.|^std\.specs\.Prelude$")
 NAMES = re.compile(r"(\w+)(::|: )(\{[^}]*\}|\w+!?)")
 
@@ -236,7 +237,9 @@ class Library:
             lines.append(f"\n\n| {title} | {heads} |\n|{'---|' * (len(COLUMNS) + 1)}")
             lines += [f"\n| `{name}` | {' | '.join(rows[name].get(it, '') for it in COLUMNS)} |" for name in sorted(rows)]
         lines.append("\n\n| Also on | Calls, types and traits |\n|---|---|")
-        lines += [f"\n| [{page_title(page)}]({page}.md) | {', '.join(links)} |" for page, links in self.others() if links]
+        for page, links in self.others():
+            title = (FOLDER / f"{page}.md").read_text(encoding="utf-8").partition("\n")[0].removeprefix("# ")
+            lines += [f"\n| [{title}]({page}.md) | {', '.join(links)} |"] * bool(links)
         return "".join(lines) + "\n"
 
     def others(self):
@@ -247,10 +250,6 @@ class Library:
             is_listed = lambda it: it.is_part or it.kind == "impl" or it.name == main or it.of in types and it.of == main
             others = (it for it in found if not is_listed(it))
             yield page, [f"[`{it.heading(main).strip('`')}`]({page}.md#{it.anchor(main)})" for it in others]
-
-
-def page_title(page):
-    return (FOLDER / f"{page}.md").read_text(encoding="utf-8").partition("\n")[0].removeprefix("# ")
 
 
 def page_of(crate, export):
@@ -329,7 +328,7 @@ class Entry(exports.Export):
         of = re.sub(r"^&(?:mut )?", "", self.of or self.name)
         if self.is_part:
             return "parts"
-        if self.kind == "macro_rules!" or self.kind == "method" and of == main and not self.has_self():
+        if self.kind == "macro_rules!" or self.kind == "method" and of == main and not SELF.search(self.item.signature()):
             return "making"
         if self.kind == "method" and of == main and stem == snake(main):
             signature = self.item.signature()
@@ -381,9 +380,9 @@ class Entry(exports.Export):
             lines = [*item.head()]
             for it in item.members():
                 if it.kind == "ghost" and (item.kind == "trait" or not PROOFS.match(it.lines[0])):
-                    lines += indented([*it.note, *it.lines])
+                    lines += [f"    {line}" for line in (*it.note, *it.lines)]
                 elif it.kind in ("type", "const") and item.kind == "trait" or it.kind == "fn" and has_contract(it):
-                    lines += indented(it.head())
+                    lines += [f"    {line}" for line in it.head()]
             return "\n".join(it for it in lines if it.strip())
         lines = [*(it for it in item.attributes if "derive" in it and item.kind != "fn"), *item.head()]
         if item.kind == "macro_rules!":
@@ -398,10 +397,6 @@ class Entry(exports.Export):
 
 def has_contract(item):
     return bool(re.search(r"^\s*(?:requires|ensures)", "\n".join(item.head()), re.M)) or item.lines[-1].endswith(";")
-
-
-def indented(lines):
-    return [f"    {it}" for it in lines]
 
 
 def paragraphs(comment):

@@ -85,16 +85,13 @@ class Run:
         if crate not in self.desks:
             with self.guard:
                 if crate not in self.desks:
-                    self.desks[crate] = self.made_ready(crate)
+                    for one in self.crates[crate].below:
+                        self.require(one.name, self.libraries.add(one))
+                    desk = checking.Desk(self.crates[crate], self.libraries, self.room)
+                    said = desk.check({}, self.paths(it for it in self.owners if it.crate == crate), self.jobs, keeps=True)
+                    self.require(crate, None if said.is_proved else said)
+                    self.desks[crate] = desk
         return self.desks[crate]
-
-    def made_ready(self, crate):
-        for one in self.crates[crate].below:
-            self.require(one.name, self.libraries.add(one))
-        desk = checking.Desk(self.crates[crate], self.libraries, self.room)
-        said = desk.check({}, self.paths(it for it in self.owners if it.crate == crate), self.jobs, keeps=True)
-        self.require(crate, None if said.is_proved else said)
-        return desk
 
     def require(self, crate, wrong):
         if wrong:

@@ -132,9 +132,6 @@ class Export:
         """What can be called of it."""
         return [self.item] if self.item.kind == "fn" else [it for it in item_members(self.item) if it.kind == "fn"]
 
-    def has_self(self):
-        return bool(re.search(r"\(\s*(?:&(?:'\w+ )?)?(?:mut )?self\b", self.item.signature()))
-
 
 @functools.cache
 class Crate:

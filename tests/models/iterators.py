@@ -120,7 +120,4 @@ def splice(v, span, new, steps):
     return " ".join([*said, f"refused {v.item.shown(rest[0])}" if rest else str(driven.touches)])
 
 
-@calls("splice_all R L")
-def splice_all(v, span, new):
-    rest = Splice(v, span, new).finish()
-    return f"refused {v.item.shown(rest[0])}" if rest else ""
+calls("splice_all R L")(lambda v, span, new: " ".join(f"refused {v.item.shown(it)}" for it in Splice(v, span, new).finish()[:1]))

@@ -80,7 +80,7 @@ def drawn_chain(draw):
     start, wanted = " ".join(["streams reads", *reader.start(), "takes", *writer.start()]), []
     for name, kind, *value in calls:
         try:
-            answer = read_value(reader, kind) if name == "get" else write_value(writer, kind, *value)
+            answer = read_value(reader, kind) if name == "get" else writer.writes(borsh_form.spelling(kind, *value)) or "ok"
         except Fault as fault:
             answer = str(fault)
         moved = (reader if name == "get" else writer).moved()
@@ -116,11 +116,6 @@ def drawn_bytes(draw, kind):
     if change < 0.1 and given:
         given[draw.randrange(len(given))] = draw.choice([0, 1, 2, 3, 5, 128, 255])
     return bytes(given if change < 0.95 else given[: draw.randint(0, len(given))])
-
-
-def write_value(writer, kind, value):
-    writer.writes(borsh_form.spelling(kind, value))
-    return "ok"
 
 
 def read_value(reader, kind):
