@@ -86,10 +86,6 @@ class Crate:
         """Differs where anything differs that the library or program is made from."""
         return sum_of(kit(), self.row, self.sources, [it.sum for it in self.uses])
 
-    def statements(self):
-        """Differs where anything differs that a proof above can cite, but neither by a body nor by the proof of one."""
-        return text_of(self.out / "statements")
-
     def has_tests(self):
         return any(path.endswith(".rt") and b"#[test]" in text for path, text in self.sources.items())
 
@@ -108,19 +104,15 @@ class Crate:
 
     def fits(self):
         """Whether the library can be used beside those below as they are built now: one of `rt ci` holds only statements,
-        and is refused beside other builds than those that it was proved over."""
+        and is refused beside other builds than those that it was proved over, which it names by these sums."""
         over = dict(OVER.findall(text_of(self.format)))
-        return all(over[it.name] == it.build() for it in self.below if it.name in over)
+        return all(over[it.name] == sum_of_file(it.format) for it in self.below if it.name in over)
 
     def has_library(self):
         """Whether there is a library to begin with. One that does not fit loses its mark, by which rt would take it."""
         if not self.fits():
             (self.out / self.mark).unlink(missing_ok=True)
         return self.fits() and (self.out / "rlib").is_dir()
-
-    def build(self):
-        """The sum by which a library above names this build."""
-        return sum_of_file(self.format)
 
     def has_only_tests(self):
         """Whether nothing is made of the crate but tests, with which it is proved."""
@@ -130,7 +122,9 @@ class Crate:
         """What out/good holds where the crate was found good with these very files, over what stands below it."""
         is_tests = any(self.name == f"{it.name}_tests" for it in self.uses)
         tested = [it.files for it in self.uses if is_tests]
-        return sum_of(kit(), self.row, self.files, tested, [it.statements() for it in self.below])
+        # These differ where anything differs that a proof above can cite, but neither by a body nor by the proof of one.
+        stated = [text_of(it.out / "statements") for it in self.below]
+        return sum_of(kit(), self.row, self.files, tested, stated)
 
     def is_good(self):
         is_made = self.has_only_tests() or all((self.out / it).exists() for it in self.made)
@@ -143,8 +137,7 @@ class Crate:
     def is_now_built(self):
         """Notes of what rt has just made that it was made from these sources, and what it states."""
         if not self.is_program:
-            stated = statements_of(self.format.parent)
-            (self.out / "statements").write_text(stated, encoding="utf-8")
+            (self.out / "statements").write_text(statements_of(self.format.parent), encoding="utf-8")
         # Written apart and renamed, so that no other run meets half of it.
         (self.out / "built.new").write_text(self.record(), encoding="utf-8")
         (self.out / "built.new").replace(self.out / "built")

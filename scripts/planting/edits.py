@@ -67,11 +67,7 @@ def read_all(crates):
 
 
 def read(crate, file, path):
-    """The edits of a file. Each is a line `edit: NAME`, `named: NAME` or `tested: NAME`, and then pairs of `old: TEXT` and `new: TEXT`.
-
-    A line `file: PATH` says that the pairs after it are of another file. A line `in: TEXT`, which the file has once, says
-    that the old text of the next pair is the first after it. A line `# TEXT` says why an edit is as it is.
-    """
+    """The edits of a file, in the form that CONTRIBUTING.md describes. A line `# TEXT` says why an edit is as it is."""
     if path.suffix != ".edits":
         raise BadEdit("its name does not end in .edits")
     found, place = [], f"{crate}/{pathlib.PurePosixPath(file).relative_to('src').with_suffix('.edits')}"

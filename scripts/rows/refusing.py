@@ -1,12 +1,9 @@
-"""Runs a program with one of its requests for memory refused, and counts the requests and the blocks that it gives back.
-
-It needs a C compiler, `cc`, for a small library that is loaded before the C library.
-"""
+"""Runs a program with one of its requests for memory refused, and counts the requests and the blocks that it gives back, by a
+small library that `cc` makes and that is loaded before the C library."""
 import os
 import pathlib
 import re
 import subprocess
-import sys
 
 SOURCE = pathlib.Path(__file__).resolve().parent / "refusing.c"
 
@@ -22,8 +19,7 @@ class Refusing:
         """The library goes into the folder."""
         self.library = f"{folder}/refusing.so"
         made = ["cc", "-O2", "-shared", "-fPIC", "-o", self.library, SOURCE]
-        if subprocess.run(made).returncode:
-            sys.exit("the library that refuses memory was not made")
+        subprocess.run(made, check=True)
 
     def run(self, words, number, given=b""):
         """Refuses the request of that number, none where it is 0."""

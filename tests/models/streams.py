@@ -71,8 +71,8 @@ class Stream:
         return self.kept.hex() if len(self.kept) <= swept.MOST_DIGITS else f"{len(self.kept)} bytes"
 
 
-def drawn_chain(draw):
-    """A start, calls, and what they answer; None where the model does not know."""
+def drawn_chain(draw, _library):
+    """A start, and calls, each with what it answers, None where the model does not know, and no number of requests."""
     kinds = [draw.choice(draw.choice([NUMBERS, LISTS, TEXTS])) for _ in range(draw.randint(1, 12))]
     calls = [("put", it, drawn_value(draw, it)) if draw.random() < 0.5 else ("get", it) for it in kinds]
     given = b"".join(drawn_bytes(draw, it[1]) for it in calls if it[0] == "get")
@@ -85,7 +85,7 @@ def drawn_chain(draw):
             answer = str(fault)
         moved = (reader if name == "get" else writer).moved()
         wanted.append(answer and f"{answer}, {reader.faults + writer.faults} faults / {moved}")
-    return start, [" ".join([name, kind, *map(sent, value)]) for name, kind, *value in calls], wanted
+    return start, [(" ".join([*call[:2], *map(sent, call[2:])]), want, None) for call, want in zip(calls, wanted)]
 
 
 def sent(value):
