@@ -1,8 +1,8 @@
 """Instructions, counted by callgrind: they are the same on each run, whatever else the machine does.
 
-Of a row callgrind counts from the function `begin_rounds` to the function `end_rounds`. Each program runs for so many rounds and
-for twice as many, and the difference is that of the further rounds alone: what the first ones cost besides, as a page of memory,
-falls out. A whole program is counted from its start to its end.
+Of a row callgrind counts from the function `begin_rounds` to the function `end_rounds`. Each program runs for so many
+rounds and for twice as many, and the difference is that of the further rounds alone: what the first ones cost besides, as a
+page of memory, falls out. A whole program is counted from its start to its end.
 """
 import concurrent.futures
 import os

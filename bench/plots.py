@@ -1,5 +1,5 @@
-"""How the time grows with the number of items, and that of `tv` with the number of lines: tables, and pictures of small plots side
-by side, both axes by powers. A picture has its own background, and is dark where the reader's system is."""
+"""How the time grows with the number of items, and that of `tv` with the number of lines: tables, and pictures of small
+plots side by side, both axes by powers. A picture has its own background, and is dark where the reader's system is."""
 import html
 import math
 import pathlib

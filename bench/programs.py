@@ -45,8 +45,8 @@ def output(command):
 
 
 def nanoseconds(programs, kind, runs, rounds):
-    """Of each program, by row and capacity: the least of many runs, in rotated order, which is what it takes if the machine does
-    nothing else."""
+    """Of each program, by row and capacity: the least of many runs, in rotated order, which is what it takes if the machine
+    does nothing else."""
     taken, names = {name: {} for name in programs}, list(programs)
     for turn in (run % len(names) for run in range(runs)):
         for name in names[turn:] + names[:turn]:

@@ -1,8 +1,9 @@
 """The crates of this repository, and how they are proved side by side, over what earlier runs kept.
 
-`rt` keeps every other `rt` out of a crate's folder and of those below, so that two crates over one library would be proved in
-turn. Here each is proved in a copy inside its out/, a repository of the crate and those below it, while this process keeps others
-out of the folders themselves. An edit made meanwhile is seen by the next run, and a run that is cut off leaves nothing half-made.
+`rt` keeps every other `rt` out of a crate's folder and of those below, so that two crates over one library would be proved
+in turn. Here each is proved in a copy inside its out/, a repository of the crate and those below it, while this process
+keeps others out of the folders themselves. An edit made meanwhile is seen by the next run, and a run that is cut off leaves
+nothing half-made.
 """
 import concurrent.futures
 import contextlib

@@ -1,7 +1,8 @@
-"""Finds what was left behind in the sources, and edits that can no longer be applied: a definition of specs/ or proofs/ that nothing
-reaches from the contracts, the answers to goals and the documents; a name that a file imports and does not use, or that an item
-imports and its file has at its top; a header, the first line `//!` of a file, with a name in backticks that is nowhere, in a library
-also one that says `inserted` where its file has no `insert`, or a noun of NOUNS for an impl that its file lacks.
+"""Finds what was left behind in the sources, and edits that can no longer be applied: a definition of specs/ or proofs/
+that nothing reaches from the contracts, the answers to goals and the documents; a name that a file imports and does not
+use, or that an item imports and its file has at its top; a header, the first line `//!` of a file, with a name in backticks
+that is nowhere, in a library also one that says `inserted` where its file has no `insert`, or a noun of NOUNS for an impl
+that its file lacks.
 
 Names are compared as words, so one that two things share is told of neither. First it looks for a fault of each kind in
 PLANTED, and fails where it does not tell one.
@@ -63,7 +64,8 @@ def faults(asked=()):
     asked = asked or list(known)
     yield from untold()
     sources = [Source(it.name, path, text.decode()) for it in known.values() for path, text in it.sources.items()]
-    documents = {word for pattern in DOCUMENTS for it in crates.TOP.glob(pattern) for word in SPACE.split(crates.text_of(it))}
+    texts = (crates.text_of(it) for pattern in DOCUMENTS for it in crates.TOP.glob(pattern))
+    documents = {word for text in texts for word in SPACE.split(text)}
     found = (it for it in Workspace(sources, documents).faults() if it[0].crate in asked)
     yield from sorted(f"crates/{source.crate}/{source.path}: {what}" for source, what in found)
     changes, broken = edits.read_all([it for it in asked if (edits.FOLDER / it).is_dir()])

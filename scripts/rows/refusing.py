@@ -1,5 +1,5 @@
-"""Runs a program with one of its requests for memory refused, and counts the requests and the blocks that it gives back, by a
-small library that `cc` makes and that is loaded before the C library."""
+"""Runs a program with one of its requests for memory refused, and counts the requests and the blocks that it gives back, by
+a small library that `cc` makes and that is loaded before the C library."""
 import os
 import pathlib
 import re

@@ -120,4 +120,6 @@ def splice(v, span, new, steps):
     return " ".join([*said, f"refused {v.item.shown(rest[0])}" if rest else str(driven.touches)])
 
 
-calls("splice_all R L")(lambda v, span, new: " ".join(f"refused {v.item.shown(it)}" for it in Splice(v, span, new).finish()[:1]))
+calls("splice_all R L")(
+    lambda v, span, new: "".join(f"refused {v.item.shown(it)}" for it in Splice(v, span, new).finish()[:1])
+)
