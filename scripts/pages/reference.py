@@ -237,19 +237,16 @@ class Library:
             lines.append(f"\n\n| {title} | {heads} |\n|{'---|' * (len(COLUMNS) + 1)}")
             lines += [f"\n| `{name}` | {' | '.join(rows[name].get(it, '') for it in COLUMNS)} |" for name in sorted(rows)]
         lines.append("\n\n| Also on | Calls, types and traits |\n|---|---|")
-        for page, links in self.others():
-            title = (FOLDER / f"{page}.md").read_text(encoding="utf-8").partition("\n")[0].removeprefix("# ")
-            lines += [f"\n| [{title}]({page}.md) | {', '.join(links)} |"] * bool(links)
-        return "".join(lines) + "\n"
-
-    def others(self):
-        """What each page has that is no call and no trait of the four types."""
         types = [main_of(it) for it in COLUMNS]
+        # What each page has that is no call and no trait of the four types.
         for page, found in self.pages.items():
             main = main_of(page)
             is_listed = lambda it: it.is_part or it.kind == "impl" or it.name == main or it.of in types and it.of == main
             others = (it for it in found if not is_listed(it))
-            yield page, [f"[`{it.heading(main).strip('`')}`]({page}.md#{it.anchor(main)})" for it in others]
+            links = [f"[`{it.heading(main).strip('`')}`]({page}.md#{it.anchor(main)})" for it in others]
+            title = (FOLDER / f"{page}.md").read_text(encoding="utf-8").partition("\n")[0].removeprefix("# ")
+            lines += [f"\n| [{title}]({page}.md) | {', '.join(links)} |"] * bool(links)
+        return "".join(lines) + "\n"
 
 
 def page_of(crate, export):

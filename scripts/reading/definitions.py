@@ -62,12 +62,9 @@ def code(text):
 
 @functools.cache
 def words_of(file):
-    """The public words of a file. The fields of records are told with their record."""
-    return [*read_words(file.read_text(encoding="utf-8").splitlines())]
-
-
-def read_words(lines):
-    """Each public word of these lines, whose comment follows that of its module, with what its modules are given."""
+    """The public words of a file, each with what its modules are given, and its comment after theirs. The fields of records are told
+    with their record."""
+    lines = file.read_text(encoding="utf-8").splitlines()
     depth, comment, modules, starts = None, [], [], []
     for at, line in enumerate(lines):
         if not line.strip():
@@ -88,8 +85,8 @@ def read_words(lines):
                 starts.append((at, found, said, [name for it in modules for name in it[2]], [it[3] for it in modules]))
                 depth = indent if found["kind"] else None
             comment = []
-    for (at, found, said, given, heads), (end, *_) in zip(starts, [*starts[1:], (len(lines),)]):
-        yield Word(found, said, given, heads, lines[at + 1 : end])
+    ends = [*(at for at, *_ in starts[1:]), len(lines)]
+    return [Word(*it, lines[at + 1 : end]) for (at, *it), end in zip(starts, ends)]
 
 
 def given_by(head):

@@ -98,12 +98,6 @@ class Source:
         self.items = list(items_in(text.splitlines(), 1))
         self.begins = [at for at, line in enumerate(text.splitlines(), 1) if BEGINS.match(line)]
 
-    def unread(self):
-        """Lines that begin a declaration, and that no item begins at."""
-        read = {it.at for it in self.items} | {it.at for item in self.items for it in item_members(item)}
-        inside = [range(it.at + 1, it.at + len(it.lines)) for it in self.items if it.kind in ("fn", "macro_rules!")]
-        return [at for at in self.begins if at not in read and not any(at in it for it in inside)]
-
 
 def item_members(item):
     return list(item.members()) if item.kind in ("impl", "trait") else []
@@ -214,7 +208,11 @@ class Crate:
         """What the sources export as far as a look at single lines tells, and what this did not find."""
         found = {(it.source, it.item.at) for it in self.exports()}
         for source in self.sources.values():
-            yield from (f"{source.path}:{at}: scripts/reading/exports.py does not read what begins here" for at in source.unread())
+            # Lines that begin a declaration, and that no item begins at.
+            read = {it.at for item in source.items for it in (item, *item_members(item))}
+            inside = [range(it.at + 1, it.at + len(it.lines)) for it in source.items if it.kind in ("fn", "macro_rules!")]
+            unread = (at for at in source.begins if at not in read and not any(at in it for it in inside))
+            yield from (f"{source.path}:{at}: scripts/reading/exports.py does not read what begins here" for at in unread)
             for item in source.items:
                 named = set(re.findall(r"\w+", re.sub(r"\bwhere\b.*", "", item.signature()))) & self.declared.keys()
                 members = [it for it in item_members(item) if it.is_public] if item.kind == "impl" else []
