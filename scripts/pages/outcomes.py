@@ -19,11 +19,11 @@ LONGEST = 130
 BY_NAME = [
     (re.compile(pattern), word)
     for pattern, word in (
-        (r"view_capacity (\S+) \(tiny_view_of (?:\w+\.Slots )?([^()\s]+)\)", r"tiny_capacity \1 \2"),
+        (r"view_capacity \(tiny_view_of (?:\w+\.Slots )?([^()\s]+)\)", r"tiny_capacity \1"),
         (r"view_len \(tiny_view_of (?:\w+\.Slots )?([^()\s]+)\)", r"tiny_len \1"),
         (r"view_inline \(tiny_view_of (?:\w+\.Slots )?([^()\s]+)\)", r"is_inline \1"),
         (r"ViewInline \(tiny_view_of (?:\w+\.Slots )?([^()\s]+)\)", r"IsInline \1"),
-        (r"\b(tiny_(?:items|spare|len|view)|items|spare|view)_of (?:\w+\.Slots )?", r"\1 "),
+        (r"\b(tiny_(?:items|spare|len|capacity|view)|items|spare|view)_of (?:\w+\.Slots )?", r"\1 "),
         (r"\blen_of (?:\w+\.Slots )?([^()\s]+)", r"length (items \1)"),
         (r"\bslots_of A\.Slots ", "all_slots "),
         (r"\bslots_of (?:S\.Slots )?", "slots "),
@@ -40,7 +40,7 @@ PHRASES = [
         (r"list_of (\(?.*)self\.new\)? ≡ list_of \1self\.old\)?", "the list is unchanged"),
         (r"spare self\.new ≡ \[\]|length \(spare self\.old\) ≡ 0", "the list is full"),
         (r"length \(items self\.new\) ≡ length \(slots self\.new\)", "the list is full"),
-        (r"tiny_len self\.(old|new) ≡ tiny_capacity A\.CAPACITY self\.\1", "the list is full"),
+        (r"tiny_len self\.(old|new) ≡ tiny_capacity self\.\1", "the list is full"),
         (r"(?:length \(items self\.old\)|tiny_len self(?:\.old|\.now)?) ≡ 0", "the list is empty"),
         (r"text_len self\.entry ≡ 0", "the text is empty"),
         (r"IsInline self(?:\.old|\.now)?", "the list is inline"),

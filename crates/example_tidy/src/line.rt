@@ -21,9 +21,9 @@ pub type Output = TinyVec<[u8; 4096]>;
 pub fn end_line(alloc: Global, line: &[u8], output: &mut Output) -> Result<(), AllocError>
     ensures ok { OnOk result (tiny_items output.new ≡ tiny_items output.old ++ (normal_line line.now ++ 10 ∷ [])) }
     ensures refused { OnErr result (tiny_items output.new ≡ tiny_items output.old) }
-    ensures capacity { tiny_capacity 4096 output.old ≤ tiny_capacity 4096 output.new }
+    ensures capacity { tiny_capacity output.old ≤ tiny_capacity output.new }
     ensures succeeds { IsShort line.now
-        → tiny_len output.old + length (normal_line line.now) < tiny_capacity 4096 output.old → IsOk result }
+        → tiny_len output.old + length (normal_line line.now) < tiny_capacity output.old → IsOk result }
 {
     // An empty line needs no vector.
     if line.is_empty() {
@@ -57,9 +57,9 @@ fn push_words(line: &[u8], output: &mut Output) -> Result<(), AllocError>
     ensures ok { OnOk result (tiny_items output.new
         ≡ tiny_items output.old ++ (join_with_byte 32 (dedup bytes_eq (words line.now)) ++ 10 ∷ [])) }
     ensures refused { OnErr result ((front : List ℕ) × (tiny_items output.new ≡ tiny_items output.old ++ front)) }
-    ensures capacity { tiny_capacity 4096 output.old ≤ tiny_capacity 4096 output.new }
+    ensures capacity { tiny_capacity output.old ≤ tiny_capacity output.new }
     ensures succeeds { tiny_len output.old + length (join_with_byte 32 (dedup bytes_eq (words line.now)))
-        < tiny_capacity 4096 output.old → IsOk result }
+        < tiny_capacity output.old → IsOk result }
 {
     let Some((first, rest)) = next_word(line) else {
         output.push(b'\n')?;

@@ -121,10 +121,10 @@ fn tidy_chunk<W: Write>(
 ) -> Result<(), TidyError>
     ensures ok { OnOk result ((said : List ℕ) × Appends (W.contents writer.old.inner) (W.contents writer.new.inner) said
         × Advances (tiny_items line.old) bytes.now said (tiny_items line.new)) }
-    ensures memory { IsErrOf result TidyError.Memory → 80 ≤ tiny_capacity 80 line.old → length bytes.now ≤ CHUNK
+    ensures memory { IsErrOf result TidyError.Memory → 80 ≤ tiny_capacity line.old → length bytes.now ≤ CHUNK
         → (said : List ℕ) × Appends (W.contents writer.old.inner) (W.contents writer.new.inner) said
         × EndsBeforeLong (tiny_items line.old) bytes.now said }
-    ensures line_room { tiny_capacity 80 line.old ≤ tiny_capacity 80 line.new }
+    ensures line_room { tiny_capacity line.old ≤ tiny_capacity line.new }
     ensures write { (error : IoError) → IsErrOf result (TidyError.Write error) → (said missing : List ℕ)
         × Appends (W.contents writer.old.inner) (W.contents writer.new.inner) said
         × EndsSome (tiny_items line.old) bytes.now (said ++ missing) }

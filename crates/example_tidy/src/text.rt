@@ -33,10 +33,10 @@ pub(crate) fn feed(
     ensures ok { OnOk result ((said : List ℕ) × (tiny_items output.new ≡ tiny_items output.old ++ said)
         × Advances (tiny_items line.old) bytes.now said (tiny_items line.new)) }
     ensures refused { OnErr result ((said kept : List ℕ) × (tiny_items output.new ≡ tiny_items output.old ++ said)
-        × Refuses (tiny_items line.old) bytes.now said kept (tiny_capacity 80 line.old)
-        (tiny_capacity 4096 output.old - tiny_len output.old)) }
-    ensures line_room { tiny_capacity 80 line.old ≤ tiny_capacity 80 line.new }
-    ensures capacity { tiny_capacity 4096 output.old ≤ tiny_capacity 4096 output.new }
+        × Refuses (tiny_items line.old) bytes.now said kept (tiny_capacity line.old)
+        (tiny_capacity output.old - tiny_len output.old)) }
+    ensures line_room { tiny_capacity line.old ≤ tiny_capacity line.new }
+    ensures capacity { tiny_capacity output.old ≤ tiny_capacity output.new }
 {
     let mut rest = bytes;
     while let Some((end, after)) = split_line(rest) {
@@ -58,10 +58,10 @@ fn feed_end(
     ensures ok { OnOk result ((said : List ℕ) × (tiny_items output.new ≡ tiny_items output.old ++ said)
         × Advances (tiny_items line.old) (end.now ++ 10 ∷ []) said (tiny_items line.new)) }
     ensures refused { OnErr result ((kept : List ℕ) × (tiny_items output.new ≡ tiny_items output.old)
-        × Refuses (tiny_items line.old) (end.now ++ 10 ∷ []) [] kept (tiny_capacity 80 line.old)
-        (tiny_capacity 4096 output.old - tiny_len output.old)) }
-    ensures line_room { tiny_capacity 80 line.old ≤ tiny_capacity 80 line.new }
-    ensures capacity { tiny_capacity 4096 output.old ≤ tiny_capacity 4096 output.new }
+        × Refuses (tiny_items line.old) (end.now ++ 10 ∷ []) [] kept (tiny_capacity line.old)
+        (tiny_capacity output.old - tiny_len output.old)) }
+    ensures line_room { tiny_capacity line.old ≤ tiny_capacity line.new }
+    ensures capacity { tiny_capacity output.old ≤ tiny_capacity output.new }
 {
     if line.is_empty() {
         end_line(alloc, end, output)?;
@@ -93,7 +93,7 @@ pub(crate) fn end_text(alloc: Global, line: &[u8], output: &mut Output) -> Resul
         × Ends line.now said) }
     ensures refused { OnErr result (tiny_items output.new ≡ tiny_items output.old) }
     ensures succeeds { IsShort line.now → (0 < length line.now
-        → tiny_len output.old + length (normal_line line.now) < tiny_capacity 4096 output.old) → IsOk result }
+        → tiny_len output.old + length (normal_line line.now) < tiny_capacity output.old) → IsOk result }
 {
     if line.is_empty() {
         return Ok(());

@@ -1,5 +1,5 @@
 -- Lemmas on clones that were appended: to an array or on the heap, where there was room or it was made first.
-use Rattle.std.proofs.Common.{◌≡◌, ◌∙◌, ℕ, ◌+◌, ◌<◌, ◌≤◌, List, ◌++◌, length, drop, replicate, Vec, Global, Result, Ok, Err, inl, inr, refl, sym, ap, subst, arith}
+use Rattle.std.proofs.Common.{◌≡◌, ◌∙◌, ℕ, ◌+◌, ◌<◌, ◌≤◌, List, ◌++◌, length, length-take, drop, replicate, Vec, Global, Result, Ok, Err, inl, inr, refl, sym, ap, subst, arith}
 use Rattle.std.proofs.Math.Seq.{drop-nil}
 use Rattle.std.specs.Prelude.{All, IsErr, IsOk, OnOk, OnErr}
 use Rattle.std.specs.List.{AppendsClones}
@@ -8,7 +8,7 @@ use Rattle.std.proofs.lemmas.Bool.{false≢true}
 use Rattle.std.proofs.lemmas.List.{length-replicate, get_or-replicate, take-replicate}
 use Rattle.std.proofs.lemmas.List.Elements.{same_from_all_zip}
 use Rattle.std.proofs.lemmas.Result.{on_ok_weaker, on_err_weaker}
-use Rattle.tinyvec_slots.specs.Slots.{Slots, items, items_len}
+use Rattle.tinyvec_slots.specs.Slots.{Slots, items}
 use Rattle.tinyvec_slots.specs.Clones.{ClonesOver, AddsClones, AppendsAllOrNone}
 use Rattle.tinyvec_slots.proofs.CloneLemmas.{on_err}
 use Rattle.tinyvec.specs.View.{TinyView, view_len, view_inline, ViewInline, view_capacity}
@@ -34,20 +34,20 @@ module _ {T X E : Type 0} (g : Clone.Ghosts T) (slots : ℕ) (xs : List T) (r : 
   pub record Extended (old new : TinyView T) : Type 0 where
     pub clones : AppendsAllOrNone g.is_clone xs r old.items new.items
     pub room : OnOk r (MakesRoom (view_inline old) slots (view_len old + length xs) old new r)
-    pub capacity : view_capacity slots old ≤ view_capacity slots new
+    pub capacity : view_capacity old ≤ view_capacity new
     pub same_room : KeepsRoom slots (view_len old + length xs) old new
-    pub fits : view_len new ≤ view_capacity slots new
-    pub succeeds : view_len old + length xs ≤ view_capacity slots old → All g.is_infallible xs → IsOk r
+    pub fits : view_len new ≤ view_capacity new
+    pub succeeds : view_len old + length xs ≤ view_capacity old → All g.is_infallible xs → IsOk r
     pub refused : OnErr r (ClonesRefused g slots xs old new)
 
   -- an array that got them
-  pub inline_clones : (v w : Slots T) → AddsClones g xs r v w → items_len w ≤ slots → ClonesInRoom g slots xs (array_view v) (array_view w) r
-  inline_clones v w made fits = record {
+  pub inline_clones : (v w : Slots T) → AddsClones g xs r v w → length w.slots ≡ length v.slots → ClonesInRoom g slots xs (array_view v) (array_view w) r
+  inline_clones v w made same = record {
     items = made.items;
     spare = made.spare;
     place = refl;
-    capacity = refl;
-    fits = fits;
+    capacity = same;
+    fits = omega (arith, length-take w.len w.slots);
     kept = made.kept;
     refused = on_err_weaker r (λ h. (h.0, h.1, λ _. h.2)) made.refused;
     succeeds = made.succeeds;
@@ -84,7 +84,7 @@ module _ {T X E : Type 0} (g : Clone.Ghosts T) (slots : ℕ) (xs : List T) (r : 
         }
 
     -- there was room
-    pub extended_in_room : ClonesInRoom g slots xs old new r → view_len old + length xs ≤ view_capacity slots old → Extended old new
+    pub extended_in_room : ClonesInRoom g slots xs old new r → view_len old + length xs ≤ view_capacity old → Extended old new
     extended_in_room made room = extended old refl (λ _. refl) (granted_before (view_inline old) slots _ old new made.place made.capacity room) made
 
     -- room for n more was made first

@@ -1,32 +1,33 @@
 -- Lemmas on what a call leaves of place and capacity.
-use Rattle.std.proofs.Common.{Vec, Global, vec_capacity, ◌≡◌, ◌==◌, ◌⊎◌, inl, inr, ℕ, zero, suc, ◌<◌, ◌≤◌, ◌+◌, ◌*◌, ◌^◌, max, false, Result, Ok, Err, List, length, drop, refl, sym, ap, subst, ◌∙◌, arith}
+use Rattle.std.proofs.Common.{Vec, Global, vec_capacity, ◌≡◌, ◌==◌, ◌⊎◌, inl, inr, ℕ, zero, suc, ◌<◌, ◌≤◌, ◌+◌, ◌*◌, ◌^◌, max, false, Result, Ok, Err, List, length, drop, length-take, refl, sym, ap, subst, ◌∙◌, arith}
 use Rattle.std.specs.Prelude.{OnOk, IsErr, IsTrue, ◌↔◌, Bool, true, if◌then◌else◌}
 use Rattle.std.specs.Result.{is_err}
 use Rattle.std.proofs.Math.Seq.{drop-nil}
 use Rattle.std.proofs.Math.Nat.{mul_assoc, pow-succ'}
 use Rattle.std.proofs.lemmas.Bool.{false≢true, cases_lt, eqb-false}
-use Rattle.tinyvec_slots.specs.Slots.{Slots, SlotRule, items, items_len}
-use Rattle.tinyvec_slots.proofs.SlotsLemmas.{slots_used}
-use Rattle.tinyvec_array.specs.ArrayVec.{view_of, items_of, spare_of, len_of, Gains}
+use Rattle.tinyvec_slots.specs.Slots.{Slots, SlotRule, items}
+use Rattle.tinyvec_slots.specs.Filters.{Shortened}
+use Rattle.tinyvec_slots.proofs.SlotsLemmas.{slots_used, shortened}
+use Rattle.tinyvec_array.specs.CutLaws.{CutOf}
+use Rattle.tinyvec_array.specs.SpliceLaws.{cut_lender}
+use Rattle.tinyvec_array.specs.ArrayVec.{view_of, items_of, spare_of, slots_of, len_of, Gains}
 use Rattle.tinyvec_array.specs.declared.array_vec.ArrayVec.{ArrayVec}
-use Rattle.tinyvec.specs.View.{Place, in_array, on_heap, lies_inline, capacity_in, TinyView, view_len, view_inline, ViewInline, view_capacity, SameFrame, Unchanged, Becomes, StaysInPlace}
+use Rattle.tinyvec.specs.View.{TinyView, view_len, view_inline, ViewInline, view_capacity, SameFrame, Unchanged, Becomes, StaysInPlace, ShortensInPlace}
 use Rattle.tinyvec_array.specs.declared.slots.Slots as Storage
-use Rattle.tinyvec.specs.TinyVec.{tiny_view_of, tiny_items_of, tiny_len_of, tiny_spare_of, is_inline, IsInline}
+use Rattle.tinyvec.specs.TinyVec.{tiny_view_of, tiny_items_of, tiny_len_of, tiny_spare_of, tiny_capacity_of, is_inline, IsInline}
 use Rattle.tinyvec.specs.declared.tiny_vec.TinyVec.{TinyVec}
 use Rattle.tinyvec.specs.declared.tiny_vec.TinyVec.TheVariants.{Inline, Heap}
 use Rattle.tinyvec.specs.Room.{Grows, MakesRoom}
 use Rattle.tinyvec.specs.Refused.{RoomGranted}
-use Rattle.tinyvec.proofs.TinyLemmas.{array_view, heap_view, capacity_inline, slots_taken, taken, used_up, used_rule, UsesSpare, slots_after_room, tiny_slots_then}
+use Rattle.tinyvec.proofs.TinyLemmas.{array_view, heap_view, slots_taken, taken, used_up, used_rule, UsesSpare, slots_after_room, tiny_slots_then}
 use Rattle.tinyvec.proofs.RefusedLemmas.{granted_then, granted_before}
-use Rattle.tinyvec_array.proofs.ViewLemmas.{still_fits}
+use Rattle.tinyvec_array.proofs.ViewLemmas.{parts_of}
 
 -- by the place rule, a list that had room stays where it is
-same_side : (slots need : ℕ) (p q : Place) → need ≤ capacity_in slots p → IsTrue (lies_inline q) ↔ (IsTrue (lies_inline p) × (need ≤ slots))
-    → lies_inline q ≡ lies_inline p
-same_side slots need in_array in_array le rule = refl
-same_side slots need in_array (on_heap n) le rule = absurd (false≢true (rule.1 (refl, le)))
-same_side slots need (on_heap m) in_array le rule = absurd (false≢true (rule.0 refl).0)
-same_side slots need (on_heap m) (on_heap n) le rule = refl
+same_side : (b c : Bool) (P : Type 0) → P → IsTrue c ↔ (IsTrue b × P) → c ≡ b
+same_side true c P le rule = rule.1 (refl, le)
+same_side false true P le rule = absurd (false≢true (rule.0 refl).0)
+same_side false false P le rule = refl
 
 -- a capacity that is as it was if there was room, or grew, is no less
 no_less : (exact : Bool) (need first last : ℕ) → (first < need) ⊎ (need ≤ first) → (need ≤ first → last ≡ first)
@@ -36,9 +37,20 @@ no_less false need first last (inl less) same grown = let is : last ≡ max (2 *
 no_less exact need first last (inr room) same grown = omega (arith, same room)
 
 -- an array whose slots follow the slot rule
-pub inline_becomes : {T : Type 0} (D : T → Type 0) (slots : ℕ) (v w : Slots T) (xs : List T) → items w ≡ xs → SlotRule D v w → items_len w ≤ slots
+pub inline_becomes : {T : Type 0} (D : T → Type 0) (slots : ℕ) (v w : Slots T) (xs : List T) → items w ≡ xs → SlotRule D v w → length w.slots ≡ length v.slots
     → Becomes D slots (array_view v) (array_view w) xs
-inline_becomes D slots v w xs is rule fits = record { items = is; place = refl; slot_rule = λ _ _. rule; capacity = refl; fits = fits }
+inline_becomes D slots v w xs is rule same = record { items = is; place = refl; slot_rule = λ _ _. rule; capacity = same; fits = omega (arith, length-take w.len w.slots) }
+
+-- an array whose list only lost items
+pub inline_shortens : {A T L : Type 0} (g : Storage.Ghosts A T L) (D : T → Type 0) (slots : ℕ) (v w : ArrayVec A L)
+    → Shortened (items_of g) (λ u. length (slots_of g u)) (CutOf g D) v w → ShortensInPlace D slots (array_view (view_of g v)) (array_view (view_of g w))
+inline_shortens g D slots v w h = record {
+  bound = h.bound;
+  place = refl;
+  slot_rule = λ _ _. shortened D (view_of g v) (view_of g w) h.cut.1;
+  capacity = (cut_lender g D v w h.cut).slot_count;
+  fits = h.fits;
+}
 
 -- a capacity that doubled some number of times, and then doubled again
 doubled_once : (first last : ℕ) → last ≡ max (2 * first) (first + 1) → (k : ℕ) × (last ≡ 2 ^ k * max 1 first)
@@ -55,12 +67,12 @@ doubled_again first mid last (inr least) le is h = doubled_once first last (subs
 
 module _ {T : Type 0} (D : T → Type 0) (slots : ℕ) where
   -- a list that is as it was
-  pub stays_same : (v : TinyView T) → view_len v ≤ view_capacity slots v → StaysInPlace D slots v v
+  pub stays_same : (v : TinyView T) → view_len v ≤ view_capacity v → StaysInPlace D slots v v
   stays_same v fits = record { items = refl; place = refl; slot_rule = slots_taken D v v 0 (omega arith) refl; capacity = refl; fits = fits }
 
   -- a list that used up k spare slots in its place
-  pub taken_stays : (v w : TinyView T) (k : ℕ) → view_len w ≡ view_len v + k → view_len v + k ≤ view_capacity slots v → w.spare ≡ drop k v.spare
-      → view_inline w ≡ view_inline v → view_capacity slots w ≡ view_capacity slots v → StaysInPlace D slots v w
+  pub taken_stays : (v w : TinyView T) (k : ℕ) → view_len w ≡ view_len v + k → view_len v + k ≤ view_capacity v → w.spare ≡ drop k v.spare
+      → view_inline w ≡ view_inline v → view_capacity w ≡ view_capacity v → StaysInPlace D slots v w
   taken_stays v w k len room behind place same = record {
     items = refl;
     place = place;
@@ -69,10 +81,6 @@ module _ {T : Type 0} (D : T → Type 0) (slots : ℕ) where
     fits = omega (arith, len, room, same);
   }
 
-  -- an inline list that fits the slots
-  pub inline_fits : (v : TinyView T) → ViewInline v → view_len v ≤ view_capacity slots v → view_len v ≤ slots
-  inline_fits v i fits = subst (λ n. view_len v ≤ n) (capacity_inline slots v i) fits
-
   -- a list that grew, and then became no shorter in its place
   pub grows_stays : (u v w : TinyView T) → view_len u ≤ view_len v → view_len v ≤ view_len w
       → Grows D slots u v → StaysInPlace D slots v w → Grows D slots u w
@@ -80,8 +88,8 @@ module _ {T : Type 0} (D : T → Type 0) (slots : ℕ) where
       let same = k.capacity in
       let before : ViewInline w → ViewInline v = λ i. sym k.place ∙ i in record {
         place = (
-          λ i. ((h.place.0 (before i)).0, inline_fits w i k.fits),
-          λ both. k.place ∙ h.place.1 (both.0, let few = both.1 in omega arith),
+          λ i. let both = h.place.0 (before i) in (both.0, omega (arith, k.fits, same, h.same_room both.1)),
+          λ both. k.place ∙ h.place.1 (both.0, omega (arith, both.1)),
         );
         slot_rule = tiny_slots_then D u v w before le more h.slot_rule k.slot_rule;
         capacity = let c = h.capacity in omega arith;
@@ -92,32 +100,32 @@ module _ {T : Type 0} (D : T → Type 0) (slots : ℕ) where
       }
 
   -- a list that grew and was full, and then took one more item
-  pub grows_pushed : {X E : Type 0} (u v w : TinyView T) (x : X) → view_len u ≤ view_len v → view_len w ≡ view_len v + 1 → view_len v ≡ view_capacity slots v
+  pub grows_pushed : {X E : Type 0} (u v w : TinyView T) (x : X) → view_len u ≤ view_len v → view_len w ≡ view_len v + 1 → view_len v ≡ view_capacity v
       → Grows D slots u v → MakesRoom {E = E} false slots (view_len v + 1) v w (Ok x) → Grows D slots u w
   grows_pushed u v w x le one full h room = record {
     place = (
-      λ i. let both = room.place.0 i in ((h.place.0 both.0).0, let few = both.1 in omega arith),
-      λ both. let few = both.1 in room.place.1 (h.place.1 (both.0, omega arith), omega arith),
+      λ i. absurd (omega (arith, (room.place.0 i).1, full)),
+      λ both. absurd (omega (arith, both.1, one, full, h.same_room (omega (arith, both.1, one)))),
     );
     slot_rule = tiny_slots_then D u v w (λ i. (room.place.0 i).0) le (omega arith) h.slot_rule (used_rule D v w (omega arith) room.spare);
     capacity = let first = h.capacity in let last = room.capacity in omega arith;
     same_room = λ fits. let same = h.same_room (omega arith) in room.same_room (omega arith) ∙ same;
-    grown = λ _. let doubled : view_capacity slots w ≡ max (2 * view_capacity slots v) (view_len v + 1) = room.grown (omega arith) in omega (arith, doubled, full, one);
-    doubled = λ _. doubled_again (view_capacity slots u) (view_capacity slots v) (view_capacity slots w) (cases_lt _ _) h.capacity (room.grown (omega arith) ∙ ap (λ n. max (2 * view_capacity slots v) (n + 1)) full) h.doubled;
+    grown = λ _. let doubled : view_capacity w ≡ max (2 * view_capacity v) (view_len v + 1) = room.grown (omega arith) in omega (arith, doubled, full, one);
+    doubled = λ _. doubled_again (view_capacity u) (view_capacity v) (view_capacity w) (cases_lt _ _) h.capacity (room.grown (omega arith) ∙ ap (λ n. max (2 * view_capacity v) (n + 1)) full) h.doubled;
     fits = room.fits;
   }
 
   -- a list that grew, and fits the room that it had
-  pub grows_in_room : (v w : TinyView T) → view_len w ≤ view_capacity slots v → Grows D slots v w → StaysInPlace D slots v w
-  grows_in_room v w le h = record { items = refl; place = same_side slots (view_len w) v.place w.place le h.place; slot_rule = h.slot_rule; capacity = h.same_room le; fits = h.fits }
+  pub grows_in_room : (v w : TinyView T) → view_len w ≤ view_capacity v → Grows D slots v w → StaysInPlace D slots v w
+  grows_in_room v w le h = record { items = refl; place = same_side (view_inline v) (view_inline w) (view_len w ≤ view_capacity v) le h.place; slot_rule = h.slot_rule; capacity = h.same_room le; fits = h.fits }
 
 module _ {T : Type 0} (exact : Bool) (slots need : ℕ) (old new : TinyView T) where
   -- a call that was granted room leaves no smaller capacity
-  pub granted_no_less : RoomGranted exact slots need old new → view_capacity slots old ≤ view_capacity slots new
-  granted_no_less granted = no_less exact need (view_capacity slots old) (view_capacity slots new) (cases_lt (view_capacity slots old) need) granted.1 granted.2
+  pub granted_no_less : RoomGranted exact slots need old new → view_capacity old ≤ view_capacity new
+  granted_no_less granted = no_less exact need (view_capacity old) (view_capacity new) (cases_lt (view_capacity old) need) granted.1 granted.2
 
   -- a call that was granted room, and leaves a list that fits it
-  pub room_granted : {X E : Type 0} (r : Result X E) → RoomGranted exact slots need old new → view_len new ≤ view_capacity slots new → OnOk r (UsesSpare old new)
+  pub room_granted : {X E : Type 0} (r : Result X E) → RoomGranted exact slots need old new → view_len new ≤ view_capacity new → OnOk r (UsesSpare old new)
       → OnOk r (MakesRoom exact slots need old new r)
   room_granted (Ok y) granted fits spare = record {
     place = granted.0;
@@ -133,13 +141,13 @@ module _ {T : Type 0} (exact : Bool) (slots need : ℕ) (old new : TinyView T) w
   room_granted (Err e) granted fits spare = tt
 
   -- room was refused
-  pub room_not_made : {X E : Type 0} (r : Result X E) → IsErr r → view_capacity slots old < need → Unchanged old new → view_len new ≤ view_capacity slots new
+  pub room_not_made : {X E : Type 0} (r : Result X E) → IsErr r → view_capacity old < need → Unchanged old new → view_len new ≤ view_capacity new
       → MakesRoom exact slots need old new r
   room_not_made (Err e) err less h fits = record {
     place = tt;
     spare = used_up old new 0 (omega (arith, ap length h.items)) (λ _. h.spare);
-    capacity = omega (arith, h.capacity slots);
-    same_room = λ _. h.capacity slots;
+    capacity = omega (arith, h.capacity);
+    same_room = λ _. h.capacity;
     grown = tt;
     fits = fits;
     succeeds = λ room. absurd (omega (arith, room, less));
@@ -152,9 +160,21 @@ module _ {T : Type 0} (exact : Bool) (slots need : ℕ) (old new : TinyView T) w
   pub room_then_framed : {X Y E F : Type 0} (mid : TinyView T) (x : X) (y : Y) → MakesRoom {E = F} exact slots need old mid (Ok x) → SameFrame mid new
       → MakesRoom {E = E} exact slots need old new (Ok y)
   room_then_framed mid x y made frame =
-      room_granted (Ok y) (granted_then exact slots need old new mid x frame.place (frame.capacity slots) made)
-      (omega (arith, made.fits, frame.len, frame.capacity slots))
+      room_granted (Ok y) (granted_then exact slots need old new mid x frame.place frame.capacity made)
+      (omega (arith, made.fits, frame.len, frame.capacity))
       (λ i j le. rw (frame.len, frame.spare) (made.spare i (sym frame.place ∙ j) (omega (arith, le, frame.len))))
+
+-- what failed for one call failed for the call around it
+pub not_taken : {T X Y E F : Type 0} (exact : Bool) (slots need : ℕ) (old new : TinyView T) (r : Result X F) (e : E) → true ≡ is_err r
+    → MakesRoom exact slots need old new r → MakesRoom {X = Y} exact slots need old new (Err e)
+not_taken exact slots need old new (Ok x) e err room = absurd (false≢true (sym err))
+not_taken exact slots need old new (Err f) e err room = room_not_made exact slots need old new (Err e) refl room.full room.refused room.fits
+
+-- a list that found no room for one more item was full
+pub was_full : {A T L X F : Type 0} (g : Storage.Ghosts A T L) (slots : ℕ) (old new : TinyVec A T L) (r : Result X F) → true ≡ is_err r → tiny_items_of g new ≡ tiny_items_of g old
+    → MakesRoom false slots (tiny_len_of g old + 1) (tiny_view_of g old) (tiny_view_of g new) r → tiny_len_of g old ≡ tiny_capacity_of g old
+was_full g slots old new (Ok x) err items room = absurd (false≢true (sym err))
+was_full g slots old new (Err f) err items room = omega (arith, room.full, room.fits, room.refused.capacity, ap length items)
 
 -- the spare slots that a list used up in its place, by as many items as it got longer
 pub spare_used : {A T L : Type 0} (g : Storage.Ghosts A T L) (D : T → Type 0) (slots : ℕ) (v w : TinyVec A T L) (xs : List T) (k : ℕ) → length xs ≡ tiny_len_of g v + k
@@ -172,7 +192,7 @@ heap_becomes D slots v w xs is same = record { items = is; place = refl; slot_ru
 
 -- A call that had room for `need` items, or made it, and took what it had then to `new` in place.
 module _ {T : Type 0} (exact : Bool) (D : T → Type 0) (slots need : ℕ) (old new : TinyView T) where
-  pub had_room : {X E : Type 0} {xs : List T} (y : X) → need ≤ view_capacity slots old → Becomes D slots old new xs → MakesRoom {E = E} exact slots need old new (Ok y)
+  pub had_room : {X E : Type 0} {xs : List T} (y : X) → need ≤ view_capacity old → Becomes D slots old new xs → MakesRoom {E = E} exact slots need old new (Ok y)
   had_room y room put =
       room_granted exact slots need old new (Ok y) (granted_before exact slots need old new put.place put.capacity room) put.fits (λ i j le. taken D old new le put.slot_rule i j)
 
@@ -185,32 +205,32 @@ module _ {T : Type 0} (exact : Bool) (D : T → Type 0) (slots need : ℕ) (old 
 
 -- a call that took one more item left the list xs, in room that was there or was made
 abbrev pub Took : {A T L : Type 0} → Storage.Ghosts A T L → (T → Type 0) → ℕ → List T → TinyVec A T L → TinyVec A T L → Type 0 → Type 0
-Took g D slots xs old new E = (tiny_items_of g new ≡ xs)
+Took g D slots xs old new E = (tiny_items_of g new ≡ xs) × (IsInline old → tiny_capacity_of g old ≡ slots)
     × MakesRoom {X = Unit} {E = E} false slots (tiny_len_of g old + 1) (tiny_view_of g old) (tiny_view_of g new) (Ok tt)
 
 -- The call that put one more item into a list: in its array, in its allocation, or after it grew.
 module _ {A T L E : Type 0} (g : Storage.Ghosts A T L) (D : T → Type 0) (slots : ℕ) (put : List T → List T) (old new : TinyVec A T L) where
   pub took_inline : (v w : ArrayVec A L) (a b : Global) → old ≡ Inline v a → new ≡ Inline w b → length (put (tiny_items_of g old)) ≡ tiny_len_of g old + 1
-      → (IsInline old → tiny_len_of g old + length (tiny_spare_of g old) ≡ slots) → false ≡ (length (spare_of g v) == 0) → Gains g 1 v w (put (items_of g v))
+      → length (slots_of g v) ≡ slots → false ≡ (length (spare_of g v) == 0) → Gains g 1 v w (put (items_of g v))
       → Took g D slots (put (tiny_items_of g old)) old new E
-  took_inline v w a b was is longer parts some made =
+  took_inline v w a b was is longer count some made =
       let long : length (put (items_of g v)) ≡ len_of g v + 1 = rw was at longer in
-      let sum : len_of g v + length (spare_of g v) ≡ slots = (rw was at parts) refl in
-      let room : len_of g v + 1 ≤ slots = omega (arith, sum, eqb-false (length (spare_of g v)) 0 (sym some)) in
+      let room : len_of g v + 1 ≤ length (slots_of g v) = omega (arith, parts_of g v, eqb-false (length (spare_of g v)) 0 (sym some)) in
       let list = inline_becomes D slots (view_of g v) (view_of g w) _ made.items (slots_used D (view_of g v) (view_of g w) 1 (ap length made.items ∙ long) made.spare)
-      (still_fits g v w slots sum made.lender) in
-      rw (is, was) (made.items, had_room false D slots (len_of g v + 1) (array_view (view_of g v)) (array_view (view_of g w)) tt room list)
+      made.lender.slot_count in
+      rw (is, was) (made.items, λ _. count, had_room false D slots (len_of g v + 1) (array_view (view_of g v)) (array_view (view_of g w)) tt room list)
 
   pub took_heap : (v w : Vec T Global) → old ≡ Heap v → new ≡ Heap w → length v.items + 1 ≤ vec_capacity v → w.items ≡ put v.items → vec_capacity w ≡ vec_capacity v
       → Took g D slots (put (tiny_items_of g old)) old new E
   took_heap v w was is room items same =
-      rw (is, was) (items, had_room false D slots (length v.items + 1) (heap_view v) (heap_view w) tt room (heap_becomes D slots v w (put v.items) items same))
+      rw (is, was) (items, λ i. absurd (false≢true i), had_room false D slots (length v.items + 1) (heap_view v) (heap_view w) tt room (heap_becomes D slots v w (put v.items) items same))
 
   pub took_grown : {X F : Type 0} (mid : TinyVec A T L) (r : Result X F) → false ≡ is_err r → tiny_items_of g mid ≡ tiny_items_of g old
-      → OnOk r (is_inline mid ≡ false) → MakesRoom false slots (tiny_len_of g old + 1) (tiny_view_of g old) (tiny_view_of g mid) r
+      → OnOk r (is_inline mid ≡ false) → (IsInline old → tiny_capacity_of g old ≡ slots) → MakesRoom false slots (tiny_len_of g old + 1) (tiny_view_of g old) (tiny_view_of g mid) r
       → Becomes D slots (tiny_view_of g mid) (tiny_view_of g new) (put (tiny_items_of g mid)) → Took g D slots (put (tiny_items_of g old)) old new E
-  took_grown mid (Ok x) ok items out made list = (
+  took_grown mid (Ok x) ok items out count made list = (
     list.items ∙ ap put items,
+    count,
     made_room false D slots (tiny_len_of g old + 1) (tiny_view_of g old) (tiny_view_of g new) (tiny_view_of g mid) (Ok x) tt refl (λ i. absurd (false≢true (sym out ∙ i))) made list,
   )
-  took_grown mid (Err e) ok items out made list = absurd (false≢true ok)
+  took_grown mid (Err e) ok items out count made list = absurd (false≢true ok)

@@ -5,7 +5,7 @@ use Rattle.std.proofs.lemmas.Bool.{cases_lt}
 use Rattle.tinyvec_slots.specs.Replacing.{PutsBetween}
 use Rattle.tinyvec.specs.View.{TinyView, view_len, view_inline, ViewInline, view_capacity, PlaceRule, Becomes}
 use Rattle.tinyvec.specs.Room.{GrowsTo, MakesRoom}
-use Rattle.tinyvec.proofs.TinyLemmas.{capacity_inline, taken, slots_after_room}
+use Rattle.tinyvec.proofs.TinyLemmas.{taken, slots_after_room}
 use Rattle.tinyvec.proofs.FrameLemmas.{room_granted}
 
 -- a list with a range of it replaced, put where there is room for it
@@ -16,7 +16,7 @@ replaced room start end put old new result le inside fits puts =
     let ahead = length-take-le start old (omega (arith, le, inside)) in
     (puts.1 (omega (arith, ahead, length-drop end old, le, inside, fits))).1
 
-module _ {T : Type 0} (slots n : ℕ) (old mid new : TinyView T) (fits : view_len old ≤ view_capacity slots old)
+module _ {T : Type 0} (slots n : ℕ) (old mid new : TinyView T) (fits : view_len old ≤ view_capacity old)
     (long : view_len new ≤ view_len old + n) (exact : 0 < n → view_len new ≡ view_len old + n) where
   -- as many items as the call made room for fit where its result does
   as_many : (room : ℕ) → view_len old ≤ room → view_len new ≤ room → view_len old + n ≤ room
@@ -29,7 +29,7 @@ module _ {T : Type 0} (slots n : ℕ) (old mid new : TinyView T) (fits : view_le
   replaced_place : PlaceRule slots (view_len old + n) old mid → view_inline new ≡ view_inline mid → PlaceRule slots (view_len new) old new
   replaced_place first same = (
     (λ i. let both = first.0 (sym same ∙ i) in (both.0, omega (arith, long, both.1))),
-    λ h. same ∙ first.1 (h.0, as_many slots (omega (arith, fits, capacity_inline slots old h.0)) h.1),
+    λ h. same ∙ first.1 (h.0, as_many (view_capacity old) fits h.1),
   )
 
   pub replaced_room : {X E Y F : Type 0} {xs : List T} (exactly : Bool) (D : T → Type 0) (x : X) (y : Y)
@@ -38,6 +38,6 @@ module _ {T : Type 0} (slots n : ℕ) (old mid new : TinyView T) (fits : view_le
   replaced_room exactly D x y kept made stays =
       room_granted exactly slots (view_len new) old new (Ok x) (
         replaced_place made.place stays.place,
-        λ le. stays.capacity ∙ made.same_room (as_many (view_capacity slots old) fits le),
+        λ le. stays.capacity ∙ made.same_room (as_many (view_capacity old) fits le),
         λ less. stays.capacity ∙ subst (λ k. GrowsTo exactly slots k old mid) (sym (exact (omega (arith, less, long, fits)))) made.grown less,
       ) stays.fits (λ i j le. taken D old new le (slots_after_room D old mid new kept stays.place stays.slot_rule) i j)

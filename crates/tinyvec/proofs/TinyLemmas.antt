@@ -7,7 +7,7 @@ use Rattle.std.proofs.lemmas.List.Edits.{length-insert, length-remove}
 use Rattle.std.proofs.lemmas.List.Elements.{All-drop, All-nil}
 use Rattle.tinyvec_slots.specs.Slots.{Slots, Vacates, SlotRule, items, items_len, spare}
 use Rattle.tinyvec_slots.proofs.SlotsLemmas.{slots_used, slots_freed, defaults_are, items-with_slot, spare-with_slot}
-use Rattle.tinyvec.specs.View.{in_array, on_heap, Place, lies_inline, capacity_in, TinyView, view_len, view_inline, ViewInline, TinySlotRule, Unchanged, IsNew}
+use Rattle.tinyvec.specs.View.{in_array, on_heap, TinyView, view_len, view_inline, ViewInline, TinySlotRule, Unchanged, IsNew}
 use Rattle.tinyvec.specs.Room.{Grows, Collects}
 use Rattle.tinyvec_array.specs.ArrayVec.{view_of, items_of, slots_of}
 use Rattle.tinyvec_array.proofs.ViewLemmas.{view_of-at}
@@ -16,25 +16,18 @@ use Rattle.tinyvec.specs.TinyVec.{tiny_items_of, tiny_len_of}
 use Rattle.tinyvec.specs.Lends.{tiny_with_item}
 use Rattle.tinyvec.specs.declared.tiny_vec.TinyVec.{TinyVec}
 use Rattle.tinyvec.specs.declared.tiny_vec.TinyVec.TheVariants.{Inline, Heap}
-pub use Rattle.tinyvec.specs.FrameLaws.{FrameOf, capacity_inline, SameFrame-refl, SameFrame-then, tiny_items-with, tiny_framed-with, tiny_slots_framed, tiny_slots_then_framed}
+pub use Rattle.tinyvec.specs.FrameLaws.{FrameOf, tiny_fits, SameFrame-refl, SameFrame-then, tiny_items-with, tiny_framed-with, tiny_slots_framed, tiny_slots_then_framed}
 
 -- what is seen of an array, and of a list on the heap
 abbrev pub array_view : {T : Type 0} → Slots T → TinyView T
-array_view v = record { items = items v; spare = spare v; place = in_array }
+array_view v = record { items = items v; spare = spare v; place = in_array (length v.slots) }
 
 abbrev pub heap_view : {T : Type 0} → Vec T Global → TinyView T
 heap_view v = record { items = v.items; spare = []; place = on_heap (vec_capacity v) }
 
--- two places that are both in the array, or both on the heap with one capacity
-pub same_place : (slots : ℕ) (p q : Place) → lies_inline q ≡ lies_inline p → capacity_in slots q ≡ capacity_in slots p → q ≡ p
-same_place slots in_array in_array same room = refl
-same_place slots in_array (on_heap n) same room = absurd (let no = same in cc)
-same_place slots (on_heap m) in_array same room = absurd (let no = same in cc)
-same_place slots (on_heap m) (on_heap n) same room = ap on_heap room
-
 -- what did not change looks the same
 pub view_unchanged : {T : Type 0} (old new : TinyView T) → Unchanged old new → new ≡ old
-view_unchanged old new h i = record { items = h.items i; spare = h.spare i; place = same_place 0 old.place new.place h.place (h.capacity 0) i }
+view_unchanged old new h i = record { items = h.items i; spare = h.spare i; place = record { inline = h.place i; capacity = h.capacity i } }
 
 module _ {A T L : Type 0} (g : Storage.Ghosts A T L) where
   -- a write of one item writes that item
@@ -48,9 +41,9 @@ module _ {A T L : Type 0} (g : Storage.Ghosts A T L) where
     len = ap length (tiny_items-with_item (Inline v alloc) i x h) ∙ length-set (items_of g v) i x;
     spare = ap spare (view_of-at g v (slice_set (slots_of g v) i x)) ∙ spare-with_slot (view_of g v) i x h;
     place = refl;
-    capacity = λ slots. refl;
+    capacity = ap (λ u. length u.slots) (view_of-at g v (slice_set (slots_of g v) i x)) ∙ length-set (slots_of g v) i x;
   }
-  tiny_framed-with_item (Heap v) i x h = record { len = length-set v.items i x; spare = refl; place = refl; capacity = λ slots. refl }
+  tiny_framed-with_item (Heap v) i x h = record { len = length-set v.items i x; spare = refl; place = refl; capacity = refl }
 
 -- the slot rule of a call that pushed, inserted or removed one item
 module _ {T : Type 0} (D : T → Type 0) (old new : Slots T) where
@@ -94,10 +87,11 @@ module _ {T : Type 0} (D : T → Type 0) where
   pub collected : (slots : ℕ) (old new : TinyView T) → IsNew D slots old → Grows D slots old new → Collects D slots new.items new
   collected slots old new made grows =
       let zero : view_len old ≡ 0 = ap length made.items in
-      let first = capacity_inline slots old made.place in
+      let first = made.capacity in
       let n = view_len new - view_len old in record {
         items = refl;
-        place = (λ i. (grows.place.0 i).1, λ le. grows.place.1 (made.place, le));
+        place = (λ i. rw first at (grows.place.0 i).1, λ le. grows.place.1 (made.place, rw first le));
+        inline_capacity = λ i. grows.same_room (grows.place.0 i).1 ∙ first;
         spare = λ i.
             let is = taken old new (omega (arith, zero)) grows.slot_rule made.place i in
             (ap length is ∙ length-drop n old.spare ∙ omega (arith, made.spare.0, zero), subst (All D) (sym is) (All-drop D n old.spare made.spare.1));

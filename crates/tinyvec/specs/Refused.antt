@@ -14,7 +14,7 @@ RoomGranted exact slots need old new = PlaceRule slots need old new × KeepsRoom
 -- changed. Or the room was granted, as when the call succeeds, and P says which clone failed then.
 abbrev pub RefusedFor : {T : Type 0} → ℕ → ℕ → Type 0 → TinyView T → TinyView T → Type 0
 RefusedFor slots need P old new =
-    ((view_capacity slots old < need) × Unchanged old new) ⊎ (RoomGranted (view_inline old) slots need old new × P)
+    ((view_capacity old < need) × Unchanged old new) ⊎ (RoomGranted (view_inline old) slots need old new × P)
 
 -- if the list is inline, its first n spare slots hold clones of xs
 abbrev pub ClonesBehind : {T : Type 0} → (T → T → Type 0) → List T → ℕ → TinyView T → TinyView T → Type 0
@@ -26,8 +26,8 @@ pub record ClonesInRoom {T X E : Type 0} (g : Clone.Ghosts T) (slots : ℕ) (xs 
   pub items : OnOk result (AppendsClones g.is_clone old.items new.items xs)
   pub spare : OnOk result (new.spare ≡ drop (length xs) old.spare)
   pub place : view_inline new ≡ view_inline old
-  pub capacity : view_capacity slots new ≡ view_capacity slots old
-  pub fits : view_len new ≤ view_capacity slots new
+  pub capacity : view_capacity new ≡ view_capacity old
+  pub fits : view_len new ≤ view_capacity new
   pub kept : OnErr result (new.items ≡ old.items)
   pub refused : OnErr result ((j : ℕ) × RefusedAt g.is_infallible xs j × ClonesBehind g.is_clone (take j xs) j old new)
   pub succeeds : All g.is_infallible xs → IsOk result

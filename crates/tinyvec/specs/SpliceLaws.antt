@@ -1,7 +1,8 @@
 -- The laws of a splice of a `TinyVec`: what its calls leave of spare slots, place and room.
 use Rattle.std.proofs.Common.{◌≡◌, ℕ, ◌≤◌, List, length, refl, sym, ap, ◌∙◌, arith}
+use Rattle.std.specs.Prelude.{Bool, true, false, IsTrue}
 use Rattle.tinyvec_array.specs.declared.slots.Slots as Storage
-use Rattle.tinyvec.specs.View.{Place, in_array, on_heap, lies_inline, capacity_in, TinyView, view_len, view_inline, view_capacity, Becomes, StaysInPlace, SameFrame}
+use Rattle.tinyvec.specs.View.{TinyView, view_len, view_inline, view_capacity, Becomes, StaysInPlace, SameFrame}
 use Rattle.tinyvec.specs.TinyVec.{tiny_view_of, tiny_items_of, tiny_len_of}
 use Rattle.tinyvec.specs.Lends.{tiny_with_items}
 use Rattle.tinyvec.specs.Room.{Grows, items_moved}
@@ -19,12 +20,11 @@ module _ {A T L : Type 0} (g : Storage.Ghosts A T L) where
   pub frame_then : (u v w : TinyVec A T L) → FrameOf g u v → FrameOf g v w → FrameOf g u w
   frame_then u v w = SameFrame-then (tiny_view_of g u) (tiny_view_of g v) (tiny_view_of g w)
 
--- a list that fits where it was did not move
-stays_in : (slots n : ℕ) (p q : Place) → (lies_inline p ≡ lies_inline in_array → n ≤ slots → lies_inline q ≡ lies_inline in_array)
-    → n ≤ capacity_in slots p → items_moved slots (lies_inline p) (lies_inline q) ≡ 0
-stays_in slots n in_array in_array h fits = refl
-stays_in slots n in_array (on_heap m) h fits = absurd (let no = h refl fits in cc)
-stays_in slots n (on_heap k) q h fits = refl
+-- a list that stayed inline did not move
+stays_in : (slots : ℕ) (b c : Bool) → (IsTrue b → IsTrue c) → items_moved slots b c ≡ 0
+stays_in slots true true h = refl
+stays_in slots true false h = absurd (let no = h refl in cc)
+stays_in slots false c h = refl
 
 module _ {T : Type 0} where
   pub frame_moved : (slots : ℕ) (u v w x : TinyView T) → SameFrame u v → SameFrame w x
@@ -37,22 +37,22 @@ module _ {T : Type 0} where
       items = h.items;
       place = h.place ∙ k.place;
       slot_rule = tiny_slots_framed D u v w k h.slot_rule;
-      capacity = h.capacity ∙ k.capacity slots;
+      capacity = h.capacity ∙ k.capacity;
       fits = h.fits;
     }
 
     pub frame_grows : (u v w x : TinyView T) → SameFrame u v → Grows D slots v w → SameFrame w x → Grows D slots u x
     frame_grows u v w x k h j = record {
-      place = rw (j.place, j.len, sym k.place) h.place;
+      place = rw (j.place, j.len, sym k.place, sym k.capacity) h.place;
       slot_rule = tiny_slots_then_framed D u w x (tiny_slots_framed D u v w k h.slot_rule) j;
-      capacity = let c = h.capacity in let a = k.capacity slots in let b = j.capacity slots in omega arith;
-      same_room = λ fits. j.capacity slots ∙ h.same_room (let a = k.capacity slots in let b = j.len in omega arith) ∙ k.capacity slots;
-      doubled = rw (j.capacity slots, sym (k.capacity slots)) h.doubled;
-      grown = λ more. let a = k.capacity slots in let b = j.capacity slots in let c = j.len in let less = h.grown (omega (arith, a, b, more)) in omega (arith, b, c, less);
-      fits = let fits = h.fits in let b = j.capacity slots in let c = j.len in omega (arith, b, c, fits);
+      capacity = let c = h.capacity in let a = k.capacity in let b = j.capacity in omega arith;
+      same_room = λ fits. j.capacity ∙ h.same_room (let a = k.capacity in let b = j.len in omega arith) ∙ k.capacity;
+      doubled = rw (j.capacity, sym k.capacity) h.doubled;
+      grown = λ more. let a = k.capacity in let b = j.capacity in let c = j.len in let less = h.grown (omega (arith, a, b, more)) in omega (arith, b, c, less);
+      fits = let fits = h.fits in let b = j.capacity in let c = j.len in omega (arith, b, c, fits);
     }
 
-    pub stays_grows : (v w : TinyView T) → StaysInPlace D slots v w → view_len w ≤ view_capacity slots w → Grows D slots v w
+    pub stays_grows : (v w : TinyView T) → StaysInPlace D slots v w → view_len w ≤ view_capacity w → Grows D slots v w
     stays_grows v w h fits = record {
       place = place_kept slots (view_len w) v w h.place (let c = h.capacity in omega arith);
       slot_rule = h.slot_rule;
@@ -63,6 +63,6 @@ module _ {T : Type 0} where
       fits = fits;
     }
 
-    pub stays : (v w : TinyView T) → Grows D slots v w → view_len w ≤ view_capacity slots v
+    pub stays : (v w : TinyView T) → Grows D slots v w → view_len w ≤ view_capacity v
         → items_moved slots (view_inline v) (view_inline w) ≡ 0
-    stays v w h fits = stays_in slots (view_len w) v.place w.place (λ was few. h.place.1 (was, few)) fits
+    stays v w h fits = stays_in slots (view_inline v) (view_inline w) (λ was. h.place.1 (was, fits))

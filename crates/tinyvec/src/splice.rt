@@ -4,7 +4,7 @@ ghost use Rattle.std.specs.Iterator.{IsFinite, Drains, YieldsThen};
 ghost use Rattle.std.specs.Iterator.Adapters.{fuse_done, fuse_source, fuse_steps};
 ghost use Rattle.tinyvec_slots.specs.Fused.{FusedCan, fused_rest};
 ghost use Rattle.tinyvec_slots.specs.Ranges.{IsRangeOf, before, removed, after};
-ghost use Rattle.tinyvec.specs.TinyVec.{tiny_items_of, tiny_len_of, is_inline, tiny_capacity, tiny_view_of};
+ghost use Rattle.tinyvec.specs.TinyVec.{tiny_items_of, tiny_len_of, is_inline, IsInline, tiny_capacity_of, tiny_view_of};
 ghost use Rattle.tinyvec.specs.View.{TinySlotRule, StaysInPlace, Becomes, Unchanged};
 ghost use Rattle.tinyvec_slots.specs.Filling.{IntoIterYields, ShowsItems};
 ghost use Rattle.tinyvec_slots.specs.Replacing.{PutsBetween};
@@ -45,6 +45,7 @@ impl<A: Array> TinyVec<A> {
         ensures vec { splice_vec result ≡ self.old }
         ensures same_reference { splice_lender result ≡ self.entry.ghost_name }
         ensures ready { SpliceCanStep (tiny_items_of A.Slots) result }
+        ensures inline_capacity { IsInline self.old → tiny_capacity_of A.Slots self.old ≡ A.CAPACITY }
     {
         let part = resolve_range(range, self.len());
         splice_over(self, part.start, part.end, replacement.into_iter())
@@ -72,7 +73,7 @@ impl<A: Array> TinyVec<A> {
             ++ after (tiny_items_of A.Slots self.old) (R.end_bound range)) }
 
         // It refuses none while there is room.
-        ensures full { OnErr result (tiny_len_of A.Slots self.new ≡ tiny_capacity A.CAPACITY self.new) }
+        ensures full { OnErr result (tiny_len_of A.Slots self.new ≡ tiny_capacity_of A.Slots self.new) }
         ensures grows { Grows A.Item.is_default A.CAPACITY (tiny_view_of A.Slots self.old)
             (tiny_view_of A.Slots self.new) }
         ensures no_shorter { OnErr result (tiny_len_of A.Slots self.old ≤ tiny_len_of A.Slots self.new) }
@@ -84,7 +85,7 @@ impl<A: Array> TinyVec<A> {
         ensures listed { (rest : I.IntoIter → List A.Item) → ShowsItems I.IntoIter.next_gives rest
             → (it : I.IntoIter) × I.into_iter_gives replacement it
             × (length (before (tiny_items_of A.Slots self.old) (R.start_bound range)) + length (rest it)
-            + length (after (tiny_items_of A.Slots self.old) (R.end_bound range)) ≤ tiny_capacity A.CAPACITY self.old
+            + length (after (tiny_items_of A.Slots self.old) (R.end_bound range)) ≤ tiny_capacity_of A.Slots self.old
             → IsOk result)
             × OnOk result (tiny_items_of A.Slots self.new ≡ before (tiny_items_of A.Slots self.old)
             (R.start_bound range) ++ rest it
@@ -96,9 +97,10 @@ impl<A: Array> TinyVec<A> {
 
         // For items that are known, as those of a `Vec`, a range or a slice. If there is room for them it allocates nothing.
         ensures known { (xs : List A.Item) → IntoIterYields I.into_iter_gives I.IntoIter.next_gives replacement xs
-            → PutsBetween (tiny_capacity A.CAPACITY self.old) (before (tiny_items_of A.Slots self.old)
+            → PutsBetween (tiny_capacity_of A.Slots self.old) (before (tiny_items_of A.Slots self.old)
             (R.start_bound range)) xs
             (after (tiny_items_of A.Slots self.old) (R.end_bound range)) result (tiny_items_of A.Slots self.new) }
+        ensures inline_capacity { IsInline self.old → tiny_capacity_of A.Slots self.old ≡ A.CAPACITY }
     {
         let splice = self.splice(range, replacement);
         splice.finish()
@@ -122,16 +124,17 @@ impl<A: Array> TinyVec<A> {
             (tiny_view_of A.Slots self.old) (tiny_view_of A.Slots self.new) result) }
         ensures slot_rule { OnOk result (TinySlotRule A.Item.is_default (tiny_view_of A.Slots self.old)
             (tiny_view_of A.Slots self.new)) }
-        ensures capacity { tiny_capacity A.CAPACITY self.old ≤ tiny_capacity A.CAPACITY self.new }
+        ensures capacity { tiny_capacity_of A.Slots self.old ≤ tiny_capacity_of A.Slots self.new }
         ensures same_room { KeepsRoom A.CAPACITY (tiny_len_of A.Slots self.new)
             (tiny_view_of A.Slots self.old) (tiny_view_of A.Slots self.new) }
-        ensures fits { tiny_len_of A.Slots self.new ≤ tiny_capacity A.CAPACITY self.new }
+        ensures fits { tiny_len_of A.Slots self.new ≤ tiny_capacity_of A.Slots self.new }
 
         // If there is room it allocates nothing.
         ensures succeeds { length (before (tiny_items_of A.Slots self.old) (R.start_bound range)) + length replacement.now
-            + length (after (tiny_items_of A.Slots self.old) (R.end_bound range)) ≤ tiny_capacity A.CAPACITY self.old
+            + length (after (tiny_items_of A.Slots self.old) (R.end_bound range)) ≤ tiny_capacity_of A.Slots self.old
             → IsOk result }
         ensures refused { OnErr result (Unchanged (tiny_view_of A.Slots self.old) (tiny_view_of A.Slots self.new)) }
+        ensures inline_capacity { IsInline self.old → tiny_capacity_of A.Slots self.old ≡ A.CAPACITY }
     {
         let part = resolve_range(range, self.len());
         let more = replacement.len().saturating_sub(part.end - part.start);
@@ -147,7 +150,7 @@ impl<A: Array> TinyVec<A> {
         requires start_le_end { part.start ≤ part.end }
         requires in_list { part.end ≤ tiny_len_of A.Slots self.old }
         requires room { tiny_len_of A.Slots self.old - (part.end - part.start) + length replacement.now
-            ≤ tiny_capacity A.CAPACITY self.old }
+            ≤ tiny_capacity_of A.Slots self.old }
         ensures { Becomes A.Item.is_default A.CAPACITY (tiny_view_of A.Slots self.old) (tiny_view_of A.Slots self.new)
             (take part.start (tiny_items_of A.Slots self.old) ++ replacement.now ++ drop part.end
             (tiny_items_of A.Slots self.old)) }
@@ -189,7 +192,7 @@ impl<A: Array> CanSplice for TinyVec<A> {
 
     ghost kept_then = { frame_then A.Slots };
 
-    ghost kept_room = { λ v w k. k.capacity A.CAPACITY };
+    ghost kept_room = { λ v w k. k.capacity };
 
     ghost kept_len = { λ v w k. k.len };
 
@@ -231,7 +234,7 @@ impl<A: Array> CanCut for TinyVec<A> {
 
     ghost with_items = { tiny_with_items A.Slots };
 
-    ghost room = { tiny_capacity A.CAPACITY };
+    ghost room = { tiny_capacity_of A.Slots };
 
     ghost Kept = { FrameOf A.Slots };
 

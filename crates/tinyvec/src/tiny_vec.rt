@@ -1,10 +1,10 @@
 //! `TinyVec`.
 ghost use Rattle.std.specs.Prelude.{◌≡◌, ◌+◌, ◌<◌, ◌≤◌, ◌==◌, not, length, slice_index_or, slice_set, ◌-◌, ◌↔◌, ℕ, All, [], take, drop, IsOk, IsErr, IfOk, IfErr, OnErr, vec_capacity, List, false};
-ghost use Rattle.tinyvec.specs.TinyVec.{tiny_items_of, tiny_len_of, tiny_spare_of, is_inline, tiny_capacity, IsInline, tiny_allocator, tiny_view_of};
+ghost use Rattle.tinyvec.specs.TinyVec.{tiny_items_of, tiny_len_of, tiny_spare_of, is_inline, tiny_capacity_of, IsInline, tiny_allocator, tiny_view_of};
 ghost use Rattle.tinyvec.specs.View.{HoldsInline, SameFrame};
 ghost use Rattle.tinyvec.specs.Room.{MadeFor};
 ghost use Rattle.tinyvec_slots.specs.Slots.{AreDefaults};
-ghost use Rattle.tinyvec_array.specs.ArrayVec.{items_of, spare_of, slots_of, len_of};
+ghost use Rattle.tinyvec_array.specs.ArrayVec.{items_of, spare_of};
 ghost use Rattle.tinyvec_slots.specs.Clones.{RefusedAt, AreClones};
 ghost use Rattle.std.specs.Borrow.{sem};
 ghost use Rattle.tinyvec_slots.specs.Filling.{Iterates, IteratesMut};
@@ -131,48 +131,34 @@ impl<A: Array> TinyVec<A> {
     /// The number of items.
     pub fn len(&self) -> usize
         ensures value { result ≡ tiny_len_of A.Slots self.now }
-        ensures fits { result ≤ tiny_capacity A.CAPACITY self.now }
+        ensures fits { result ≤ tiny_capacity_of A.Slots self.now }
+        ensures inline_capacity { IsInline self.now → tiny_capacity_of A.Slots self.now ≡ A.CAPACITY }
         ensures slot_count { IsInline self.now → tiny_len_of A.Slots self.now + length
             (tiny_spare_of A.Slots self.now) ≡ A.CAPACITY }
     {
         match self {
             // Equal to the length. The minimum shows LLVM an upper bound, which keeps the two variants apart.
-            TinyVec::Inline(v, _) => {
-                knows_slots(v);
-                v.len().min(A::CAPACITY)
-            }
+            TinyVec::Inline(v, _) => v.len().min(v.capacity()),
             TinyVec::Heap(v) => v.len(),
         }
     }
 
     /// The number of items that fit without a further allocation.
     pub fn capacity(&self) -> usize
-        ensures value { result ≡ tiny_capacity A.CAPACITY self.now }
+        ensures value { result ≡ tiny_capacity_of A.Slots self.now }
         ensures fits { tiny_len_of A.Slots self.now ≤ result }
+        ensures inline_capacity { IsInline self.now → result ≡ A.CAPACITY }
     {
         match self {
-            TinyVec::Inline(v, _) => {
-                knows_slots(v);
-                A::CAPACITY
-            }
+            TinyVec::Inline(v, _) => v.capacity(),
             TinyVec::Heap(v) => v.capacity(),
         }
     }
 
-    // Tells a proof that the list fits, and that an inline one has the array's slots.
-    #[inline(always)]
-    pub(crate) fn knows_room(&self)
-        ensures fits { tiny_len_of A.Slots self.now ≤ tiny_capacity A.CAPACITY self.now }
-        ensures slot_count { IsInline self.now → tiny_len_of A.Slots self.now + length
-            (tiny_spare_of A.Slots self.now) ≡ A.CAPACITY }
-    {
-        let _len = self.len();
-    }
-
     /// How many more items fit.
     pub fn remaining_capacity(&self) -> usize
-        ensures value { result ≡ tiny_capacity A.CAPACITY self.now - tiny_len_of A.Slots self.now }
-        ensures sum { tiny_len_of A.Slots self.now + result ≡ tiny_capacity A.CAPACITY self.now }
+        ensures value { result ≡ tiny_capacity_of A.Slots self.now - tiny_len_of A.Slots self.now }
+        ensures sum { tiny_len_of A.Slots self.now + result ≡ tiny_capacity_of A.Slots self.now }
     {
         self.capacity() - self.len()
     }
@@ -193,6 +179,7 @@ impl<A: Array> TinyVec<A> {
         ensures items { tiny_items_of A.Slots result ≡ [] }
         ensures spare { AreDefaults A.Item.is_default A.CAPACITY (tiny_spare_of A.Slots result) }
         ensures place { IsInline result }
+        ensures capacity { tiny_capacity_of A.Slots result ≡ A.CAPACITY }
     {
         TinyVec::Inline(ArrayVec::new(), alloc)
     }
@@ -235,7 +222,7 @@ impl<A: Array> TinyVec<A> {
     pub fn from_vec(vec: Vec<A::Item>) -> Self
         ensures items { tiny_items_of A.Slots result ≡ vec.items }
         ensures place { is_inline result ≡ false }
-        ensures capacity { tiny_capacity A.CAPACITY result ≡ vec_capacity vec }
+        ensures capacity { tiny_capacity_of A.Slots result ≡ vec_capacity vec }
     {
         TinyVec::Heap(vec)
     }
@@ -300,13 +287,4 @@ fn push_defaults<T: Default>(heap: &mut Vec<T>, n: usize)
     for _i in 0..n {
         heap.push_reserved(T::default());
     }
-}
-
-// Tells a proof that there are as many slots as the array has.
-#[inline(always)]
-pub(crate) fn knows_slots<A: Array>(vec: &ArrayVec<A>)
-    ensures slots { length (slots_of A.Slots vec.now) ≡ A.CAPACITY }
-    ensures parts { len_of A.Slots vec.now + length (spare_of A.Slots vec.now) ≡ A.CAPACITY }
-{
-    let _slots = vec.capacity();
 }

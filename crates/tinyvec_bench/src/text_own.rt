@@ -147,7 +147,7 @@ fn mail_date<const N: usize>(alloc: Global, made: &mut InlineText<N>, x: u64) ->
 
 #[inline(never)]
 fn push_mail_date<const N: usize>(made: &mut InlineText<N>, n: u8)
-    requires { text_len made.old + 31 ≤ capacity_in N made.old.place }
+    requires { text_len made.old + 31 ≤ capacity_in made.old.place }
 {
     put::<N>(made, weekday(n));
     put::<N>(made, ", ");
@@ -163,9 +163,9 @@ fn push_mail_date<const N: usize>(made: &mut InlineText<N>, n: u8)
 }
 
 fn put_time<const N: usize>(made: &mut InlineText<N>, n: u8)
-    requires { text_len made.old + 8 ≤ capacity_in N made.old.place }
+    requires { text_len made.old + 8 ≤ capacity_in made.old.place }
     ensures len { text_len made.new ≡ text_len made.old + 8 }
-    ensures capacity { capacity_in N made.new.place ≡ capacity_in N made.old.place }
+    ensures capacity { capacity_in made.new.place ≡ capacity_in made.old.place }
 {
     put_two::<N>(made, n);
     put_letter::<N>(made, b':');
@@ -177,9 +177,9 @@ fn put_time<const N: usize>(made: &mut InlineText<N>, n: u8)
 // A push whose contract says no more than the next one needs.
 #[inline(always)]
 fn put<const N: usize>(made: &mut InlineText<N>, piece: &str)
-    requires { text_len made.old + length piece.now ≤ capacity_in N made.old.place }
+    requires { text_len made.old + length piece.now ≤ capacity_in made.old.place }
     ensures len { text_len made.new ≡ text_len made.old + length piece.now }
-    ensures capacity { capacity_in N made.new.place ≡ capacity_in N made.old.place }
+    ensures capacity { capacity_in made.new.place ≡ capacity_in made.old.place }
 {
     made.push_str_reserved(piece);
 }
@@ -188,18 +188,18 @@ fn put<const N: usize>(made: &mut InlineText<N>, piece: &str)
 #[inline(always)]
 fn put_letter<const N: usize>(made: &mut InlineText<N>, letter: u8)
     requires ascii { letter < 128 }
-    requires room { text_len made.old + 1 ≤ capacity_in N made.old.place }
+    requires room { text_len made.old + 1 ≤ capacity_in made.old.place }
     ensures len { text_len made.new ≡ text_len made.old + 1 }
-    ensures capacity { capacity_in N made.new.place ≡ capacity_in N made.old.place }
+    ensures capacity { capacity_in made.new.place ≡ capacity_in made.old.place }
 {
     made.push_reserved(letter as char);
 }
 
 // Pushes the last two digits of `n`.
 fn put_two<const N: usize>(made: &mut InlineText<N>, n: u8)
-    requires { text_len made.old + 2 ≤ capacity_in N made.old.place }
+    requires { text_len made.old + 2 ≤ capacity_in made.old.place }
     ensures len { text_len made.new ≡ text_len made.old + 2 }
-    ensures capacity { capacity_in N made.new.place ≡ capacity_in N made.old.place }
+    ensures capacity { capacity_in made.new.place ≡ capacity_in made.old.place }
 {
     put_letter::<N>(made, b'0' + n / 10 % 10);
     put_letter::<N>(made, b'0' + n % 10);

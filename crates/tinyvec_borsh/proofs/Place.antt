@@ -1,38 +1,32 @@
 -- Where a vector lies that is read item after item.
-use Rattle.std.proofs.Common.{◌≡◌, ◌∙◌, ◌*◌, max, Bool, true, if◌then◌else◌, sym, subst, IsTrue, ◌<◌, ◌≤◌, ◌-◌, ◌++◌, [], drop, ◌↔◌, inl, inr, ℕ, arith, false, refl, Result, Err, IsOk, is_ok, ap}
+use Rattle.std.proofs.Common.{◌≡◌, ◌∙◌, ◌*◌, max, Bool, true, if◌then◌else◌, sym, subst, IsTrue, ◌<◌, ◌≤◌, ◌-◌, ◌++◌, [], drop, ◌↔◌, inl, inr, ℕ, arith, false, Result, Err, IsOk, is_ok, ap}
 use Rattle.std.proofs.lemmas.List.{nil_from_length, length-drop}
 use Rattle.std.proofs.lemmas.List.Elements.{All-drop}
 use Rattle.tinyvec_slots.specs.Slots.{AreDefaults}
 use Rattle.std.proofs.lemmas.Bool.{both_ways, cases_lt}
-use Rattle.tinyvec.specs.View.{Place, in_array, on_heap, lies_inline, capacity_in, TinyView, view_len, view_inline, ViewInline, view_capacity, PlaceRule, TinySlotRule}
+use Rattle.tinyvec.specs.View.{TinyView, view_len, view_inline, ViewInline, view_capacity, PlaceRule, TinySlotRule}
 use Rattle.tinyvec.specs.Room.{KeepsRoom, GrowsTo}
 
 either : (b : Bool) (x y most : ℕ) → x ≤ most → y ≤ most → (if b then x else y) ≤ most
 either true x y most p q = p
 either false x y most p q = q
 
-wanting-at : (slots n : ℕ) (p : Place) → capacity_in slots p < n → (n ≤ slots → IsTrue (lies_inline p)) → slots < n
-wanting-at slots n in_array wanting all_fit = wanting
-wanting-at slots n (on_heap m) wanting all_fit = elim (cases_lt slots n) [
-  | inl above ↦ above
-  | inr fits ↦ absurd (both_ways false refl (all_fit fits))
-]
-
 module _ {T : Type 0} where
   -- a list was made longer, and then its items were written
   pub place-framed : (slots need : ℕ) (old mid new : TinyView T) → PlaceRule slots need old mid → view_inline new ≡ view_inline mid → view_len new ≡ need → PlaceRule slots (view_len new) old new
   place-framed slots need old mid new rule same long =
-      subst (λ n. PlaceRule slots n old new) (sym long) (subst (λ place. IsTrue place ↔ (ViewInline old × (need ≤ slots))) (sym same) rule)
+      subst (λ n. PlaceRule slots n old new) (sym long) (subst (λ place. IsTrue place ↔ (ViewInline old × (need ≤ view_capacity old))) (sym same) rule)
 
   -- A list of which n items are to come is inline only where those so far fit, and surely where all do.
   pub record IsPlaced (slots n : ℕ) (v : TinyView T) : Type 0 where
     pub fits : ViewInline v → view_len v ≤ slots
     pub all_fit : n ≤ slots → ViewInline v
 
-  pub placed-longer : (slots n : ℕ) (old new : TinyView T) → view_len new ≤ n → PlaceRule slots (view_len new) old new → IsPlaced slots n old → IsPlaced slots n new
-  placed-longer slots n old new few rule before = record {
-    fits = λ h. (rule.0 h).1;
-    all_fit = λ h. rule.1 (before.all_fit h, omega (arith, few, h));
+  pub placed-longer : (slots n : ℕ) (old new : TinyView T) → view_len new ≤ n → PlaceRule slots (view_len new) old new
+      → (ViewInline old → view_capacity old ≡ slots) → IsPlaced slots n old → IsPlaced slots n new
+  placed-longer slots n old new few rule inline before = record {
+    fits = λ h. let both = rule.0 h in omega (arith, both.1, inline both.0);
+    all_fit = λ h. let was = before.all_fit h in rule.1 (was, omega (arith, few, h, inline was));
   }
 
   -- A list that got longer in its place used up defaults, where the slots after it were defaults.
@@ -50,15 +44,18 @@ module _ {T : Type 0} where
 
   -- a list that grows to n items, of which there will be at most `count`, has room for at most twice as many, if not for more before
   pub room-grown : (slots n count : ℕ) (old new : TinyView T) → KeepsRoom slots n old new → GrowsTo (view_inline old) slots n old new → n ≤ count
-      → view_capacity slots new ≤ max (view_capacity slots old) (2 * count)
-  room-grown slots n count old new kept grown few = elim (cases_lt (view_capacity slots old) n) [
-    | inl less ↦ (let most = either (view_inline old) n (max (2 * view_capacity slots old) n) (2 * count) (omega arith) (omega arith) in omega (arith, grown less, most))
+      → view_capacity new ≤ max (view_capacity old) (2 * count)
+  room-grown slots n count old new kept grown few = elim (cases_lt (view_capacity old) n) [
+    | inl less ↦ (let most = either (view_inline old) n (max (2 * view_capacity old) n) (2 * count) (omega arith) (omega arith) in omega (arith, grown less, most))
     | inr room ↦ omega (arith, kept room)
   ]
 
   -- room is wanting only where more items are to come than the array has room for
-  pub wanting-above : (slots n : ℕ) (v : TinyView T) → view_capacity slots v < n → IsPlaced slots n v → slots < n
-  wanting-above slots n v wanting place = wanting-at slots n v.place wanting place.all_fit
+  pub wanting-above : (slots n : ℕ) (v : TinyView T) → view_capacity v < n → (ViewInline v → view_capacity v ≡ slots) → IsPlaced slots n v → slots < n
+  wanting-above slots n v wanting inline place = elim (cases_lt slots n) [
+    | inl above ↦ above
+    | inr fits ↦ absurd (omega (arith, wanting, fits, inline (place.all_fit fits)))
+  ]
 
 -- room ahead is refused only where more items are to come than the array has room for
 pub refused-above : {X E : Type 0} (slots n ahead : ℕ) (r : Result X E) (e : E) → r ≡ Err e → ahead ≤ n → (ahead ≤ slots → IsOk r) → slots < n

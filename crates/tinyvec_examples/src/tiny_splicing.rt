@@ -5,7 +5,7 @@ ghost use Rattle.std.specs.Iterator.Adapters.{fuse_steps};
 ghost use Rattle.tinyvec.specs.Ends.{front, back, RunsWord};
 ghost use Rattle.tinyvec.specs.Fused.{fused_rest, FusedFinite, HasTwoEnds};
 ghost use Rattle.tinyvec.specs.SplicedByWord.{IsSpliceRefused, SplicedByWord};
-ghost use Rattle.tinyvec.specs.TinyVec.{tiny_items, tiny_items_of, tiny_len_of, tiny_capacity, IsInline, tiny_view_of};
+ghost use Rattle.tinyvec.specs.TinyVec.{tiny_items, tiny_items_of, tiny_len_of, IsInline, tiny_view_of, tiny_capacity_of};
 ghost use Rattle.tinyvec.specs.View.{PlaceRule, TinySlotRule};
 ghost use Rattle.tinyvec.specs.FrameLaws.{FrameOf};
 ghost use Rattle.tinyvec.specs.Splice.{splice_view, splice_replacement, SpliceKeeps, SpliceCanStep, SpliceSteps, SpliceStepsBack};
@@ -70,9 +70,9 @@ pub fn replace<A: Array, I: DoubleEndedIterator<Item = A::Item>>(
         (drop end (tiny_items_of A.Slots vec.old)) (rest replacement) (tiny_items_of A.Slots vec.new)
         (refused.item ∷ fused_rest rest refused.rest)) }
     ensures succeeds { (rest : I → List A.Item) → HasTwoEnds I.next_gives I.next_back_gives rest
-        → start + length (rest replacement) + (tiny_len_of A.Slots vec.old - end) ≤ tiny_capacity A.CAPACITY vec.old
+        → start + length (rest replacement) + (tiny_len_of A.Slots vec.old - end) ≤ tiny_capacity_of A.Slots vec.old
         → IsOk result }
-    ensures full { OnErr result (tiny_len_of A.Slots vec.new ≡ tiny_capacity A.CAPACITY vec.new) }
+    ensures full { OnErr result (tiny_len_of A.Slots vec.new ≡ tiny_capacity_of A.Slots vec.new) }
     ensures place { PlaceRule A.CAPACITY (tiny_len_of A.Slots vec.new) (tiny_view_of A.Slots vec.old) (tiny_view_of A.Slots vec.new) }
     ensures slot_rule { TinySlotRule A.Item.is_default (tiny_view_of A.Slots vec.old) (tiny_view_of A.Slots vec.new) }
 {

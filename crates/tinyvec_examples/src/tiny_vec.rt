@@ -2,7 +2,7 @@
 ghost use Rattle.std.specs.Prelude.{◌≡◌, ◌==◌, ◌+◌, ◌-◌, ◌%◌, ◌<◌, ◌≤◌, ◌++◌, ◌∷◌, [], pos, slice_get, slice_set, false, IsTrue, IsOk, OnOk, OnErr};
 ghost use Rattle.std.specs.List.{filter};
 ghost use Rattle.tinyvec.specs.Ranges.{IsRangeOf, before, removed, after};
-ghost use Rattle.tinyvec.specs.TinyVec.{tiny_items, tiny_items_of, tiny_len, tiny_len_of, tiny_spare, tiny_spare_of, is_inline, IsInline, tiny_view_of};
+ghost use Rattle.tinyvec.specs.TinyVec.{tiny_items, tiny_items_of, tiny_len, tiny_len_of, tiny_spare, tiny_spare_of, is_inline, IsInline, tiny_capacity, tiny_view_of};
 ghost use Rattle.tinyvec.specs.View.{Becomes, Unchanged};
 
 use std::alloc::{AllocError, Global};
@@ -13,6 +13,7 @@ use tinyvec::{Array, NoMemory, NoRoom, TinyVec, TinyVecIterator};
 pub fn three(alloc: Global) -> TinyVec<[i32; 4]>
     ensures items { tiny_items result ≡ pos 1 ∷ pos 2 ∷ pos 3 ∷ [] }
     ensures place { IsInline result }
+    ensures capacity { tiny_capacity result ≡ 4 }
 {
     let mut v: TinyVec<[i32; 4]> = TinyVec::new(alloc);
     let _one = v.push(1);

@@ -26,7 +26,7 @@ module _ {T : Type 0} (D : T → Type 0) (slots : ℕ) where
 
   -- A full list of two items or more gets twice its room by a push, wherever it lies, so a push that follows is not refused.
   pub memory_after_a_growth : (x y : T) (calls : List (Call T)) (more : List (Answer T)) (old new : TinyView T)
-      → view_len old ≡ view_capacity slots old → 1 < view_len old
+      → view_len old ≡ view_capacity old → 1 < view_len old
       → Run (TinyStep D slots) old (Push x ∷ Push y ∷ calls) (answers.Done ∷ answers.Memory ∷ more) new → ⊥
   memory_after_a_growth x y calls more old new full some run =
       let begun = run.1.answered in

@@ -32,8 +32,8 @@ abbrev pub start : State
 start = record {
   a = zeros;
   s = zeros;
-  t = record { items = []; spare = replicate 4 (pos 0); place = in_array };
-  x = record { bytes = []; place = in_array };
+  t = record { items = []; spare = replicate 4 (pos 0); place = in_array 4 };
+  x = record { bytes = []; place = in_array 4 };
 }
 
 -- the text of the vector of a name

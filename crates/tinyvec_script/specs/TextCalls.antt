@@ -53,7 +53,7 @@ pub record CutAt (slots : ℕ) (old : Text) (index : ℕ) (new : Text) : Type 0 
 -- only if the joined text does not fit the room of the old one. It changes nothing, and neither does `Range`.
 abbrev pub TextStep : ℕ → Text → TextCall → Answer ℤ → Text → Type 0
 TextStep slots old (add text) answers.Done new = Added slots old text new
-TextStep slots old (add text) answers.Memory new = (capacity_in slots old.place < text_len old + length text) × (new ≡ old)
+TextStep slots old (add text) answers.Memory new = (capacity_in old.place < text_len old + length text) × (new ≡ old)
 TextStep slots old (cut index) answers.Done new = CutAt slots old index new
 TextStep slots old (cut index) answers.Range new = (IsBoundary (text_chars old) index → ⊥) × (new ≡ old)
 -- no other answer is given

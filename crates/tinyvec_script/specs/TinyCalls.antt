@@ -20,29 +20,30 @@ module _ {T : Type 0} (D : T → Type 0) (slots : ℕ) where
   pub record Moved (old new : TinyView T) : Type 0 where
     pub items_are : new.items ≡ old.items
     pub place_is : lies_inline new.place ≡ false
-    pub room_is : ViewInline old → view_capacity slots new ≡ view_len old
+    pub room_is : ViewInline old → view_capacity new ≡ view_len old
     pub kept : lies_inline old.place ≡ false → new ≡ old
 
   -- A move back left the list in the array if it fits, with defaults after it. An inline list stays as it is.
   pub record Shrunk (old new : TinyView T) : Type 0 where
     pub items_are : new.items ≡ old.items
     pub place_is : ViewInline new ↔ (view_len old ≤ slots)
+    pub room_is : ViewInline new → view_capacity new ≡ slots
     pub kept : ViewInline old → new ≡ old
     pub spare_are : lies_inline old.place ≡ false → ViewInline new → AreDefaults D (slots - view_len old) new.spare
-    pub no_more_room : lies_inline new.place ≡ false → view_capacity slots new ≤ view_capacity slots old
+    pub no_more_room : lies_inline new.place ≡ false → view_capacity new ≤ view_capacity old
 
   -- From the old value the call may have this answer, and leave the new value, if that fits. A refused allocation is a case
   -- of its own: `Memory` only if there is no room for the items, for the move of an inline list of items to the heap, for those
   -- that a drain or a splice takes, or for those that a splice may return.
   abbrev pub TinyAnswers : TinyView T → Call T → Answer T → TinyView T → Type 0
   TinyAnswers old (Push x) answers.Done new = (new.items ≡ old.items ++ x ∷ []) × NeedsRoom false slots (view_len old + 1) old new
-  TinyAnswers old (Push x) answers.Memory new = (view_len old ≡ view_capacity slots old) × (new ≡ old)
+  TinyAnswers old (Push x) answers.Memory new = (view_len old ≡ view_capacity old) × (new ≡ old)
   TinyAnswers old Pop (answers.Some x) new = (old.items ≡ new.items ++ x ∷ []) × Becomes D slots old new (take (view_len old - 1) old.items)
   TinyAnswers old Pop answers.None new = (old.items ≡ []) × (new ≡ old)
   TinyAnswers old (Insert i x) answers.Done new = (i ≤ view_len old) × (new.items ≡ insert old.items i x)
       × NeedsRoom false slots (view_len old + 1) old new
   TinyAnswers old (Insert i x) answers.Range new = (view_len old < i) × (new ≡ old)
-  TinyAnswers old (Insert i x) answers.Memory new = (i ≤ view_len old) × (view_len old ≡ view_capacity slots old) × (new ≡ old)
+  TinyAnswers old (Insert i x) answers.Memory new = (i ≤ view_len old) × (view_len old ≡ view_capacity old) × (new ≡ old)
   TinyAnswers old (Remove i) (answers.Some x) new = (slice_get old.items i ≡ Some x)
       × Becomes D slots old new (remove old.items i)
   TinyAnswers old (Remove i) answers.Range new = (view_len old ≤ i) × (new ≡ old)
@@ -56,12 +57,12 @@ module _ {T : Type 0} (D : T → Type 0) (slots : ℕ) where
       × ListDrains old.items start end given.items new.items × Becomes D slots old new new.items
   TinyAnswers old (Splice start end word replacement) answers.Range new = (IsRange old.items start end → ⊥) × (new ≡ old)
   TinyAnswers old (Splice start end word replacement) answer new = IsRange old.items start end
-      × SpliceAnswers (view_capacity slots new) (view_len old) start end replacement.items (new ≡ old)
-      (λ yields rest. DrivenSplices (λ v. v.items) (Grows D slots) (view_capacity slots new) old start end word.items replacement.items yields rest new)
+      × SpliceAnswers (view_capacity new) (view_len old) start end replacement.items (new ≡ old)
+      (λ yields rest. DrivenSplices (λ v. v.items) (Grows D slots) (view_capacity new) old start end word.items replacement.items yields rest new)
       answer
-  TinyAnswers old (Reserve n) answers.Done new = (new.items ≡ old.items) × (view_len old + n ≤ view_capacity slots new)
+  TinyAnswers old (Reserve n) answers.Done new = (new.items ≡ old.items) × (view_len old + n ≤ view_capacity new)
       × NeedsRoom (view_inline old) slots (view_len old + n) old new
-  TinyAnswers old (Reserve n) answers.Memory new = (view_capacity slots old < view_len old + n) × (new ≡ old)
+  TinyAnswers old (Reserve n) answers.Memory new = (view_capacity old < view_len old + n) × (new ≡ old)
   TinyAnswers old Heap answers.Done new = Moved old new
   TinyAnswers old Heap answers.Memory new = ViewInline old × (0 < view_len old) × (new ≡ old)
   TinyAnswers old Shrink answers.Done new = Shrunk old new
@@ -73,4 +74,4 @@ module _ {T : Type 0} (D : T → Type 0) (slots : ℕ) where
   -- The call may have this answer, and take `old` to `new`, whose list fits its place.
   pub record TinyStep (old : TinyView T) (call : Call T) (answer : Answer T) (new : TinyView T) : Type 0 where
     pub answered : TinyAnswers old call answer new
-    pub fits : view_len new ≤ view_capacity slots new
+    pub fits : view_len new ≤ view_capacity new

@@ -15,7 +15,7 @@ use Rattle.tinyvec.specs.View.{TinyView, view_capacity, TinySlotRule, SameFrame,
 use Rattle.tinyvec.specs.Room.{MakesRoom}
 use Rattle.tinyvec.specs.declared.tiny_vec.TinyVec.TheVariants.{Inline, Heap}
 use Rattle.std.specs.String.Boundary.{IsSplitPoint}
-use Rattle.tinyvec.proofs.TinyLemmas.{same_place, tiny_items-with, tiny_framed-with}
+use Rattle.tinyvec.proofs.TinyLemmas.{tiny_items-with, tiny_framed-with}
 use Rattle.tinyvec_text.specs.InlineText.{Text, Bytes, IsText, text_of, text_view, text_chars, text_len, IsBoundary}
 use Rattle.tinyvec_text.proofs.Boundaries.{split_from_boundary}
 
@@ -95,13 +95,13 @@ text_room exact slots need old new r room = record {
 }
 
 -- a call that fails for no other reason than want of room
-pub no_room : {P : Type 0} (slots need : ℕ) (old new : TinyView ℕ) → RefusedFor slots need P old new → ¬ P → (view_capacity slots old < need) × Unchanged old new
+pub no_room : {P : Type 0} (slots need : ℕ) (old new : TinyView ℕ) → RefusedFor slots need P old new → ¬ P → (view_capacity old < need) × Unchanged old new
 no_room slots need old new (inl h) never = h
 no_room slots need old new (inr h) never = absurd (never h.1)
 
 -- a text that did not change
 pub text_unchanged : (old new : Text) → Unchanged (text_view old) (text_view new) → new ≡ old
-text_unchanged old new h i = record { bytes = h.items i; place = same_place 0 old.place new.place h.place (h.capacity 0) i }
+text_unchanged old new h i = record { bytes = h.items i; place = record { inline = h.place i; capacity = h.capacity i } }
 
 -- a write through the slice of the bytes leaves what the slice shows, and spare slots, place and room
 module _ (slots : ℕ) (old : Bytes slots) (ws : List ℕ) (long : length ws ≡ tiny_len old) where

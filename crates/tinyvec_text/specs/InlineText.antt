@@ -8,7 +8,7 @@ use denote.Param.Members.{Mut}
 use Rattle.tinyvec_array.specs.declared.bound.UpTo.{UpTo}
 use Rattle.tinyvec.specs.View.{Place, in_array, on_heap, lies_inline, capacity_in, TinyView, PlaceRule}
 use Rattle.tinyvec.specs.Room.{KeepsRoom, GrowsInSteps, MakesRoom}
-use Rattle.tinyvec.specs.TinyVec.{tiny_items, tiny_spare, place_of}
+use Rattle.tinyvec.specs.TinyVec.{tiny_items, tiny_spare, tiny_view}
 use Rattle.tinyvec.specs.declared.tiny_vec.TinyVec.{TinyVec}
 
 -- the UTF-8 bytes of the text, and their place
@@ -22,7 +22,7 @@ Bytes n = TinyVec (List ℕ) ℕ (UpTo n)
 
 -- a list of bytes as a text
 abbrev pub text_of : {n : ℕ} → Bytes n → Text
-text_of v = record { bytes = tiny_items v; place = place_of v }
+text_of v = record { bytes = tiny_items v; place = (tiny_view v).place }
 
 -- what holds of the list of each text: its bytes are UTF-8, and its spare slots are zero
 abbrev pub IsText : {n : ℕ} → Bytes n → Type 0
@@ -44,7 +44,7 @@ text_len t = length t.bytes
 -- with twice the old room, or `need` if that is more
 abbrev pub place_for : (moves : Bool) → (slots need : ℕ) → Place → Place
 place_for moves slots need place =
-    if nat_le need (capacity_in slots place) then place else on_heap (if moves then need else max (2 * capacity_in slots place) need)
+    if nat_le need (capacity_in place) then place else on_heap (if moves then need else max (2 * capacity_in place) need)
 
 -- where a text of n bytes is after these pieces were pushed one by one, whose bytes and ways to move `spell` and `moves` say
 abbrev pub place_after : {T : Type 0} → (moves : Place → T → Bool) → (spell : T → List ℕ) → (slots n : ℕ) → Place → List T → Place
@@ -60,42 +60,45 @@ place_after_chars slots t cs = place_after (λ place c. lies_inline place && nat
 abbrev pub place_after_texts : {T : Type 0} → (spell : T → List ℕ) → ℕ → Text → List T → Place
 place_after_texts spell slots t xs = place_after (λ place x. lies_inline place) spell slots (text_len t) t.place xs
 
--- an empty text, inline
-abbrev pub empty_text : Text
-empty_text = record { bytes = []; place = in_array }
+-- an empty text, in an array of that many bytes
+abbrev pub empty_text : ℕ → Text
+empty_text slots = record { bytes = []; place = in_array slots }
 
 -- A call that appends piece by piece took `old` to `new`: the text moves only if it outgrows the array, and grows to less
 -- than twice its bytes; one on the heap that grew at least doubled its room.
 pub record TextExtends (slots : ℕ) (old new : Text) : Type 0 where
   pub longer : text_len old ≤ text_len new
   pub place : PlaceRule slots (text_len new) (text_view old) (text_view new)
-  pub capacity : capacity_in slots old.place ≤ capacity_in slots new.place
+  pub capacity : capacity_in old.place ≤ capacity_in new.place
   pub same_room : KeepsRoom slots (text_len new) (text_view old) (text_view new)
   pub grown : GrowsInSteps slots (text_view old) (text_view new)
-  pub doubled : lies_inline old.place ≡ false → capacity_in slots old.place < capacity_in slots new.place
-      → 2 * capacity_in slots old.place ≤ capacity_in slots new.place
-  pub fits : text_len new ≤ capacity_in slots new.place
+  pub doubled : lies_inline old.place ≡ false → capacity_in old.place < capacity_in new.place
+      → 2 * capacity_in old.place ≤ capacity_in new.place
+  pub fits : text_len new ≤ capacity_in new.place
+  pub inline_capacity : IsTrue (lies_inline old.place) → capacity_in old.place ≡ slots
 
 -- a call that made room for n more bytes, and just that if `exact` holds, took `old` to `new`, with this result
 pub record TextReserves {X E : Type 0} (exact : Bool) (slots n : ℕ) (old new : Text) (result : Result X E) : Type 0 where
   pub bytes : new.bytes ≡ old.bytes
   pub room : MakesRoom exact slots (text_len old + n) (text_view old) (text_view new) result
-  pub enough : OnOk result (text_len old + n ≤ capacity_in slots new.place)
-  pub kept : text_len old + n ≤ capacity_in slots old.place → new ≡ old
+  pub enough : OnOk result (text_len old + n ≤ capacity_in new.place)
+  pub kept : text_len old + n ≤ capacity_in old.place → new ≡ old
+  pub inline_capacity : IsTrue (lies_inline old.place) → capacity_in old.place ≡ slots
 
 -- a call that shrinks the allocation took `old` to `new`: the text is inline if it fits the array, and an inline one is unchanged
 pub record TextShrinks (slots : ℕ) (old new : Text) : Type 0 where
   pub bytes : new.bytes ≡ old.bytes
   pub place : IsTrue (lies_inline new.place) ↔ (text_len old ≤ slots)
-  pub capacity : capacity_in slots new.place ≤ max (capacity_in slots old.place) slots
-  pub fits : text_len new ≤ capacity_in slots new.place
+  pub capacity : capacity_in new.place ≤ max (capacity_in old.place) slots
+  pub inline_capacity : IsTrue (lies_inline new.place) → capacity_in new.place ≡ slots
+  pub fits : text_len new ≤ capacity_in new.place
   pub kept : IsTrue (lies_inline old.place) → new ≡ old
 
 -- a call that allocates nothing took `old` to `new`: place and room are unchanged
 pub record TextStaysInPlace (slots : ℕ) (old new : Text) : Type 0 where
   pub place : lies_inline new.place ≡ lies_inline old.place
-  pub capacity : capacity_in slots new.place ≡ capacity_in slots old.place
-  pub fits : text_len new ≤ capacity_in slots new.place
+  pub capacity : capacity_in new.place ≡ capacity_in old.place
+  pub fits : text_len new ≤ capacity_in new.place
 
 -- a call that allocates nothing, and leaves these bytes, which spell these characters
 pub record TextBecomes (slots : ℕ) (old new : Text) (bs cs : List ℕ) : Type 0 where
@@ -113,20 +116,22 @@ pub record TextKeepsFront (slots n : ℕ) (old new : Text) : Type 0 where
 -- a text was made with room for `need` bytes, inline if they fit the array
 pub record TextMadeFor (slots need : ℕ) (t : Text) : Type 0 where
   pub place : IsTrue (lies_inline t.place) ↔ (need ≤ slots)
-  pub exact : capacity_in slots t.place ≡ max need slots
+  pub exact : capacity_in t.place ≡ max need slots
 
 -- a text was collected, inline if its bytes fit the array; on the heap its room is less than twice as many
 pub record TextCollects (slots : ℕ) (t : Text) : Type 0 where
   pub place : IsTrue (lies_inline t.place) ↔ (text_len t ≤ slots)
-  pub grown : slots < capacity_in slots t.place → capacity_in slots t.place < 2 * text_len t
-  pub fits : text_len t ≤ capacity_in slots t.place
+  pub inline_capacity : IsTrue (lies_inline t.place) → capacity_in t.place ≡ slots
+  pub grown : slots < capacity_in t.place → capacity_in t.place < 2 * text_len t
+  pub fits : text_len t ≤ capacity_in t.place
 
 -- the text has the bytes of `old` from i on, in the same kind of place; on the heap its room is its length
 pub record IsTextTail (slots i : ℕ) (old t : Text) : Type 0 where
   pub bytes : t.bytes ≡ drop i old.bytes
   pub place : lies_inline t.place ≡ lies_inline old.place
-  pub capacity : lies_inline t.place ≡ false → capacity_in slots t.place ≡ text_len t
-  pub fits : text_len t ≤ capacity_in slots t.place
+  pub capacity : lies_inline t.place ≡ false → capacity_in t.place ≡ text_len t
+  pub inline_capacity : IsTrue (lies_inline t.place) → capacity_in old.place ≡ slots → capacity_in t.place ≡ slots
+  pub fits : text_len t ≤ capacity_in t.place
 
 -- a clone of the text: all its bytes, in the same kind of place; on the heap its room is its length
 abbrev pub IsTextClone : (slots : ℕ) → Text → Text → Type 0

@@ -1,5 +1,5 @@
 //! `InlineText`.
-ghost use Rattle.std.specs.Prelude.{◌≡◌, ◌<◌, ◌≤◌, ◌==◌, ◌↔◌, [], drop, All, true, false, IsTrue, IsOk, IsSome, IfOk, IfErr, IfSome, MatchResult, encode_utf8_all, IsUtf8};
+ghost use Rattle.std.specs.Prelude.{◌≡◌, ◌<◌, ◌≤◌, ◌==◌, ◌↔◌, [], drop, All, true, false, IsTrue, IsOk, IsSome, IfOk, IfErr, IfSome, MatchResult, encode_utf8_all, IsUtf8, if◌then◌else◌};
 ghost use Rattle.std.specs.Str.{valid_up_to, error_len};
 ghost use Rattle.std.specs.Str.Lossy.{utf8_valid_len, utf8_error_len};
 ghost use Rattle.std.specs.String.{string_bytes, string_capacity};
@@ -46,6 +46,7 @@ impl<const N: usize> InlineText<N> {
         ensures bytes { result.bytes ≡ [] }
         ensures text { text_chars result ≡ [] }
         ensures place { IsTrue (lies_inline result.place) }
+        ensures capacity { capacity_in result.place ≡ N }
     {
         InlineText {
             list: TinyVec::new(alloc),
@@ -96,7 +97,8 @@ impl<const N: usize> InlineText<N> {
     /// The length in bytes.
     pub fn len(&self) -> usize
         ensures value { result ≡ text_len self.now }
-        ensures fits { result ≤ capacity_in N self.now.place }
+        ensures fits { result ≤ capacity_in self.now.place }
+        ensures inline_capacity { IsTrue (lies_inline self.now.place) → capacity_in self.now.place ≡ N }
     {
         self.list.len()
     }
@@ -117,16 +119,18 @@ impl<const N: usize> InlineText<N> {
 
     /// How many bytes fit in the text's place.
     pub fn capacity(&self) -> usize
-        ensures value { result ≡ capacity_in N self.now.place }
+        ensures value { result ≡ capacity_in self.now.place }
         ensures fits { text_len self.now ≤ result }
+        ensures inline_capacity { IsTrue (lies_inline self.now.place) → result ≡ N }
     {
         self.list.capacity()
     }
 
-    // Tells a proof that the text fits.
+    // Tells a proof that the text fits, and that an inline one has the room of the array.
     #[inline(always)]
     fn knows_room(&self)
-        ensures { text_len self.now ≤ capacity_in N self.now.place }
+        ensures fits { text_len self.now ≤ capacity_in self.now.place }
+        ensures inline_capacity { IsTrue (lies_inline self.now.place) → capacity_in self.now.place ≡ N }
     {
         let _room = self.capacity();
     }
@@ -166,7 +170,8 @@ impl<const N: usize> InlineText<N> {
     /// allocator refuses, the text is returned.
     pub fn into_string(self) -> Result<String, NoMemory<Self>>
         ensures bytes { IfOk result (λ s. string_bytes s ≡ self.entry.bytes) }
-        ensures capacity { IfOk result (λ s. string_capacity s ≡ capacity_in (text_len self.entry) self.entry.place) }
+        ensures capacity { IfOk result (λ s. string_capacity s ≡ (if lies_inline self.entry.place
+            then text_len self.entry else capacity_in self.entry.place)) }
         ensures succeeds { lies_inline self.entry.place ≡ false → IsOk result }
         ensures succeeds_empty { text_len self.entry ≡ 0 → IsOk result }
         ensures value_returned { IfErr result (λ refused. refused.0 ≡ self.entry) }
@@ -189,7 +194,8 @@ impl<const N: usize> TryFrom<InlineText<N>> for String {
 
     // It fails only for an inline text that has a character.
     ghost try_from_gives = { λ t r. MatchResult r
-        (λ s. (string_bytes s ≡ t.bytes) × (string_capacity s ≡ capacity_in (text_len t) t.place))
+        (λ s. (string_bytes s ≡ t.bytes)
+        × (string_capacity s ≡ (if lies_inline t.place then text_len t else capacity_in t.place)))
         (λ refused. (refused.0 ≡ t) × IsTrue (lies_inline t.place) × (0 < text_len t)) };
 
     fn try_from(text: InlineText<N>) -> Result<String, NoMemory<InlineText<N>>> {

@@ -22,7 +22,7 @@ over xs ys = split_at (length xs) (xs ++ ys)
 
 -- the same in an array of four slots
 abbrev pub inline : List ℕ → List ℕ → TinyView ℕ
-inline xs ys = record { items = xs; spare = ys; place = in_array }
+inline xs ys = record { items = xs; spare = ys; place = in_array 4 }
 
 pub example-ArrayStep : ArrayStep D 4 (over (1 ∷ []) (0 ∷ 0 ∷ 0 ∷ [])) (Push 2) answers.Done (over (1 ∷ 2 ∷ []) (0 ∷ 0 ∷ []))
 example-ArrayStep = search rules

@@ -1,10 +1,10 @@
 //! Room on the heap, and moves between the array and the heap.
-ghost use Rattle.std.specs.Prelude.{◌≡◌, ◌+◌, ◌*◌, ◌<◌, ◌≤◌, max, min, true, false, OnOk, OnErr, vec_len, vec_capacity, ◌-◌, ◌↔◌, IsOk, IfOk, IfErr};
-ghost use Rattle.tinyvec.specs.TinyVec.{tiny_items_of, tiny_len_of, is_inline, tiny_capacity, tiny_spare_of, IsInline, tiny_view_of};
+ghost use Rattle.std.specs.Prelude.{◌≡◌, ◌+◌, ◌*◌, ◌<◌, ◌≤◌, length, max, min, true, false, OnOk, OnErr, vec_len, vec_capacity, ◌-◌, ◌↔◌, IsOk, IfOk, IfErr};
+ghost use Rattle.tinyvec.specs.TinyVec.{tiny_items_of, tiny_len_of, is_inline, tiny_capacity_of, tiny_spare_of, IsInline, tiny_view_of};
 ghost use Rattle.tinyvec.specs.Room.{MakesRoom, MovesToHeap};
 ghost use Rattle.std.specs.Box.{boxed_slice_items};
 ghost use Rattle.tinyvec_slots.specs.Slots.{AreDefaults};
-ghost use Rattle.tinyvec_array.specs.ArrayVec.{items_of, spare_of};
+ghost use Rattle.tinyvec_array.specs.ArrayVec.{items_of, spare_of, slots_of};
 
 use crate::TinyVec;
 use std::alloc::AllocError;
@@ -16,11 +16,12 @@ impl<A: Array> TinyVec<A> {
     // Doubles the capacity of a full list. Inlined, since `grow` is a call of its own.
     #[inline(always)]
     pub(crate) fn grow_one(&mut self) -> Result<(), AllocError>
-        requires { tiny_capacity A.CAPACITY self.old ≤ tiny_len_of A.Slots self.old }
+        requires { tiny_capacity_of A.Slots self.old ≤ tiny_len_of A.Slots self.old }
         ensures items { tiny_items_of A.Slots self.new ≡ tiny_items_of A.Slots self.old }
         ensures place { OnOk result (is_inline self.new ≡ false) }
         ensures room { MakesRoom false A.CAPACITY (tiny_len_of A.Slots self.old + 1)
             (tiny_view_of A.Slots self.old) (tiny_view_of A.Slots self.new) result }
+        ensures inline_capacity { IsInline self.old → tiny_capacity_of A.Slots self.old ≡ A.CAPACITY }
     {
         let len = self.len();
         self.grow(len.max(1))
@@ -33,12 +34,13 @@ impl<A: Array> TinyVec<A> {
         ensures items { tiny_items_of A.Slots self.new ≡ tiny_items_of A.Slots self.old }
         ensures room { MakesRoom (is_inline self.old) A.CAPACITY (tiny_len_of A.Slots self.old + additional)
             (tiny_view_of A.Slots self.old) (tiny_view_of A.Slots self.new) result }
-        ensures enough { OnOk result (tiny_len_of A.Slots self.old + additional ≤ tiny_capacity A.CAPACITY self.new) }
+        ensures enough { OnOk result (tiny_len_of A.Slots self.old + additional ≤ tiny_capacity_of A.Slots self.new) }
 
         // A list that has room, or is inline after the call, is unchanged.
-        ensures kept { tiny_len_of A.Slots self.old + additional ≤ tiny_capacity A.CAPACITY self.old → self.new
+        ensures kept { tiny_len_of A.Slots self.old + additional ≤ tiny_capacity_of A.Slots self.old → self.new
             ≡ self.old }
         ensures stays { IsInline self.new → self.new ≡ self.old }
+        ensures inline_capacity { IsInline self.old → tiny_capacity_of A.Slots self.old ≡ A.CAPACITY }
     {
         if additional <= self.capacity() - self.len() {
             return Ok(());
@@ -50,17 +52,16 @@ impl<A: Array> TinyVec<A> {
     #[cold]
     #[inline(never)]
     pub(crate) fn grow(&mut self, n: usize) -> Result<(), AllocError>
-        requires { tiny_capacity A.CAPACITY self.old < tiny_len_of A.Slots self.old + n }
+        requires { tiny_capacity_of A.Slots self.old < tiny_len_of A.Slots self.old + n }
         ensures items { tiny_items_of A.Slots self.new ≡ tiny_items_of A.Slots self.old }
         ensures room { MakesRoom (is_inline self.old) A.CAPACITY (tiny_len_of A.Slots self.old + n)
             (tiny_view_of A.Slots self.old) (tiny_view_of A.Slots self.new) result }
-        ensures enough { OnOk result (tiny_len_of A.Slots self.old + n ≤ tiny_capacity A.CAPACITY self.new) }
+        ensures enough { OnOk result (tiny_len_of A.Slots self.old + n ≤ tiny_capacity_of A.Slots self.new) }
 
         // A list that has room, or is inline after the call, is unchanged.
-        ensures kept { tiny_len_of A.Slots self.old + n ≤ tiny_capacity A.CAPACITY self.old → self.new ≡ self.old }
+        ensures kept { tiny_len_of A.Slots self.old + n ≤ tiny_capacity_of A.Slots self.old → self.new ≡ self.old }
         ensures stays { IsInline self.new → self.new ≡ self.old }
     {
-        self.knows_room();
         match self {
             TinyVec::Inline(_, _) => self.leave_array(n),
             TinyVec::Heap(v) => grow_heap(v, n),
@@ -74,7 +75,6 @@ impl<A: Array> TinyVec<A> {
             (tiny_view_of A.Slots self.new) result }
         ensures kept { IsInline self.new → self.new ≡ self.old }
     {
-        self.knows_room();
         if let TinyVec::Inline(v, alloc) = self {
             let heap = v.drain_to_vec_and_reserve(*alloc, n)?;
             *self = TinyVec::Heap(heap);
@@ -87,12 +87,13 @@ impl<A: Array> TinyVec<A> {
         ensures items { tiny_items_of A.Slots self.new ≡ tiny_items_of A.Slots self.old }
         ensures room { MakesRoom (is_inline self.old) A.CAPACITY (tiny_len_of A.Slots self.old + additional)
             (tiny_view_of A.Slots self.old) (tiny_view_of A.Slots self.new) result }
-        ensures enough { OnOk result (tiny_len_of A.Slots self.old + additional ≤ tiny_capacity A.CAPACITY self.new) }
+        ensures enough { OnOk result (tiny_len_of A.Slots self.old + additional ≤ tiny_capacity_of A.Slots self.new) }
 
         // A list that has room, or is inline after the call, is unchanged.
-        ensures kept { tiny_len_of A.Slots self.old + additional ≤ tiny_capacity A.CAPACITY self.old → self.new
+        ensures kept { tiny_len_of A.Slots self.old + additional ≤ tiny_capacity_of A.Slots self.old → self.new
             ≡ self.old }
         ensures stays { IsInline self.new → self.new ≡ self.old }
+        ensures inline_capacity { IsInline self.old → tiny_capacity_of A.Slots self.old ≡ A.CAPACITY }
     {
         self.reserve(additional)
     }
@@ -102,14 +103,15 @@ impl<A: Array> TinyVec<A> {
         ensures items { tiny_items_of A.Slots self.new ≡ tiny_items_of A.Slots self.old }
         ensures room { MakesRoom true A.CAPACITY (tiny_len_of A.Slots self.old + additional)
             (tiny_view_of A.Slots self.old) (tiny_view_of A.Slots self.new) result }
-        ensures enough { OnOk result (tiny_len_of A.Slots self.old + additional ≤ tiny_capacity A.CAPACITY self.new) }
+        ensures enough { OnOk result (tiny_len_of A.Slots self.old + additional ≤ tiny_capacity_of A.Slots self.new) }
 
         // A list that has room, or is inline after the call, is unchanged.
-        ensures kept { tiny_len_of A.Slots self.old + additional ≤ tiny_capacity A.CAPACITY self.old → self.new
+        ensures kept { tiny_len_of A.Slots self.old + additional ≤ tiny_capacity_of A.Slots self.old → self.new
             ≡ self.old }
         ensures stays { IsInline self.new → self.new ≡ self.old }
-        ensures exact { OnOk result (tiny_capacity A.CAPACITY self.new
-            ≡ max (tiny_capacity A.CAPACITY self.old) (tiny_len_of A.Slots self.old + additional)) }
+        ensures exact { OnOk result (tiny_capacity_of A.Slots self.new
+            ≡ max (tiny_capacity_of A.Slots self.old) (tiny_len_of A.Slots self.old + additional)) }
+        ensures inline_capacity { IsInline self.old → tiny_capacity_of A.Slots self.old ≡ A.CAPACITY }
     {
         match self {
             TinyVec::Inline(_, _) => self.reserve(additional),
@@ -127,14 +129,15 @@ impl<A: Array> TinyVec<A> {
         ensures items { tiny_items_of A.Slots self.new ≡ tiny_items_of A.Slots self.old }
         ensures room { MakesRoom true A.CAPACITY (tiny_len_of A.Slots self.old + additional)
             (tiny_view_of A.Slots self.old) (tiny_view_of A.Slots self.new) result }
-        ensures enough { OnOk result (tiny_len_of A.Slots self.old + additional ≤ tiny_capacity A.CAPACITY self.new) }
+        ensures enough { OnOk result (tiny_len_of A.Slots self.old + additional ≤ tiny_capacity_of A.Slots self.new) }
 
         // A list that has room, or is inline after the call, is unchanged.
-        ensures kept { tiny_len_of A.Slots self.old + additional ≤ tiny_capacity A.CAPACITY self.old → self.new
+        ensures kept { tiny_len_of A.Slots self.old + additional ≤ tiny_capacity_of A.Slots self.old → self.new
             ≡ self.old }
         ensures stays { IsInline self.new → self.new ≡ self.old }
-        ensures exact { OnOk result (tiny_capacity A.CAPACITY self.new
-            ≡ max (tiny_capacity A.CAPACITY self.old) (tiny_len_of A.Slots self.old + additional)) }
+        ensures exact { OnOk result (tiny_capacity_of A.Slots self.new
+            ≡ max (tiny_capacity_of A.Slots self.old) (tiny_len_of A.Slots self.old + additional)) }
+        ensures inline_capacity { IsInline self.old → tiny_capacity_of A.Slots self.old ≡ A.CAPACITY }
     {
         self.reserve_exact(additional)
     }
@@ -144,6 +147,7 @@ impl<A: Array> TinyVec<A> {
         requires { vec_len heap.old ≤ A.CAPACITY }
         ensures items { items_of A.Slots result ≡ heap.old.items }
         ensures spare { AreDefaults A.Item.is_default (A.CAPACITY - vec_len heap.old) (spare_of A.Slots result) }
+        ensures slots { length (slots_of A.Slots result) ≡ A.CAPACITY }
     {
         let mut v = ArrayVec::new();
         for x in heap.drain(..) {
@@ -178,7 +182,7 @@ impl<A: Array> TinyVec<A> {
         ensures moves { MovesToHeap A.CAPACITY additional (tiny_view_of A.Slots self.old)
             (tiny_view_of A.Slots self.new) result }
         ensures kept { is_inline self.old ≡ false
-            → tiny_len_of A.Slots self.old + additional ≤ tiny_capacity A.CAPACITY self.old → self.new ≡ self.old }
+            → tiny_len_of A.Slots self.old + additional ≤ tiny_capacity_of A.Slots self.old → self.new ≡ self.old }
     {
         match self {
             TinyVec::Inline(_, _) => self.leave_array(additional),
@@ -191,7 +195,7 @@ impl<A: Array> TinyVec<A> {
         ensures moves { MovesToHeap A.CAPACITY additional (tiny_view_of A.Slots self.old)
             (tiny_view_of A.Slots self.new) result }
         ensures kept { is_inline self.old ≡ false
-            → tiny_len_of A.Slots self.old + additional ≤ tiny_capacity A.CAPACITY self.old → self.new ≡ self.old }
+            → tiny_len_of A.Slots self.old + additional ≤ tiny_capacity_of A.Slots self.old → self.new ≡ self.old }
     {
         self.move_to_the_heap_and_reserve(additional)
     }
@@ -206,8 +210,9 @@ impl<A: Array> TinyVec<A> {
             (tiny_spare_of A.Slots self.new) }
         ensures kept { IsInline self.old → self.new ≡ self.old }
         ensures capacity { is_inline self.new ≡ false
-            → tiny_capacity A.CAPACITY self.new ≤ tiny_capacity A.CAPACITY self.old }
-        ensures fits { tiny_len_of A.Slots self.new ≤ tiny_capacity A.CAPACITY self.new }
+            → tiny_capacity_of A.Slots self.new ≤ tiny_capacity_of A.Slots self.old }
+        ensures fits { tiny_len_of A.Slots self.new ≤ tiny_capacity_of A.Slots self.new }
+        ensures inline_capacity { IsInline self.new → tiny_capacity_of A.Slots self.new ≡ A.CAPACITY }
     {
         self.shrink_to(0);
     }
@@ -222,9 +227,10 @@ impl<A: Array> TinyVec<A> {
             (tiny_spare_of A.Slots self.new) }
         ensures kept { IsInline self.old → self.new ≡ self.old }
         ensures capacity { is_inline self.new ≡ false
-            → tiny_capacity A.CAPACITY self.new ≤ tiny_capacity A.CAPACITY self.old }
-        ensures lower_bound { min min_capacity (tiny_capacity A.CAPACITY self.old) ≤ tiny_capacity A.CAPACITY self.new }
-        ensures fits { tiny_len_of A.Slots self.new ≤ tiny_capacity A.CAPACITY self.new }
+            → tiny_capacity_of A.Slots self.new ≤ tiny_capacity_of A.Slots self.old }
+        ensures lower_bound { min min_capacity (tiny_capacity_of A.Slots self.old) ≤ tiny_capacity_of A.Slots self.new }
+        ensures fits { tiny_len_of A.Slots self.new ≤ tiny_capacity_of A.Slots self.new }
+        ensures inline_capacity { IsInline self.new → tiny_capacity_of A.Slots self.new ≡ A.CAPACITY }
     {
         let wanted = self.len().max(min_capacity);
         if let TinyVec::Heap(v) = self {
@@ -243,7 +249,7 @@ impl<A: Array> TinyVec<A> {
     pub fn into_vec(self) -> Result<Vec<A::Item>, NoMemory<Self>>
         ensures items { IfOk result (λ v. v.items ≡ tiny_items_of A.Slots self) }
         ensures capacity { IfOk result (λ v. IsInline self → vec_capacity v ≡ tiny_len_of A.Slots self) }
-        ensures same_room { IfOk result (λ v. is_inline self ≡ false → vec_capacity v ≡ tiny_capacity A.CAPACITY self) }
+        ensures same_room { IfOk result (λ v. is_inline self ≡ false → vec_capacity v ≡ tiny_capacity_of A.Slots self) }
         ensures succeeds { is_inline self ≡ false → IsOk result }
         ensures succeeds_empty { tiny_len_of A.Slots self ≡ 0 → IsOk result }
         ensures value_returned { IfErr result (λ refused. refused.0 ≡ self) }

@@ -2,7 +2,7 @@
 ghost use Rattle.std.specs.Prelude.{◌≡◌, ◌≤◌, ◌++◌, ℕ, All, min, false, length, take, IfOk, OnOk, OnErr, IsOk};
 ghost use Rattle.std.specs.List.{AllZip};
 ghost use Rattle.tinyvec_slots.specs.Clones.{RefusedAt, AreClones, ClonesOver, ClonesInPart};
-ghost use Rattle.tinyvec.specs.TinyVec.{tiny_items_of, tiny_len_of, tiny_spare_of, is_inline, tiny_capacity, IsInline, tiny_view_of};
+ghost use Rattle.tinyvec.specs.TinyVec.{tiny_items_of, tiny_len_of, tiny_spare_of, is_inline, tiny_capacity_of, IsInline, tiny_view_of};
 ghost use Rattle.tinyvec.specs.View.{TinySlotRule, SameFrame, IsTinyClone, IsTinyInfallible};
 ghost use Rattle.tinyvec.specs.Refused.{RefusedFor};
 ghost use Rattle.tinyvec.specs.Room.{KeepsRoom, MakesRoom};
@@ -67,13 +67,13 @@ impl<A: Array> TinyVec<A> {
             (tiny_view_of A.Slots self.old) (tiny_view_of A.Slots self.new) result) }
         ensures slot_rule { OnOk result (TinySlotRule A.Item.is_default (tiny_view_of A.Slots self.old)
             (tiny_view_of A.Slots self.new)) }
-        ensures capacity { tiny_capacity A.CAPACITY self.old ≤ tiny_capacity A.CAPACITY self.new }
+        ensures capacity { tiny_capacity_of A.Slots self.old ≤ tiny_capacity_of A.Slots self.new }
         ensures same_room { KeepsRoom A.CAPACITY (tiny_len_of A.Slots source.now)
             (tiny_view_of A.Slots self.old) (tiny_view_of A.Slots self.new) }
-        ensures fits { tiny_len_of A.Slots self.new ≤ tiny_capacity A.CAPACITY self.new }
+        ensures fits { tiny_len_of A.Slots self.new ≤ tiny_capacity_of A.Slots self.new }
 
         // If there is room only clones allocate.
-        ensures succeeds { tiny_len_of A.Slots source.now ≤ tiny_capacity A.CAPACITY self.old
+        ensures succeeds { tiny_len_of A.Slots source.now ≤ tiny_capacity_of A.Slots self.old
             → All A.Item.is_infallible (tiny_items_of A.Slots source.now) → IsOk result }
         ensures refused { OnErr result (RefusedFor A.CAPACITY (tiny_len_of A.Slots source.now)
             (ClonesInPart A.Item.is_default A.Item.is_infallible A.Item.is_clone
@@ -81,6 +81,7 @@ impl<A: Array> TinyVec<A> {
             (min (tiny_len_of A.Slots self.old) (tiny_len_of A.Slots source.now))
             (IsInline self.new) (tiny_spare_of A.Slots self.old) (tiny_spare_of A.Slots self.new))
             (tiny_view_of A.Slots self.old) (tiny_view_of A.Slots self.new)) }
+        ensures inline_capacity { IsInline self.old → tiny_capacity_of A.Slots self.old ≡ A.CAPACITY }
     {
         let len = self.len();
         let count = source.len();

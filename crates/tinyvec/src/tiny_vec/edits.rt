@@ -1,6 +1,6 @@
 //! Items that are pushed, popped, inserted, removed and cut off.
 ghost use Rattle.std.specs.Prelude.{◌≡◌, ◌+◌, ◌-◌, ◌<◌, ◌↔◌, [], ◌∷◌, ◌++◌, take, slice_get, IsSome, IfSome, IsOk, OnErr, IfErr, ◌≤◌, if◌then◌else◌, is_ok, insert, remove, slice_index_or, vec_len, IfOk, IfNone, false};
-ghost use Rattle.tinyvec.specs.TinyVec.{tiny_items_of, tiny_len_of, tiny_capacity, IsInline, tiny_view_of};
+ghost use Rattle.tinyvec.specs.TinyVec.{tiny_items_of, tiny_len_of, tiny_capacity_of, IsInline, tiny_view_of};
 ghost use Rattle.tinyvec.specs.View.{IsTail, Becomes, Unchanged};
 ghost use Rattle.tinyvec.specs.Room.{MakesRoom};
 ghost use Rattle.tinyvec.specs.OnHeap.{HeapBecomes};
@@ -8,7 +8,6 @@ ghost use Rattle.std.specs.List.{swap_remove};
 ghost use Rattle.std.specs.Borrow.{sem};
 
 use crate::TinyVec;
-use crate::tiny_vec::knows_slots;
 use std::alloc::AllocError;
 use tinyvec_array::Array;
 use tinyvec_slots::NoMemory;
@@ -17,15 +16,12 @@ use tinyvec_slots::authors::{move_to_end, remove_shifting};
 impl<A: Array> TinyVec<A> {
     /// Appends `value` to a list that has room. It allocates nothing, so it cannot fail.
     pub fn push_reserved(&mut self, value: A::Item)
-        requires { tiny_len_of A.Slots self.old < tiny_capacity A.CAPACITY self.old }
+        requires { tiny_len_of A.Slots self.old < tiny_capacity_of A.Slots self.old }
         ensures { Becomes A.Item.is_default A.CAPACITY (tiny_view_of A.Slots self.old)
             (tiny_view_of A.Slots self.new) (tiny_items_of A.Slots self.old ++ value ∷ []) }
     {
         match self {
-            TinyVec::Inline(v, _) => {
-                knows_slots(v);
-                v.push(value)
-            }
+            TinyVec::Inline(v, _) => v.push(value),
             TinyVec::Heap(v) => v.push_reserved(value),
         }
     }
@@ -41,11 +37,11 @@ impl<A: Array> TinyVec<A> {
             (if is_ok result then tiny_len_of A.Slots self.old + 1 else tiny_len_of A.Slots self.old) }
         ensures room { MakesRoom false A.CAPACITY (tiny_len_of A.Slots self.old + 1)
             (tiny_view_of A.Slots self.old) (tiny_view_of A.Slots self.new) result }
+        ensures inline_capacity { IsInline self.old → tiny_capacity_of A.Slots self.old ≡ A.CAPACITY }
         ensures succeeds_inline { IsInline self.old → tiny_len_of A.Slots self.old < A.CAPACITY → IsOk result }
-        ensures full { OnErr result (tiny_len_of A.Slots self.old ≡ tiny_capacity A.CAPACITY self.old) }
+        ensures full { OnErr result (tiny_len_of A.Slots self.old ≡ tiny_capacity_of A.Slots self.old) }
         ensures value_returned { IfErr result (λ refused. refused.0 ≡ value) }
     {
-        self.knows_room();
         // One test of the variant; growing is kept out of the usual path.
         match self {
             TinyVec::Inline(v, _) if !v.is_full() => v.push(value),
@@ -68,9 +64,10 @@ impl<A: Array> TinyVec<A> {
         ensures* writes_back { sem 𝓛 (lends_added A.row A.Len.row A.Item.row A.Slots self.entry A.CAPACITY
             (λ x. tiny_items_of A.Slots self.old ++ x ∷ []) result) }
         ensures value { IfOk result (λ x. x.now ≡ value) }
-        ensures succeeds { tiny_len_of A.Slots self.old < tiny_capacity A.CAPACITY self.old → IsOk result }
+        ensures succeeds { tiny_len_of A.Slots self.old < tiny_capacity_of A.Slots self.old → IsOk result }
+        ensures inline_capacity { IsInline self.old → tiny_capacity_of A.Slots self.old ≡ A.CAPACITY }
         ensures succeeds_inline { IsInline self.old → tiny_len_of A.Slots self.old < A.CAPACITY → IsOk result }
-        ensures full { OnErr result (tiny_len_of A.Slots self.old ≡ tiny_capacity A.CAPACITY self.old) }
+        ensures full { OnErr result (tiny_len_of A.Slots self.old ≡ tiny_capacity_of A.Slots self.old) }
         ensures value_returned { IfErr result (λ refused. refused.0 ≡ value) }
     {
         let at = self.len();
@@ -90,10 +87,7 @@ impl<A: Array> TinyVec<A> {
             (tiny_items_of A.Slots self.old)) }
     {
         match self {
-            TinyVec::Inline(v, _) => {
-                knows_slots(v);
-                v.pop()
-            }
+            TinyVec::Inline(v, _) => v.pop(),
             TinyVec::Heap(v) => v.pop(),
         }
     }
@@ -101,15 +95,12 @@ impl<A: Array> TinyVec<A> {
     // `insert` into a list that has room.
     fn insert_reserved(&mut self, index: usize, element: A::Item)
         requires in_list { index ≤ tiny_len_of A.Slots self.old }
-        requires room { tiny_len_of A.Slots self.old < tiny_capacity A.CAPACITY self.old }
+        requires room { tiny_len_of A.Slots self.old < tiny_capacity_of A.Slots self.old }
         ensures { Becomes A.Item.is_default A.CAPACITY (tiny_view_of A.Slots self.old)
             (tiny_view_of A.Slots self.new) (insert (tiny_items_of A.Slots self.old) index element) }
     {
         match self {
-            TinyVec::Inline(v, _) => {
-                knows_slots(v);
-                v.insert(index, element)
-            }
+            TinyVec::Inline(v, _) => v.insert(index, element),
             TinyVec::Heap(v) => {
                 let _room_was_there = v.insert(index, element);
             }
@@ -129,11 +120,11 @@ impl<A: Array> TinyVec<A> {
             (if is_ok result then tiny_len_of A.Slots self.old + 1 else tiny_len_of A.Slots self.old) }
         ensures room { MakesRoom false A.CAPACITY (tiny_len_of A.Slots self.old + 1)
             (tiny_view_of A.Slots self.old) (tiny_view_of A.Slots self.new) result }
+        ensures inline_capacity { IsInline self.old → tiny_capacity_of A.Slots self.old ≡ A.CAPACITY }
         ensures succeeds_inline { IsInline self.old → tiny_len_of A.Slots self.old < A.CAPACITY → IsOk result }
-        ensures full { OnErr result (tiny_len_of A.Slots self.old ≡ tiny_capacity A.CAPACITY self.old) }
+        ensures full { OnErr result (tiny_len_of A.Slots self.old ≡ tiny_capacity_of A.Slots self.old) }
         ensures value_returned { IfErr result (λ refused. refused.0 ≡ element) }
     {
-        self.knows_room();
         match self {
             TinyVec::Inline(v, _) if !v.is_full() => v.insert(index, element),
             TinyVec::Heap(v) if v.len() < v.capacity() => {
@@ -160,9 +151,10 @@ impl<A: Array> TinyVec<A> {
         ensures* writes_back { sem 𝓛 (lends_added A.row A.Len.row A.Item.row A.Slots self.entry A.CAPACITY
             (insert (tiny_items_of A.Slots self.old) index) result) }
         ensures value { IfOk result (λ x. x.now ≡ element) }
-        ensures succeeds { tiny_len_of A.Slots self.old < tiny_capacity A.CAPACITY self.old → IsOk result }
+        ensures succeeds { tiny_len_of A.Slots self.old < tiny_capacity_of A.Slots self.old → IsOk result }
+        ensures inline_capacity { IsInline self.old → tiny_capacity_of A.Slots self.old ≡ A.CAPACITY }
         ensures succeeds_inline { IsInline self.old → tiny_len_of A.Slots self.old < A.CAPACITY → IsOk result }
-        ensures full { OnErr result (tiny_len_of A.Slots self.old ≡ tiny_capacity A.CAPACITY self.old) }
+        ensures full { OnErr result (tiny_len_of A.Slots self.old ≡ tiny_capacity_of A.Slots self.old) }
         ensures value_returned { IfErr result (λ refused. refused.0 ≡ element) }
     {
         if let Err(refused) = self.insert(index, element) {
@@ -181,10 +173,7 @@ impl<A: Array> TinyVec<A> {
             (tiny_view_of A.Slots self.new) (remove (tiny_items_of A.Slots self.old) index) }
     {
         match self {
-            TinyVec::Inline(v, _) => {
-                knows_slots(v);
-                v.remove(index)
-            }
+            TinyVec::Inline(v, _) => v.remove(index),
             TinyVec::Heap(v) => remove_on_heap(v, index),
         }
     }
@@ -197,10 +186,7 @@ impl<A: Array> TinyVec<A> {
             (tiny_view_of A.Slots self.new) (swap_remove (tiny_items_of A.Slots self.old) index result) }
     {
         match self {
-            TinyVec::Inline(v, _) => {
-                knows_slots(v);
-                v.swap_remove(index)
-            }
+            TinyVec::Inline(v, _) => v.swap_remove(index),
             TinyVec::Heap(v) => v.swap_remove(index),
         }
     }
@@ -213,10 +199,7 @@ impl<A: Array> TinyVec<A> {
             (tiny_view_of A.Slots self.new) (take new_len (tiny_items_of A.Slots self.old)) }
     {
         match self {
-            TinyVec::Inline(v, _) => {
-                knows_slots(v);
-                v.truncate(new_len)
-            }
+            TinyVec::Inline(v, _) => v.truncate(new_len),
             TinyVec::Heap(v) => v.truncate(new_len),
         }
     }
@@ -254,7 +237,6 @@ impl<A: Array> TinyVec<A> {
     {
         match self {
             TinyVec::Inline(v, alloc) => {
-                knows_slots(v);
                 Ok(TinyVec::Inline(v.split_off(at), *alloc))
             }
             TinyVec::Heap(v) => {

@@ -2,12 +2,12 @@
 ghost use Rattle.std.specs.Prelude.{◌≡◌, ◌+◌, ◌≤◌, ◌++◌, ℕ, All, length, take, drop, slice_range, IsOk, OnOk, OnErr, if◌then◌else◌, is_ok, ◌<◌, [], ◌-◌, ◌*◌, ◌↔◌, ◌∷◌, List, Some, MatchResult, IfOk, IfErr, vec_len, vec_capacity, max, replicate};
 ghost use Rattle.std.specs.List.{AppendsClones, AppendsResults};
 ghost use Rattle.tinyvec_slots.specs.Clones.{ClonesAreEqual, AppendsAllOrNone};
-ghost use Rattle.tinyvec.specs.TinyVec.{tiny_items_of, tiny_len_of, tiny_capacity, is_inline, IsInline, tiny_view_of};
+ghost use Rattle.tinyvec.specs.TinyVec.{tiny_items_of, tiny_len_of, tiny_capacity_of, is_inline, IsInline, tiny_view_of};
 ghost use Rattle.tinyvec.specs.View.{PlaceRule, TinySlotRule, StaysInPlace, Becomes};
 ghost use Rattle.tinyvec.specs.Refused.{RefusedFor, ClonesBehind, ClonesInRoom, ClonesRefused};
 ghost use Rattle.tinyvec.specs.Room.{KeepsRoom, MakesRoom, Grows, Collects};
 ghost use Rattle.tinyvec_slots.specs.Slots.{AreDefaults};
-ghost use Rattle.tinyvec_array.specs.ArrayVec.{items_of, len_of, Grows as GrowsInSlots};
+ghost use Rattle.tinyvec_array.specs.ArrayVec.{items_of, slots_of, Grows as GrowsInSlots};
 ghost use Rattle.std.specs.Iterator.{IsFinite, Drains, YieldsThen, size};
 ghost use Rattle.tinyvec_slots.specs.Ranges.{IsRangeOf, removed};
 ghost use Rattle.tinyvec_slots.specs.Filling.{ShowsItems, IntoIterYields, AppendsResultsTo};
@@ -15,7 +15,6 @@ ghost use Rattle.tinyvec.specs.OnHeap.{HeapBecomes};
 ghost use Rattle.tinyvec.specs.Following.{Follows, FillsRoom, PushesItems};
 
 use crate::TinyVec;
-use crate::tiny_vec::knows_slots;
 use crate::tuned::{push_clones_of, push_clones_within, push_copies, push_many_clones};
 use std::alloc::{AllocError, Global};
 use std::iter::ExactSizeIterator;
@@ -30,15 +29,12 @@ impl<A: Array> TinyVec<A> {
     pub(crate) fn extend_reserved(&mut self, other: &[A::Item]) -> Result<(), AllocError>
     where
         A::Item: Clone,
-        requires room { tiny_len_of A.Slots self.old + length other.now ≤ tiny_capacity A.CAPACITY self.old }
+        requires room { tiny_len_of A.Slots self.old + length other.now ≤ tiny_capacity_of A.Slots self.old }
         ensures { ClonesInRoom A.Item.Clone A.CAPACITY other.now (tiny_view_of A.Slots self.old)
             (tiny_view_of A.Slots self.new) result }
     {
         match self {
-            TinyVec::Inline(v, _) => {
-                knows_slots(v);
-                v.extend_from_slice(other)
-            }
+            TinyVec::Inline(v, _) => v.extend_from_slice(other),
             TinyVec::Heap(v) => push_many_clones(v, other),
         }
     }
@@ -53,18 +49,18 @@ impl<A: Array> TinyVec<A> {
             result (tiny_items_of A.Slots self.old) (tiny_items_of A.Slots self.new) }
         ensures room { OnOk result (MakesRoom (is_inline self.old) A.CAPACITY (tiny_len_of A.Slots self.old
             + length other.now) (tiny_view_of A.Slots self.old) (tiny_view_of A.Slots self.new) result) }
-        ensures capacity { tiny_capacity A.CAPACITY self.old ≤ tiny_capacity A.CAPACITY self.new }
+        ensures capacity { tiny_capacity_of A.Slots self.old ≤ tiny_capacity_of A.Slots self.new }
         ensures same_room { KeepsRoom A.CAPACITY (tiny_len_of A.Slots self.old + length other.now)
             (tiny_view_of A.Slots self.old) (tiny_view_of A.Slots self.new) }
-        ensures fits { tiny_len_of A.Slots self.new ≤ tiny_capacity A.CAPACITY self.new }
+        ensures fits { tiny_len_of A.Slots self.new ≤ tiny_capacity_of A.Slots self.new }
 
         // If there is room only clones allocate.
-        ensures succeeds { tiny_len_of A.Slots self.old + length other.now ≤ tiny_capacity A.CAPACITY self.old
+        ensures succeeds { tiny_len_of A.Slots self.old + length other.now ≤ tiny_capacity_of A.Slots self.old
             → All A.Item.is_infallible other.now → IsOk result }
         ensures refused { OnErr result (ClonesRefused A.Item.Clone A.CAPACITY other.now
             (tiny_view_of A.Slots self.old) (tiny_view_of A.Slots self.new)) }
+        ensures inline_capacity { IsInline self.old → tiny_capacity_of A.Slots self.old ≡ A.CAPACITY }
     {
-        self.knows_room();
         match self {
             TinyVec::Inline(v, _) if other.len() <= v.capacity() - v.len() => v.extend_from_slice(
                 other,
@@ -92,23 +88,24 @@ impl<A: Array> TinyVec<A> {
             (tiny_len_of A.Slots self.old + length (removed (tiny_items_of A.Slots self.old) (R.start_bound range)
             (R.end_bound range)))
             (tiny_view_of A.Slots self.old) (tiny_view_of A.Slots self.new) result) }
-        ensures capacity { tiny_capacity A.CAPACITY self.old ≤ tiny_capacity A.CAPACITY self.new }
+        ensures capacity { tiny_capacity_of A.Slots self.old ≤ tiny_capacity_of A.Slots self.new }
         ensures same_room { KeepsRoom A.CAPACITY
             (tiny_len_of A.Slots self.old + length (removed (tiny_items_of A.Slots self.old) (R.start_bound range)
             (R.end_bound range)))
             (tiny_view_of A.Slots self.old) (tiny_view_of A.Slots self.new) }
-        ensures fits { tiny_len_of A.Slots self.new ≤ tiny_capacity A.CAPACITY self.new }
+        ensures fits { tiny_len_of A.Slots self.new ≤ tiny_capacity_of A.Slots self.new }
 
         // If there is room only clones allocate.
         ensures succeeds { tiny_len_of A.Slots self.old
             + length (removed (tiny_items_of A.Slots self.old) (R.start_bound range) (R.end_bound range))
-            ≤ tiny_capacity A.CAPACITY self.old
+            ≤ tiny_capacity_of A.Slots self.old
             → All A.Item.is_infallible (removed (tiny_items_of A.Slots self.old) (R.start_bound range)
             (R.end_bound range))
             → IsOk result }
         ensures refused { OnErr result (ClonesRefused A.Item.Clone A.CAPACITY
             (removed (tiny_items_of A.Slots self.old) (R.start_bound range) (R.end_bound range))
             (tiny_view_of A.Slots self.old) (tiny_view_of A.Slots self.new)) }
+        ensures inline_capacity { IsInline self.old → tiny_capacity_of A.Slots self.old ≡ A.CAPACITY }
     {
         let part = resolve_range(range, self.len());
         self.reserve(part.end - part.start)?;
@@ -121,16 +118,13 @@ impl<A: Array> TinyVec<A> {
         A::Item: Clone,
         requires in_list { (start ≤ end) × (end ≤ tiny_len_of A.Slots self.old) }
         requires room { tiny_len_of A.Slots self.old + length (slice_range (tiny_items_of A.Slots self.old) start end)
-            ≤ tiny_capacity A.CAPACITY self.old }
+            ≤ tiny_capacity_of A.Slots self.old }
         ensures { ClonesInRoom A.Item.Clone A.CAPACITY
             (slice_range (tiny_items_of A.Slots self.old) start end) (tiny_view_of A.Slots self.old)
             (tiny_view_of A.Slots self.new) result }
     {
         match self {
-            TinyVec::Inline(v, _) => {
-                knows_slots(v);
-                v.extend_from_within(start..end)
-            }
+            TinyVec::Inline(v, _) => v.extend_from_within(start..end),
             TinyVec::Heap(v) => push_clones_within(v, start, end),
         }
     }
@@ -140,15 +134,12 @@ impl<A: Array> TinyVec<A> {
     fn copy_reserved(&mut self, other: &[A::Item])
     where
         A::Item: Copy,
-        requires room { tiny_len_of A.Slots self.old + length other.now ≤ tiny_capacity A.CAPACITY self.old }
+        requires room { tiny_len_of A.Slots self.old + length other.now ≤ tiny_capacity_of A.Slots self.old }
         ensures { Becomes A.Item.is_default A.CAPACITY (tiny_view_of A.Slots self.old)
             (tiny_view_of A.Slots self.new) (tiny_items_of A.Slots self.old ++ other.now) }
     {
         match self {
-            TinyVec::Inline(v, _) => {
-                knows_slots(v);
-                v.extend_from_slice_copy(other)
-            }
+            TinyVec::Inline(v, _) => v.extend_from_slice_copy(other),
             TinyVec::Heap(v) => push_copies(v, other),
         }
     }
@@ -164,6 +155,7 @@ impl<A: Array> TinyVec<A> {
         ensures room { MakesRoom (is_inline self.old) A.CAPACITY
             (tiny_len_of A.Slots self.old + length other.now) (tiny_view_of A.Slots self.old)
             (tiny_view_of A.Slots self.new) result }
+        ensures inline_capacity { IsInline self.old → tiny_capacity_of A.Slots self.old ≡ A.CAPACITY }
     {
         self.reserve(other.len())?;
         self.copy_reserved(other);
@@ -172,7 +164,7 @@ impl<A: Array> TinyVec<A> {
 
     // Moves the items of `from` to a list that has room, and leaves defaults.
     pub(crate) fn append_slots(&mut self, from: &mut [A::Item])
-        requires { tiny_len_of A.Slots self.old + length from.old ≤ tiny_capacity A.CAPACITY self.old }
+        requires { tiny_len_of A.Slots self.old + length from.old ≤ tiny_capacity_of A.Slots self.old }
         ensures becomes { Becomes A.Item.is_default A.CAPACITY (tiny_view_of A.Slots self.old)
             (tiny_view_of A.Slots self.new) (tiny_items_of A.Slots self.old ++ from.old) }
         ensures left { AreDefaults A.Item.is_default (length from.old) from.new }
@@ -185,7 +177,7 @@ impl<A: Array> TinyVec<A> {
 
     // The same, one by one.
     fn append_each(&mut self, from: &mut [A::Item])
-        requires { tiny_len_of A.Slots self.old + length from.old ≤ tiny_capacity A.CAPACITY self.old }
+        requires { tiny_len_of A.Slots self.old + length from.old ≤ tiny_capacity_of A.Slots self.old }
         ensures becomes { Becomes A.Item.is_default A.CAPACITY (tiny_view_of A.Slots self.old)
             (tiny_view_of A.Slots self.new) (tiny_items_of A.Slots self.old ++ from.old) }
         ensures left { AreDefaults A.Item.is_default (length from.old) from.new }
@@ -197,7 +189,7 @@ impl<A: Array> TinyVec<A> {
 
     // `append` to a list that has room.
     fn append_reserved(&mut self, other: &mut Self)
-        requires { tiny_len_of A.Slots self.old + tiny_len_of A.Slots other.old ≤ tiny_capacity A.CAPACITY self.old }
+        requires { tiny_len_of A.Slots self.old + tiny_len_of A.Slots other.old ≤ tiny_capacity_of A.Slots self.old }
         ensures becomes { Becomes A.Item.is_default A.CAPACITY (tiny_view_of A.Slots self.old)
             (tiny_view_of A.Slots self.new) (tiny_items_of A.Slots self.old ++ tiny_items_of A.Slots other.old) }
         ensures other { Becomes A.Item.is_default A.CAPACITY (tiny_view_of A.Slots other.old)
@@ -219,6 +211,7 @@ impl<A: Array> TinyVec<A> {
             (tiny_view_of A.Slots other.new)
             (if is_ok result then [] else tiny_items_of A.Slots other.old) }
         ensures other_kept { OnErr result (other.new ≡ other.old) }
+        ensures inline_capacity { IsInline self.old → tiny_capacity_of A.Slots self.old ≡ A.CAPACITY }
     {
         self.reserve(other.len())?;
         self.append_reserved(other);
@@ -235,16 +228,17 @@ impl<A: Array> TinyVec<A> {
     ) -> Result<(), NoRoom<A::Item, I::IntoIter>>
         requires { (it : I.IntoIter) → I.into_iter_gives iter it
             → I.IntoIter.can_next it × IsFinite (I.IntoIter.remaining it) }
-        ensures items { PushesItems I.into_iter_gives I.IntoIter.next_gives iter (tiny_capacity A.CAPACITY self.old)
+        ensures items { PushesItems I.into_iter_gives I.IntoIter.next_gives iter (tiny_capacity_of A.Slots self.old)
             result (tiny_items_of A.Slots self.old) (tiny_items_of A.Slots self.new) }
         ensures grows { Grows A.Item.is_default A.CAPACITY (tiny_view_of A.Slots self.old)
             (tiny_view_of A.Slots self.new) }
 
         // It fails only if there is no room.
-        ensures full { OnErr result (tiny_len_of A.Slots self.new ≡ tiny_capacity A.CAPACITY self.new) }
+        ensures full { OnErr result (tiny_len_of A.Slots self.new ≡ tiny_capacity_of A.Slots self.new) }
 
         // The returned iterator can be iterated further.
         ensures goes_on { IfErr result (λ refused. I.IntoIter.can_next refused.rest) }
+        ensures inline_capacity { IsInline self.old → tiny_capacity_of A.Slots self.old ≡ A.CAPACITY }
     {
         self.extend_runs(iter.into_iter())
     }
@@ -277,12 +271,13 @@ impl<A: Array> TinyVec<A> {
 
         // If there is room for as many as it says, it allocates nothing.
         ensures succeeds { ((it : I.IntoIter) → I.into_iter_gives iter it
-            → tiny_len_of A.Slots self.old + size (I.IntoIter.remaining it) ≤ tiny_capacity A.CAPACITY self.old)
+            → tiny_len_of A.Slots self.old + size (I.IntoIter.remaining it) ≤ tiny_capacity_of A.Slots self.old)
             → IsOk result }
 
         // For items that are known, as those of a `Vec`, a range or a slice.
         ensures known { (xs : List A.Item) → IntoIterYields I.into_iter_gives I.IntoIter.next_gives iter xs
             → OnOk result (tiny_items_of A.Slots self.new ≡ tiny_items_of A.Slots self.old ++ xs) }
+        ensures inline_capacity { IsInline self.old → tiny_capacity_of A.Slots self.old ≡ A.CAPACITY }
     {
         let items = iter.into_iter();
         if self.reserve(items.len()).is_err() {
@@ -301,12 +296,12 @@ impl<A: Array> TinyVec<A> {
         iter: I,
     ) -> Result<(), NoRoom<A::Item, I>>
         requires { I.can_next iter × IsFinite (I.remaining iter) }
-        ensures fills { FillsRoom I.Iterator iter (tiny_capacity A.CAPACITY self.new) result
+        ensures fills { FillsRoom I.Iterator iter (tiny_capacity_of A.Slots self.new) result
             (tiny_items_of A.Slots self.old) (tiny_items_of A.Slots self.new) }
         ensures grows { Grows A.Item.is_default A.CAPACITY (tiny_view_of A.Slots self.old)
             (tiny_view_of A.Slots self.new) }
+        ensures inline_capacity { IsInline self.old → tiny_capacity_of A.Slots self.old ≡ A.CAPACITY }
     {
-        self.knows_room();
         let mut items = iter;
         loop {
             match self.fill_room(items) {
@@ -323,10 +318,11 @@ impl<A: Array> TinyVec<A> {
     #[inline(always)]
     fn fill_room<I: Iterator<Item = A::Item>>(&mut self, iter: I) -> Result<(), NoRoom<A::Item, I>>
         requires { I.can_next iter × IsFinite (I.remaining iter) }
-        ensures fills { FillsRoom I.Iterator iter (tiny_capacity A.CAPACITY self.new) result
+        ensures fills { FillsRoom I.Iterator iter (tiny_capacity_of A.Slots self.new) result
             (tiny_items_of A.Slots self.old) (tiny_items_of A.Slots self.new) }
         ensures frame { StaysInPlace A.Item.is_default A.CAPACITY (tiny_view_of A.Slots self.old)
             (tiny_view_of A.Slots self.new) }
+        ensures inline_capacity { IsInline self.old → tiny_capacity_of A.Slots self.old ≡ A.CAPACITY }
     {
         match self {
             TinyVec::Inline(v, _) => fill_array(v, iter),
@@ -355,7 +351,7 @@ impl<A: Array> TinyVec<A> {
             (tiny_view_of A.Slots refused.vec)) }
 
         // It fails only if there is no room.
-        ensures full { IfErr result (λ refused. (tiny_len_of A.Slots refused.vec ≡ tiny_capacity A.CAPACITY refused.vec)
+        ensures full { IfErr result (λ refused. (tiny_len_of A.Slots refused.vec ≡ tiny_capacity_of A.Slots refused.vec)
             × (A.CAPACITY ≤ tiny_len_of A.Slots refused.vec) × (IsInline refused.vec ↔
             (tiny_len_of A.Slots refused.vec ≤ A.CAPACITY))) }
 
@@ -395,16 +391,16 @@ impl<A: Array> TinyVec<A> {
             (tiny_view_of A.Slots self.new) result) }
         ensures slot_rule { OnOk result (TinySlotRule A.Item.is_default (tiny_view_of A.Slots self.old)
             (tiny_view_of A.Slots self.new)) }
-        ensures capacity { tiny_capacity A.CAPACITY self.old ≤ tiny_capacity A.CAPACITY self.new }
+        ensures capacity { tiny_capacity_of A.Slots self.old ≤ tiny_capacity_of A.Slots self.new }
         ensures same_room { KeepsRoom A.CAPACITY new_len
             (tiny_view_of A.Slots self.old) (tiny_view_of A.Slots self.new) }
-        ensures fits { tiny_len_of A.Slots self.new ≤ tiny_capacity A.CAPACITY self.new }
+        ensures fits { tiny_len_of A.Slots self.new ≤ tiny_capacity_of A.Slots self.new }
         ensures place { OnOk result (PlaceRule A.CAPACITY (max new_len (tiny_len_of A.Slots self.old))
             (tiny_view_of A.Slots self.old) (tiny_view_of A.Slots self.new)) }
 
         // If there is room only clones allocate.
         ensures cuts { new_len ≤ tiny_len_of A.Slots self.old → IsOk result }
-        ensures succeeds { new_len ≤ tiny_capacity A.CAPACITY self.old → A.Item.is_infallible value → IsOk result }
+        ensures succeeds { new_len ≤ tiny_capacity_of A.Slots self.old → A.Item.is_infallible value → IsOk result }
 
         // On failure the list is unchanged. If only a clone failed, the reservation stays, and an inline list's first j
         // spare slots hold the clones made.
@@ -415,6 +411,7 @@ impl<A: Array> TinyVec<A> {
             × ClonesBehind A.Item.is_clone (replicate j value) j (tiny_view_of A.Slots self.old)
             (tiny_view_of A.Slots self.new))
             (tiny_view_of A.Slots self.old) (tiny_view_of A.Slots self.new)) }
+        ensures inline_capacity { IsInline self.old → tiny_capacity_of A.Slots self.old ≡ A.CAPACITY }
     {
         let len = self.len();
         if new_len <= len {
@@ -431,14 +428,13 @@ impl<A: Array> TinyVec<A> {
     fn fill_reserved(&mut self, n: usize, x: A::Item) -> Result<(), NoMemory<A::Item>>
     where
         A::Item: Clone,
-        requires room { tiny_len_of A.Slots self.old + n ≤ tiny_capacity A.CAPACITY self.old }
+        requires room { tiny_len_of A.Slots self.old + n ≤ tiny_capacity_of A.Slots self.old }
         ensures clones { ClonesInRoom A.Item.Clone A.CAPACITY (replicate n x) (tiny_view_of A.Slots self.old)
             (tiny_view_of A.Slots self.new) result }
         ensures value_returned { IfErr result (λ refused. refused.0 ≡ x) }
     {
         match self {
             TinyVec::Inline(v, _) => {
-                knows_slots(v);
                 let len = v.len() + n;
                 v.resize(len, x)
             }
@@ -466,6 +462,7 @@ impl<A: Array> TinyVec<A> {
             (tiny_view_of A.Slots self.new) }
         ensures place { OnOk result (PlaceRule A.CAPACITY (max new_len (tiny_len_of A.Slots self.old))
             (tiny_view_of A.Slots self.old) (tiny_view_of A.Slots self.new)) }
+        ensures inline_capacity { IsInline self.old → tiny_capacity_of A.Slots self.old ≡ A.CAPACITY }
     {
         self.resize_by_answers(new_len, &mut f)
     }
@@ -487,6 +484,7 @@ impl<A: Array> TinyVec<A> {
             (tiny_view_of A.Slots self.new) }
         ensures place { OnOk result (PlaceRule A.CAPACITY (max n (tiny_len_of A.Slots self.old))
             (tiny_view_of A.Slots self.old) (tiny_view_of A.Slots self.new)) }
+        ensures inline_capacity { IsInline self.old → tiny_capacity_of A.Slots self.old ≡ A.CAPACITY }
     {
         let len = self.len();
         if n > len {
@@ -501,7 +499,7 @@ impl<A: Array> TinyVec<A> {
     // Extends a list that has room to `n` items by results of `f`.
     fn push_answers<F: FnMut() -> A::Item>(&mut self, n: usize, f: &mut F)
         requires longer { tiny_len_of A.Slots self.old ≤ n }
-        requires room { n ≤ tiny_capacity A.CAPACITY self.old }
+        requires room { n ≤ tiny_capacity_of A.Slots self.old }
         requires callable { F.IsAlwaysCallable f.old }
         ensures items { AppendsResultsTo F.step (tiny_items_of A.Slots self.old)
             (tiny_items_of A.Slots self.new) f.old f.new }
@@ -518,7 +516,7 @@ impl<A: Array> TinyVec<A> {
     // The same, one by one.
     fn push_each_answer<F: FnMut() -> A::Item>(&mut self, n: usize, f: &mut F)
         requires longer { tiny_len_of A.Slots self.old ≤ n }
-        requires room { n ≤ tiny_capacity A.CAPACITY self.old }
+        requires room { n ≤ tiny_capacity_of A.Slots self.old }
         requires callable { F.IsAlwaysCallable f.old }
         ensures items { AppendsResultsTo F.step (tiny_items_of A.Slots self.old)
             (tiny_items_of A.Slots self.new) f.old f.new }
@@ -565,11 +563,11 @@ fn fill_array<A: Array, I: Iterator<Item = A::Item>>(
     mut iter: I,
 ) -> Result<(), NoRoom<A::Item, I>>
     requires { I.can_next iter × IsFinite (I.remaining iter) }
-    ensures fills { FillsRoom I.Iterator iter A.CAPACITY result (items_of A.Slots vec.old) (items_of A.Slots vec.new) }
+    ensures fills { FillsRoom I.Iterator iter (length (slots_of A.Slots vec.new)) result (items_of A.Slots vec.old)
+        (items_of A.Slots vec.new) }
     ensures grows { GrowsInSlots A.Slots vec.old vec.new }
-    ensures fits { len_of A.Slots vec.new ≤ A.CAPACITY }
+    ensures slot_count { length (slots_of A.Slots vec.old) ≡ A.CAPACITY }
 {
-    knows_slots(vec);
     let len = vec.len();
     match fill_slots(vec.grab_spare_slice_mut(), iter) {
         Ok(count) => {
@@ -577,7 +575,7 @@ fn fill_array<A: Array, I: Iterator<Item = A::Item>>(
             Ok(())
         }
         Err(refused) => {
-            vec.set_len(A::CAPACITY);
+            vec.set_len(vec.capacity());
             Err(refused)
         }
     }

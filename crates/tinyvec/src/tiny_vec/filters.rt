@@ -9,7 +9,6 @@ ghost use Rattle.tinyvec.specs.TinyVec.{tiny_items_of, tiny_len_of, tiny_view_of
 ghost use Rattle.tinyvec.specs.View.{StaysInPlace, ShortensInPlace, Becomes};
 
 use crate::TinyVec;
-use crate::tiny_vec::knows_slots;
 use std::ops::RangeBounds;
 use tinyvec_array::Array;
 use tinyvec_slots::ExtractIf;
@@ -25,10 +24,7 @@ impl<A: Array> TinyVec<A> {
             (tiny_view_of A.Slots self.new) }
     {
         match self {
-            TinyVec::Inline(v, _) => {
-                knows_slots(v);
-                tinyvec_slots::authors::retain(v, &mut f)
-            }
+            TinyVec::Inline(v, _) => tinyvec_slots::authors::retain(v, &mut f),
             TinyVec::Heap(v) => v.retain(f),
         }
     }
@@ -43,10 +39,7 @@ impl<A: Array> TinyVec<A> {
             (tiny_view_of A.Slots self.new) }
     {
         match self {
-            TinyVec::Inline(v, _) => {
-                knows_slots(v);
-                tinyvec_slots::authors::retain_mut(v, &mut f)
-            }
+            TinyVec::Inline(v, _) => tinyvec_slots::authors::retain_mut(v, &mut f),
             TinyVec::Heap(v) => v.retain_mut(f),
         }
     }
@@ -72,10 +65,7 @@ impl<A: Array> TinyVec<A> {
             (tiny_view_of A.Slots self.new) }
     {
         match self {
-            TinyVec::Inline(v, _) => {
-                knows_slots(v);
-                tinyvec_slots::authors::dedup_by(v, &mut same)
-            }
+            TinyVec::Inline(v, _) => tinyvec_slots::authors::dedup_by(v, &mut same),
             TinyVec::Heap(v) => v.dedup_by(same),
         }
     }
@@ -90,10 +80,7 @@ impl<A: Array> TinyVec<A> {
             (tiny_view_of A.Slots self.new) }
     {
         match self {
-            TinyVec::Inline(v, _) => {
-                knows_slots(v);
-                tinyvec_slots::authors::dedup_by_key(v, &mut key)
-            }
+            TinyVec::Inline(v, _) => tinyvec_slots::authors::dedup_by_key(v, &mut key),
             TinyVec::Heap(v) => v.dedup_by_key(key),
         }
     }

@@ -1,7 +1,7 @@
 //! Comparisons, hashes, texts, writers, indexing and iteration.
 ghost use Rattle.std.specs.Prelude.{◌≡◌, ◌<◌, ◌≤◌, slice_index_or, List, length, true, false, ◌+◌, ◌++◌, Some, IfOk, IfErr, IsOk, OnErr, ⊤};
 ghost use Rattle.std.specs.Borrow.{sem};
-ghost use Rattle.tinyvec.specs.TinyVec.{tiny_items_of, tiny_len_of, tiny_capacity, is_inline, tiny_view_of};
+ghost use Rattle.tinyvec.specs.TinyVec.{tiny_items_of, tiny_len_of, tiny_capacity_of, is_inline, IsInline, tiny_view_of};
 ghost use Rattle.tinyvec.specs.View.{IsNew, TinyView, view_capacity};
 ghost use Rattle.std.specs.Iterator.{IsFinite, HoldsAlong, DrainsIf, YieldsThen, ExtendsWithItems};
 ghost use Rattle.tinyvec_slots.specs.Filling.{Iterates, IteratesMut, IntoIterYields};
@@ -166,7 +166,7 @@ impl<A: Array> FromIterator<A::Item> for TinyVec<A> {
         ensures full { OnErr result ((it : I.IntoIter) × (xs : List A.Item) × (x : A.Item) × (rest : I.IntoIter)
             × (made : TinyView A.Item) × I.into_iter_gives iter it × YieldsThen I.IntoIter.next_gives it xs (Some x) rest
             × (A.CAPACITY ≤ length xs) × Collects A.Item.is_default A.CAPACITY xs made
-            × (length xs ≡ view_capacity A.CAPACITY made)) }
+            × (length xs ≡ view_capacity made)) }
 
         // If known items fit the array, it allocates nothing.
         ensures known { (xs : List A.Item) → IntoIterYields I.into_iter_gives I.IntoIter.next_gives iter xs
@@ -193,11 +193,12 @@ impl<A: Array> Extend<A::Item> for TinyVec<A> {
             iter self.old self.new result }
 
         // It fails only if there is no room.
-        ensures full { OnErr result (tiny_len_of A.Slots self.new ≡ tiny_capacity A.CAPACITY self.new) }
+        ensures full { OnErr result (tiny_len_of A.Slots self.new ≡ tiny_capacity_of A.Slots self.new) }
 
         // If known items fit, it allocates nothing.
         ensures known { (xs : List A.Item) → IntoIterYields I.into_iter_gives I.IntoIter.next_gives iter xs
-            → tiny_len_of A.Slots self.old + length xs ≤ tiny_capacity A.CAPACITY self.old → IsOk result }
+            → tiny_len_of A.Slots self.old + length xs ≤ tiny_capacity_of A.Slots self.old → IsOk result }
+        ensures inline_capacity { IsInline self.old → tiny_capacity_of A.Slots self.old ≡ A.CAPACITY }
     {
         self.extend(iter)?;
         Ok(())
@@ -353,6 +354,7 @@ impl<A: Array<Item = u8>> io::Write for TinyVec<A> {
             (tiny_len_of A.Slots self.old + length buf.now)
             (tiny_view_of A.Slots self.old) (tiny_view_of A.Slots self.new) result }
         ensures kind { IfErr result (λ e. error_kind e ≡ OutOfMemory) }
+        ensures inline_capacity { IsInline self.old → tiny_capacity_of A.Slots self.old ≡ A.CAPACITY }
     {
         self.extend_from_slice(buf)?;
         Ok(buf.len())

@@ -48,8 +48,9 @@ impl<const N: usize> BorshDeserialize for InlineText<N> {
         ensures valid { IfOk result (λ t. TextFits t.bytes) }
         ensures fails { FailsFor R.remaining (TextReason N) reader.old reader.new result }
         ensures place { IfOk result (λ t. IsTrue (lies_inline t.place) ↔ (text_len t ≤ N)) }
-        ensures capacity { IfOk result (λ t. capacity_in N t.place ≤ max N (2 * text_len t)) }
-        ensures fits { IfOk result (λ t. text_len t ≤ capacity_in N t.place) }
+        ensures capacity { IfOk result (λ t. capacity_in t.place ≤ max N (2 * text_len t)) }
+        ensures fits { IfOk result (λ t. text_len t ≤ capacity_in t.place) }
+        ensures inline_capacity { IfOk result (λ t. IsTrue (lies_inline t.place) → capacity_in t.place ≡ N) }
 
         // Of what is no text just its bytes were taken.
         ensures rest { IfErr result (λ e. e ≡ BorshError.InvalidUtf8 → (bytes : List ℕ) × AreNoText bytes

@@ -2,7 +2,7 @@
 ghost use Rattle.std.specs.Prelude.{◌≡◌, ◌<◌, ◌≤◌, ◌^◌, ◌-◌, ◌*◌, ◌++◌, ◌⊎◌, ◌↔◌, List, length, map, max, IfOk, OnOk};
 ghost use Rattle.std.specs.List.{AllByRecursion};
 ghost use Rattle.tinyvec_slots.specs.Slots.{AreDefaults};
-ghost use Rattle.tinyvec.specs.TinyVec.{IsInline, tiny_capacity, tiny_items_of, tiny_len_of, tiny_spare_of, tiny_view_of};
+ghost use Rattle.tinyvec.specs.TinyVec.{IsInline, tiny_items_of, tiny_len_of, tiny_spare_of, tiny_view_of, tiny_capacity_of};
 ghost use Rattle.tinyvec.specs.View.{PlaceRule, TinySlotRule};
 ghost use Rattle.tinyvec_borsh.specs.Items.{AfterItems, CountsAbove, ListFits, ListReason};
 ghost use Rattle.tinyvec_borsh.specs.Items.{SpellsItems, SpellsList};
@@ -87,8 +87,9 @@ where
         ensures place { IfOk result (λ v. IsInline v ↔ (tiny_len_of A.Slots v ≤ A.CAPACITY)) }
         ensures spare { IfOk result (λ v. IsInline v
             → AreDefaults A.Item.is_default (A.CAPACITY - tiny_len_of A.Slots v) (tiny_spare_of A.Slots v)) }
-        ensures capacity { IfOk result (λ v. tiny_capacity A.CAPACITY v ≤ max A.CAPACITY (2 * tiny_len_of A.Slots v)) }
-        ensures fits { IfOk result (λ v. tiny_len_of A.Slots v ≤ tiny_capacity A.CAPACITY v) }
+        ensures capacity { IfOk result (λ v. tiny_capacity_of A.Slots v ≤ max A.CAPACITY (2 * tiny_len_of A.Slots v)) }
+        ensures fits { IfOk result (λ v. tiny_len_of A.Slots v ≤ tiny_capacity_of A.Slots v) }
+        ensures inline_capacity { IfOk result (λ v. IsInline v → tiny_capacity_of A.Slots v ≡ A.CAPACITY) }
     {
         let count = u64::deserialize_reader(alloc, reader)?;
         let ahead = count.min(items_ahead::<A::Item>() as u64) as usize;
@@ -118,10 +119,10 @@ where
         (R.remaining reader.old.inner) (R.remaining reader.new.inner)) }
     ensures place { OnOk result (PlaceRule A.CAPACITY (tiny_len_of A.Slots v.new) (tiny_view_of A.Slots v.old) (tiny_view_of A.Slots v.new)) }
     ensures slot_rule { OnOk result (TinySlotRule A.Item.is_default (tiny_view_of A.Slots v.old) (tiny_view_of A.Slots v.new)) }
-    ensures capacity { OnOk result (tiny_capacity A.CAPACITY v.new ≤ max (tiny_capacity A.CAPACITY v.old) (2 * count)) }
+    ensures capacity { OnOk result (tiny_capacity_of A.Slots v.new ≤ max (tiny_capacity_of A.Slots v.old) (2 * count)) }
     ensures fails { FailsFor R.remaining
         (λ e input. AfterItems A.Item.Spells A.Item.Fits A.Item.Reason (count - tiny_len_of A.Slots v.old) e input
-        ⊎ ((e ≡ BorshError.Memory) × (tiny_capacity A.CAPACITY v.old < count))) reader.old reader.new result }
+        ⊎ ((e ≡ BorshError.Memory) × (tiny_capacity_of A.Slots v.old < count))) reader.old reader.new result }
 {
     let start = v.len();
     let end = start + (count - start as u64).min(items_ahead::<A::Item>() as u64) as usize;

@@ -8,13 +8,13 @@ use Rattle.tinyvec_text.specs.InlineText.{Text, Bytes, text_of, text_view, text_
 
 -- these bytes, in the value
 abbrev pub inline : List ℕ → Text
-inline bytes = record { bytes = bytes; place = in_array }
+inline bytes = record { bytes = bytes; place = in_array 4 }
 
 abbrev pub done : Result Unit Unit
 done = Ok _
 
 -- a `Text` in its array
-pub example-Text : (inline (97 ∷ 98 ∷ [])).place ≡ in_array
+pub example-Text : (inline (97 ∷ 98 ∷ [])).place ≡ in_array 4
 example-Text = refl
 
 pub example-text_of : (v : Bytes 4) → tiny_items v ≡ 97 ∷ 98 ∷ [] → (text_of v).bytes ≡ 97 ∷ 98 ∷ []
@@ -23,7 +23,7 @@ example-text_of v list = list
 pub example-lies_inline : lies_inline (on_heap 8) ≡ false
 example-lies_inline = refl
 
-pub example-capacity_in : capacity_in 4 in_array ≡ 4
+pub example-capacity_in : capacity_in (in_array 4) ≡ 4
 example-capacity_in = refl
 
 pub example-text_view : (text_view (inline (97 ∷ 98 ∷ []))).items ≡ 97 ∷ 98 ∷ []
@@ -71,14 +71,14 @@ example-IsTextClone = search rules
 pub example-TextExtends : TextExtends 4 (inline (97 ∷ [])) (inline (97 ∷ 98 ∷ []))
 example-TextExtends = search rules
 
-pub example-place_after : place_after {T = ℕ} (λ place c. false) (λ c. c ∷ []) 2 1 in_array (97 ∷ 98 ∷ []) ≡ on_heap 4
+pub example-place_after : place_after {T = ℕ} (λ place c. false) (λ c. c ∷ []) 2 1 (in_array 2) (97 ∷ 98 ∷ []) ≡ on_heap 4
 example-place_after = refl
 
-pub example-place_after_chars : place_after_chars 2 (inline (97 ∷ [])) [] ≡ in_array
+pub example-place_after_chars : place_after_chars 4 (inline (97 ∷ [])) [] ≡ in_array 4
 example-place_after_chars = refl
 
-pub example-place_after_texts : place_after_texts {T = List ℕ} (λ x. x) 2 (inline (97 ∷ [])) ((98 ∷ 99 ∷ []) ∷ []) ≡ on_heap 3
+pub example-place_after_texts : place_after_texts {T = List ℕ} (λ x. x) 4 (inline (97 ∷ [])) ((98 ∷ 99 ∷ 98 ∷ 99 ∷ []) ∷ []) ≡ on_heap 5
 example-place_after_texts = refl
 
-pub example-empty_text : empty_text ≡ inline []
+pub example-empty_text : empty_text 4 ≡ inline []
 example-empty_text = refl

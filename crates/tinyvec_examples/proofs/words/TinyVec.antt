@@ -7,7 +7,7 @@ use Rattle.tinyvec_array.specs.declared.slots.Slots as Storage
 use Rattle.tinyvec_array.proofs.Named.{array_slots}
 use Rattle.tinyvec.specs.declared.tiny_vec.TinyVec.{TinyVec}
 use Rattle.tinyvec.specs.declared.tiny_vec.TinyVec.TheVariants.{Inline}
-use Rattle.tinyvec.specs.TinyVec.{tiny_items, tiny_items_of, tiny_len_of, tiny_spare, tiny_spare_of, is_inline, IsInline, tiny_capacity, tiny_allocator, tiny_view, tiny_view_of}
+use Rattle.tinyvec.specs.TinyVec.{tiny_items, tiny_items_of, tiny_len_of, tiny_spare, tiny_spare_of, is_inline, IsInline, tiny_capacity, tiny_capacity_of, tiny_allocator, tiny_view, tiny_view_of}
 use Rattle.tinyvec.specs.View.{TinyView, view_capacity, HoldsInline, IsNew, SameFrame, Becomes, StaysInPlace, ShortensInPlace, IsTail, Unchanged, IsTinyClone, IsTinyInfallible, PlaceRule, TinySlotRule, in_array}
 use Rattle.tinyvec.specs.Room.{Collects, KeepsRoom, GrowsTo, Grows, MadeFor, MakesRoom, MovesToHeap}
 use Rattle.tinyvec.specs.Refused.{RefusedFor, ClonesBehind, ClonesRefused}
@@ -34,14 +34,14 @@ module _ (alloc : Global) where
   pub example-tiny_items_of : tiny_items_of G (inline (1 ∷ 2 ∷ []) (0 ∷ 0 ∷ [])) ≡ 1 ∷ 2 ∷ []
   example-tiny_items_of = refl
 
-  pub example-tiny_view_of : tiny_view_of G (inline (1 ∷ []) (0 ∷ 0 ∷ 0 ∷ [])) ≡ record { items = 1 ∷ []; spare = 0 ∷ 0 ∷ 0 ∷ []; place = in_array }
+  pub example-tiny_view_of : tiny_view_of G (inline (1 ∷ []) (0 ∷ 0 ∷ 0 ∷ [])) ≡ record { items = 1 ∷ []; spare = 0 ∷ 0 ∷ 0 ∷ []; place = in_array 4 }
   example-tiny_view_of = refl
 
   -- v is a `TinyView ℕ`
   pub example-TinyView : (v : TinyView ℕ) → v.items ++ v.spare ≡ 1 ∷ 0 ∷ [] → length (v.items ++ v.spare) ≡ 2
   example-TinyView v slots = ap length slots
 
-  pub example-view_capacity : view_capacity 4 (tiny_view (inline (1 ∷ []) (0 ∷ 0 ∷ 0 ∷ []))) ≡ 4
+  pub example-view_capacity : view_capacity (tiny_view (inline (1 ∷ []) (0 ∷ 0 ∷ 0 ∷ []))) ≡ 4
   example-view_capacity = refl
 
   pub example-tiny_len_of : tiny_len_of G (inline (1 ∷ 2 ∷ []) (0 ∷ 0 ∷ [])) ≡ 2
@@ -63,10 +63,13 @@ module _ (alloc : Global) where
   example-HoldsInline = search rules
 
   pub example-IsNew : IsNew D 2 (tiny_view (inline [] (0 ∷ 0 ∷ [])))
-  example-IsNew = record { items = refl; spare = search rules; place = search rules }
+  example-IsNew = record { items = refl; spare = search rules; place = search rules; capacity = refl }
 
-  pub example-tiny_capacity : tiny_capacity 4 (inline (1 ∷ 2 ∷ []) (0 ∷ 0 ∷ [])) ≡ 4
+  pub example-tiny_capacity : tiny_capacity (inline (1 ∷ 2 ∷ []) (0 ∷ 0 ∷ [])) ≡ 4
   example-tiny_capacity = refl
+
+  pub example-tiny_capacity_of : tiny_capacity_of G (inline (1 ∷ 2 ∷ []) (0 ∷ 0 ∷ [])) ≡ 4
+  example-tiny_capacity_of = refl
 
   pub example-tiny_allocator : tiny_allocator (inline (1 ∷ 2 ∷ []) (0 ∷ 0 ∷ [])) ≡ alloc
   example-tiny_allocator = refl
@@ -101,6 +104,7 @@ module _ (alloc : Global) where
     place = refl;
     spare = search rules;
     capacity = λ outside. absurd (let no = outside in cc);
+    inline_capacity = λ _ _. refl;
     fits = omega arith;
   }
 
@@ -145,10 +149,10 @@ module _ (alloc : Global) where
   pub example-KeepsRoom : KeepsRoom 4 3 (tiny_view (inline (1 ∷ 2 ∷ []) (0 ∷ 0 ∷ []))) (tiny_view (inline (1 ∷ 2 ∷ 3 ∷ []) (0 ∷ [])))
   example-KeepsRoom = λ _. refl
 
-  pub example-GrowsTo : (v : TinyVec (List ℕ) ℕ (UpTo 4)) → GrowsTo true 4 9 (tiny_view (inline (1 ∷ []) (0 ∷ 0 ∷ 0 ∷ []))) (tiny_view v) → tiny_capacity 4 v ≡ 9
+  pub example-GrowsTo : (v : TinyVec (List ℕ) ℕ (UpTo 4)) → GrowsTo true 4 9 (tiny_view (inline (1 ∷ []) (0 ∷ 0 ∷ 0 ∷ []))) (tiny_view v) → tiny_capacity v ≡ 9
   example-GrowsTo v h = search rules
 
-  pub example-MovesToHeap : (v : TinyVec (List ℕ) ℕ (UpTo 4)) → MovesToHeap 4 2 (tiny_view (inline (1 ∷ []) (0 ∷ 0 ∷ 0 ∷ []))) (tiny_view v) done → tiny_capacity 4 v ≡ 3
+  pub example-MovesToHeap : (v : TinyVec (List ℕ) ℕ (UpTo 4)) → MovesToHeap 4 2 (tiny_view (inline (1 ∷ []) (0 ∷ 0 ∷ 0 ∷ []))) (tiny_view v) done → tiny_capacity v ≡ 3
   example-MovesToHeap v h = search rules
 
   pub example-ClonesBehind : ClonesBehind C (7 ∷ []) 1 (tiny_view (inline (1 ∷ []) (0 ∷ 0 ∷ 0 ∷ []))) (tiny_view (inline (1 ∷ []) (7 ∷ 0 ∷ 0 ∷ [])))
@@ -173,6 +177,7 @@ module _ (alloc : Global) where
     if_clones_equal = λ _. (refl, refl);
     place = refl;
     capacity = search rules;
+    inline_capacity = λ _. refl;
   }
 
   pub example-IsTinyInfallible : IsTinyInfallible I (tiny_view (inline (1 ∷ []) (0 ∷ 0 ∷ 0 ∷ [])))

@@ -77,7 +77,7 @@ pub fn with_room(text: &mut InlineText<8>) -> Result<(), AllocError>
 /// Room for a line of a terminal, and for no more bytes.
 pub fn with_room_for_a_line(text: &mut InlineText<8>) -> Result<(), AllocError>
     requires { text_len text.old ≡ 0 }
-    ensures { OnOk result (80 ≤ capacity_in 8 text.new.place) }
+    ensures { OnOk result (80 ≤ capacity_in text.new.place) }
 {
     text.reserve_exact(80)
 }
@@ -92,7 +92,7 @@ pub fn twice(text: &InlineText<8>) -> Result<InlineText<8>, AllocError>
 
 /// No characters, and room for a line of a terminal, so that as many bytes take no further memory.
 pub fn line(alloc: Global) -> Result<InlineText<8>, AllocError>
-    ensures { IfOk result (λ text. (text.bytes ≡ []) × (capacity_in 8 text.place ≡ 80)) }
+    ensures { IfOk result (λ text. (text.bytes ≡ []) × (capacity_in text.place ≡ 80)) }
 {
     InlineText::with_capacity(alloc, 80)
 }
@@ -141,7 +141,7 @@ pub fn initials(alloc: Global, first: char, last: char) -> InlineText<8>
 
 /// A separator after the text, for which the caller has reserved room.
 pub fn separated(text: &mut InlineText<8>, separator: &str)
-    requires { text_len text.old + length separator.now ≤ capacity_in 8 text.old.place }
+    requires { text_len text.old + length separator.now ≤ capacity_in text.old.place }
     ensures { text.new.bytes ≡ text.old.bytes ++ separator.now }
 {
     text.push_str_reserved(separator);
@@ -222,7 +222,7 @@ pub fn packed(text: &mut InlineText<8>)
 /// Room for `n` bytes, or for the text, is kept, and other room given back.
 pub fn with_less_room(text: &mut InlineText<8>, n: usize)
     ensures text { text_chars text.new ≡ text_chars text.old }
-    ensures capacity { n ≤ capacity_in 8 text.old.place → n ≤ capacity_in 8 text.new.place }
+    ensures capacity { n ≤ capacity_in text.old.place → n ≤ capacity_in text.new.place }
 {
     text.shrink_to(n);
 }

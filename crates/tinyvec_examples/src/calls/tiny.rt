@@ -3,7 +3,7 @@ ghost use Rattle.std.specs.Prelude.{◌≡◌, ◌≢◌, ◌+◌, ◌-◌, ◌<
 ghost use Rattle.std.specs.Box.{boxed_slice_items};
 ghost use Rattle.std.specs.List.{dedup, swap_remove};
 ghost use Rattle.tinyvec_array.specs.ArrayVec.{items, items_of};
-ghost use Rattle.tinyvec.specs.TinyVec.{tiny_items, tiny_items_of, tiny_len, tiny_len_of, tiny_capacity, is_inline, IsInline, tiny_view, tiny_view_of};
+ghost use Rattle.tinyvec.specs.TinyVec.{tiny_items, tiny_items_of, tiny_len, tiny_len_of, tiny_capacity, is_inline, IsInline, tiny_view, tiny_view_of, tiny_capacity_of};
 ghost use Rattle.tinyvec.specs.View.{Unchanged};
 
 use std::alloc::{AllocError, AllocFailed, Global};
@@ -46,7 +46,7 @@ pub fn of_slice(alloc: Global, numbers: &[u32]) -> Result<TinyVec<[u32; 4]>, All
 
 /// Room for `n` items, on the heap if the array has less.
 pub fn with_room(alloc: Global, n: usize) -> Result<TinyVec<[u8; 4]>, AllocError>
-    ensures enough { IfOk result (λ v. n ≤ tiny_capacity 4 v) }
+    ensures enough { IfOk result (λ v. n ≤ tiny_capacity v) }
     ensures place { IfOk result (λ v. IsInline v ↔ (n ≤ 4)) }
 {
     TinyVec::with_capacity(alloc, n)
@@ -68,7 +68,7 @@ pub fn is_somewhere<A: Array>(v: &TinyVec<A>) -> bool
 
 /// Appends an item if there is room, which allocates nothing.
 pub fn push_if_room<A: Array>(v: &mut TinyVec<A>, x: A::Item)
-    ensures room { tiny_len_of A.Slots v.old < tiny_capacity A.CAPACITY v.old → tiny_items_of A.Slots v.new ≡ tiny_items_of A.Slots v.old ++ x ∷ [] }
+    ensures room { tiny_len_of A.Slots v.old < tiny_capacity_of A.Slots v.old → tiny_items_of A.Slots v.new ≡ tiny_items_of A.Slots v.old ++ x ∷ [] }
     ensures place { is_inline v.new ≡ is_inline v.old }
 {
     if v.len() < v.capacity() {
@@ -99,7 +99,7 @@ pub fn first_swapped<A: Array>(v: &mut TinyVec<A>) -> A::Item
 /// Bytes after the list, which allocates nothing if there is room for them.
 pub fn with_bytes(v: &mut TinyVec<[u8; 16]>, bytes: &[u8]) -> Result<(), AllocError>
     ensures items { OnOk result (tiny_items v.new ≡ tiny_items v.old ++ bytes.now) }
-    ensures succeeds { tiny_len v.old + length bytes.now ≤ tiny_capacity 16 v.old → IsOk result }
+    ensures succeeds { tiny_len v.old + length bytes.now ≤ tiny_capacity v.old → IsOk result }
 {
     v.extend_from_slice(bytes)
 }
@@ -116,7 +116,7 @@ pub fn repeat_from(v: &mut TinyVec<[u32; 4]>, n: usize) -> Result<(), AllocError
 pub fn with_copies(v: &mut TinyVec<[u32; 8]>, numbers: &[u32]) -> Result<(), AllocError>
     ensures items { OnOk result (tiny_items v.new ≡ tiny_items v.old ++ numbers.now) }
     ensures place { OnOk result (IsInline v.new → tiny_len v.new ≤ 8) }
-    ensures succeeds { tiny_len v.old + length numbers.now ≤ tiny_capacity 8 v.old → IsOk result }
+    ensures succeeds { tiny_len v.old + length numbers.now ≤ tiny_capacity v.old → IsOk result }
     ensures refused { OnErr result (Unchanged (tiny_view v.old) (tiny_view v.new)) }
 {
     v.extend_from_slice_copy(numbers)
@@ -220,21 +220,21 @@ pub fn moved_into<A: Array>(v: &mut TinyVec<A>, out: &mut Vec<A::Item>)
 
 /// Room for `n` more items, and for no more than that if the list moves.
 pub fn with_exact_room<A: Array>(v: &mut TinyVec<A>, n: usize) -> Result<(), AllocError>
-    ensures { OnOk result (tiny_len_of A.Slots v.old + n ≤ tiny_capacity A.CAPACITY v.new) }
+    ensures { OnOk result (tiny_len_of A.Slots v.old + n ≤ tiny_capacity_of A.Slots v.new) }
 {
     v.reserve_exact(n)
 }
 
 /// The same, by the other name.
 pub fn try_with_exact_room<A: Array>(v: &mut TinyVec<A>, n: usize) -> Result<(), AllocError>
-    ensures { OnOk result (tiny_len_of A.Slots v.old + n ≤ tiny_capacity A.CAPACITY v.new) }
+    ensures { OnOk result (tiny_len_of A.Slots v.old + n ≤ tiny_capacity_of A.Slots v.new) }
 {
     v.try_reserve_exact(n)
 }
 
 /// Room for `n` more items, or perhaps for more than that.
 pub fn with_some_room<A: Array>(v: &mut TinyVec<A>, n: usize) -> Result<(), AllocError>
-    ensures enough { OnOk result (tiny_len_of A.Slots v.old + n ≤ tiny_capacity A.CAPACITY v.new) }
+    ensures enough { OnOk result (tiny_len_of A.Slots v.old + n ≤ tiny_capacity_of A.Slots v.new) }
     ensures refused { OnErr result (Unchanged (tiny_view_of A.Slots v.old) (tiny_view_of A.Slots v.new)) }
 {
     v.try_reserve(n)
@@ -242,7 +242,7 @@ pub fn with_some_room<A: Array>(v: &mut TinyVec<A>, n: usize) -> Result<(), Allo
 
 /// How many more items fit where the list is.
 pub fn left<A: Array>(v: &TinyVec<A>) -> usize
-    ensures { tiny_len_of A.Slots v.now + result ≡ tiny_capacity A.CAPACITY v.now }
+    ensures { tiny_len_of A.Slots v.now + result ≡ tiny_capacity_of A.Slots v.now }
 {
     v.remaining_capacity()
 }
@@ -282,7 +282,7 @@ pub fn push_like_vec(v: &mut TinyVec<[u32; 4]>, x: u32) -> Result<(), AllocFaile
 /// Room for `n` items, or for the list, is kept, and other room given back.
 pub fn with_less_room<A: Array>(v: &mut TinyVec<A>, n: usize)
     ensures items { tiny_items_of A.Slots v.new ≡ tiny_items_of A.Slots v.old }
-    ensures capacity { n ≤ tiny_capacity A.CAPACITY v.old → n ≤ tiny_capacity A.CAPACITY v.new }
+    ensures capacity { n ≤ tiny_capacity_of A.Slots v.old → n ≤ tiny_capacity_of A.Slots v.new }
 {
     v.shrink_to(n);
 }
@@ -307,7 +307,7 @@ pub fn on_heap<A: Array>(v: &mut TinyVec<A>) -> Result<(), AllocError>
 /// The list on the heap, with room for `n` more items.
 pub fn on_heap_with_room<A: Array>(v: &mut TinyVec<A>, n: usize) -> Result<(), AllocError>
     ensures items { tiny_items_of A.Slots v.new ≡ tiny_items_of A.Slots v.old }
-    ensures enough { OnOk result (tiny_len_of A.Slots v.old + n ≤ tiny_capacity A.CAPACITY v.new) }
+    ensures enough { OnOk result (tiny_len_of A.Slots v.old + n ≤ tiny_capacity_of A.Slots v.new) }
 {
     v.move_to_the_heap_and_reserve(n)
 }
@@ -315,7 +315,7 @@ pub fn on_heap_with_room<A: Array>(v: &mut TinyVec<A>, n: usize) -> Result<(), A
 /// The same, by the other name.
 pub fn try_on_heap_with_room<A: Array>(v: &mut TinyVec<A>, n: usize) -> Result<(), AllocError>
     ensures items { tiny_items_of A.Slots v.new ≡ tiny_items_of A.Slots v.old }
-    ensures enough { OnOk result (tiny_len_of A.Slots v.old + n ≤ tiny_capacity A.CAPACITY v.new) }
+    ensures enough { OnOk result (tiny_len_of A.Slots v.old + n ≤ tiny_capacity_of A.Slots v.new) }
 {
     v.try_move_to_the_heap_and_reserve(n)
 }

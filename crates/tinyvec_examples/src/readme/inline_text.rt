@@ -29,9 +29,9 @@ pub fn push_line(text: &mut InlineText<64>, path: &str) -> Result<(), AllocError
 }
 
 fn put(text: &mut InlineText<64>, piece: &str)
-    requires { text_len text.old + length piece.now ≤ capacity_in 64 text.old.place }
+    requires { text_len text.old + length piece.now ≤ capacity_in text.old.place }
     ensures bytes { text.new.bytes ≡ text.old.bytes ++ piece.now }
-    ensures capacity { capacity_in 64 text.new.place ≡ capacity_in 64 text.old.place }
+    ensures capacity { capacity_in text.new.place ≡ capacity_in text.old.place }
 {
     text.push_str_reserved(piece);
 }

@@ -1,7 +1,7 @@
 //! Bytes of a list that are copied to the heap, or replaced by others, by moves of memory.
 ghost use Rattle.std.specs.Prelude.{◌≡◌, ◌+◌, ◌-◌, ◌*◌, ◌≤◌, ◌++◌, ◌∷◌, [], length, take, drop, false, is_ok, if◌then◌else◌, IsOk, IfOk, OnErr, vec_len, vec_capacity};
 ghost use Rattle.tinyvec_slots.specs.Slots.{Gains};
-ghost use Rattle.tinyvec_array.specs.ArrayVec.{items, items_len, spare, view};
+ghost use Rattle.tinyvec_array.specs.ArrayVec.{items, items_len, all_slots, view};
 ghost use Rattle.tinyvec.specs.TinyVec.{tiny_items, tiny_len, tiny_capacity, is_inline, IsInline, tiny_view};
 ghost use Rattle.tinyvec.specs.View.{IsTail, Becomes};
 ghost use Rattle.tinyvec.specs.Room.{MakesRoom};
@@ -21,7 +21,7 @@ pub fn copied_to_heap<const N: usize>(
 ) -> Result<TinyVec<[u8; N]>, AllocError>
     ensures items { IfOk result (λ v. tiny_items v ≡ bytes.now) }
     ensures place { IfOk result (λ v. is_inline v ≡ false) }
-    ensures capacity { IfOk result (λ v. tiny_capacity N v ≡ length bytes.now) }
+    ensures capacity { IfOk result (λ v. tiny_capacity v ≡ length bytes.now) }
     ensures succeeds { length bytes.now ≡ 0 → IsOk result }
 {
     if bytes.is_empty() {
@@ -65,7 +65,7 @@ pub fn replace_bytes<const N: usize>(
 )
     requires start_le_end { start ≤ end }
     requires in_list { end ≤ tiny_len list.old }
-    requires room { tiny_len list.old - (end - start) + length bytes.now ≤ tiny_capacity N list.old }
+    requires room { tiny_len list.old - (end - start) + length bytes.now ≤ tiny_capacity list.old }
     ensures { Becomes (λ b. b ≡ 0) N (tiny_view list.old) (tiny_view list.new)
         (take start (tiny_items list.old) ++ bytes.now ++ drop end (tiny_items list.old)) }
 {
@@ -97,7 +97,7 @@ pub fn remove_bytes<const N: usize>(list: &mut TinyVec<[u8; N]>, start: usize, e
 #[inline(never)]
 fn insert_bytes<const N: usize>(list: &mut TinyVec<[u8; N]>, index: usize, bytes: &[u8])
     requires in_list { index ≤ tiny_len list.old }
-    requires room { tiny_len list.old + length bytes.now ≤ tiny_capacity N list.old }
+    requires room { tiny_len list.old + length bytes.now ≤ tiny_capacity list.old }
     ensures { Becomes (λ b. b ≡ 0) N (tiny_view list.old) (tiny_view list.new)
         (take index (tiny_items list.old) ++ bytes.now ++ drop index (tiny_items list.old)) }
 {
@@ -119,6 +119,7 @@ pub fn put_bytes<const N: usize>(
         then take index (tiny_items list.old) ++ bytes.now ++ drop index (tiny_items list.old) else tiny_items list.old) }
     ensures room { MakesRoom (is_inline list.old) N (tiny_len list.old + length bytes.now)
         (tiny_view list.old) (tiny_view list.new) result }
+    ensures inline_capacity { IsInline list.old → tiny_capacity list.old ≡ N }
 {
     match list {
         TinyVec::Inline(v, _) if bytes.len() <= v.capacity() - v.len() => insert_inline(
@@ -147,6 +148,7 @@ pub fn put_byte<const N: usize>(
         then take index (tiny_items list.old) ++ byte ∷ [] ++ drop index (tiny_items list.old) else tiny_items list.old) }
     ensures room { MakesRoom (is_inline list.old) N (tiny_len list.old + 1)
         (tiny_view list.old) (tiny_view list.new) result }
+    ensures inline_capacity { IsInline list.old → tiny_capacity list.old ≡ N }
 {
     match list {
         TinyVec::Inline(v, _) if v.len() < v.capacity() => insert_inline(v, index, &[byte]),
@@ -171,27 +173,20 @@ fn put_byte_slow<const N: usize>(
         then take index (tiny_items list.old) ++ byte ∷ [] ++ drop index (tiny_items list.old) else tiny_items list.old) }
     ensures room { MakesRoom (is_inline list.old) N (tiny_len list.old + 1)
         (tiny_view list.old) (tiny_view list.new) result }
+    ensures inline_capacity { IsInline list.old → tiny_capacity list.old ≡ N }
 {
     put_bytes(list, index, &[byte])
-}
-
-// Tells a proof that there are as many slots as the array has.
-#[inline(always)]
-fn knows_slots<const N: usize>(v: &ArrayVec<[u8; N]>)
-    ensures { items_len v.now + length (spare v.now) ≡ N }
-{
-    let _slots = v.capacity();
 }
 
 // Inserts `bytes` at `index` into a list in its array that has room.
 #[inline(always)]
 fn insert_inline<const N: usize>(v: &mut ArrayVec<[u8; N]>, index: usize, bytes: &[u8])
     requires in_list { index ≤ items_len v.old }
-    requires room { length bytes.now ≤ N - items_len v.old }
-    ensures { Gains N (length bytes.now) (view v.old) (view v.new)
+    requires room { length bytes.now ≤ length (all_slots v.old) - items_len v.old }
+    ensures gains { Gains (length (all_slots v.old)) (length bytes.now) (view v.old) (view v.new)
         (take index (items v.old) ++ bytes.now ++ drop index (items v.old)) }
+    ensures slot_count { length (all_slots v.new) ≡ length (all_slots v.old) }
 {
-    knows_slots(v);
     let len = v.len();
     v.set_len(len + bytes.len());
     // The minimum is all that is behind, which LLVM does not know.
@@ -284,6 +279,7 @@ pub fn push_bytes<const N: usize>(
         ≡ (if is_ok result then tiny_items list.old ++ bytes.now else tiny_items list.old) }
     ensures room { MakesRoom (is_inline list.old) N (tiny_len list.old + length bytes.now)
         (tiny_view list.old) (tiny_view list.new) result }
+    ensures inline_capacity { IsInline list.old → tiny_capacity list.old ≡ N }
 {
     match list {
         TinyVec::Inline(v, _) if bytes.len() <= v.capacity() - v.len() => append_inline(v, bytes),
@@ -303,7 +299,7 @@ pub fn push_bytes<const N: usize>(
 /// Appends `bytes` to a list that has room.
 #[inline(always)]
 pub fn append_bytes<const N: usize>(list: &mut TinyVec<[u8; N]>, bytes: &[u8])
-    requires { tiny_len list.old + length bytes.now ≤ tiny_capacity N list.old }
+    requires { tiny_len list.old + length bytes.now ≤ tiny_capacity list.old }
     ensures { Becomes (λ b. b ≡ 0) N (tiny_view list.old) (tiny_view list.new)
         (tiny_items list.old ++ bytes.now) }
 {
@@ -321,6 +317,7 @@ fn push_slow<const N: usize>(list: &mut TinyVec<[u8; N]>, bytes: &[u8]) -> Resul
         ≡ (if is_ok result then tiny_items list.old ++ bytes.now else tiny_items list.old) }
     ensures room { MakesRoom (is_inline list.old) N (tiny_len list.old + length bytes.now)
         (tiny_view list.old) (tiny_view list.new) result }
+    ensures inline_capacity { IsInline list.old → tiny_capacity list.old ≡ N }
 {
     list.reserve(bytes.len())?;
     append_bytes(list, bytes);
@@ -330,10 +327,11 @@ fn push_slow<const N: usize>(list: &mut TinyVec<[u8; N]>, bytes: &[u8]) -> Resul
 // Appends `bytes` to a list in its array that has room.
 #[inline(always)]
 fn append_inline<const N: usize>(v: &mut ArrayVec<[u8; N]>, bytes: &[u8])
-    requires { length bytes.now ≤ N - items_len v.old }
-    ensures { Gains N (length bytes.now) (view v.old) (view v.new) (items v.old ++ bytes.now) }
+    requires { length bytes.now ≤ length (all_slots v.old) - items_len v.old }
+    ensures gains { Gains (length (all_slots v.old)) (length bytes.now) (view v.old) (view v.new)
+        (items v.old ++ bytes.now) }
+    ensures slot_count { length (all_slots v.new) ≡ length (all_slots v.old) }
 {
-    knows_slots(v);
     let len = v.len();
     let end = bytes.len();
     write_over(&mut v.grab_spare_slice_mut()[0..end], bytes, N);
@@ -412,7 +410,7 @@ fn write_ends<const W: usize>(to: &mut [u8], bytes: &[u8])
 #[inline(never)]
 fn append_on_heap<const N: usize>(list: &mut TinyVec<[u8; N]>, bytes: &[u8])
     requires place { is_inline list.old ≡ false }
-    requires room { tiny_len list.old + length bytes.now ≤ tiny_capacity N list.old }
+    requires room { tiny_len list.old + length bytes.now ≤ tiny_capacity list.old }
     ensures { Becomes (λ b. b ≡ 0) N (tiny_view list.old) (tiny_view list.new)
         (tiny_items list.old ++ bytes.now) }
 {

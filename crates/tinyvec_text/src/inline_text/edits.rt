@@ -37,7 +37,7 @@ impl<const N: usize> InlineText<N> {
     /// Appends `string` to a text that has room. It allocates nothing, so it cannot fail.
     #[inline(always)]
     pub fn push_str_reserved(&mut self, string: &str)
-        requires { text_len self.old + length string.now ≤ capacity_in N self.old.place }
+        requires { text_len self.old + length string.now ≤ capacity_in self.old.place }
         ensures { TextBecomes N self.old self.new
             (self.old.bytes ++ string.now) (text_chars self.old ++ chars string.now) }
     {
@@ -47,7 +47,7 @@ impl<const N: usize> InlineText<N> {
     /// Appends `ch` to a text that has room. It allocates nothing, so it cannot fail.
     #[inline(always)]
     pub fn push_reserved(&mut self, ch: char)
-        requires { text_len self.old + length (encode_utf8 ch) ≤ capacity_in N self.old.place }
+        requires { text_len self.old + length (encode_utf8 ch) ≤ capacity_in self.old.place }
         ensures becomes { TextBecomes N self.old self.new
             (self.old.bytes ++ encode_utf8 ch) (text_chars self.old ++ ch ∷ []) }
         ensures ascii { ch < 128 → self.new.bytes ≡ self.old.bytes ++ ch ∷ [] }
@@ -67,6 +67,7 @@ impl<const N: usize> InlineText<N> {
         ensures text { OnOk result (text_chars self.new ≡ text_chars self.old ++ chars string.now) }
         ensures room { MakesRoom (lies_inline self.old.place) N (text_len self.old + length string.now)
             (text_view self.old) (text_view self.new) result }
+        ensures inline_capacity { IsTrue (lies_inline self.old.place) → capacity_in self.old.place ≡ N }
     {
         push_bytes(&mut self.list, string.as_bytes())?;
         Ok(())
@@ -81,6 +82,7 @@ impl<const N: usize> InlineText<N> {
         ensures text { OnOk result (text_chars self.new ≡ text_chars self.old ++ ch ∷ []) }
         ensures room { MakesRoom (lies_inline self.old.place && nat_le 128 ch) N
             (text_len self.old + length (encode_utf8 ch)) (text_view self.old) (text_view self.new) result }
+        ensures inline_capacity { IsTrue (lies_inline self.old.place) → capacity_in self.old.place ≡ N }
     {
         // Most characters are ASCII, and have room.
         if ch.is_ascii() && self.len() < self.capacity() {
@@ -100,6 +102,7 @@ impl<const N: usize> InlineText<N> {
         ensures text { OnOk result (text_chars self.new ≡ text_chars self.old ++ ch ∷ []) }
         ensures room { MakesRoom (lies_inline self.old.place && nat_le 128 ch) N
             (text_len self.old + length (encode_utf8 ch)) (text_view self.old) (text_view self.new) result }
+        ensures inline_capacity { IsTrue (lies_inline self.old.place) → capacity_in self.old.place ≡ N }
     {
         if ch.is_ascii() {
             self.list.push(ch as u8)?;
@@ -117,6 +120,7 @@ impl<const N: usize> InlineText<N> {
         ensures text { OnOk result (text_chars self.new ≡ text_chars self.old ++ c ∷ []) }
         ensures room { MakesRoom (lies_inline self.old.place && nat_le 128 c) N
             (text_len self.old + length (encode_utf8 c)) (text_view self.old) (text_view self.new) result }
+        ensures inline_capacity { IsTrue (lies_inline self.old.place) → capacity_in self.old.place ≡ N }
     {
         let code = c as u32;
         if code < 0x800 {
@@ -140,6 +144,7 @@ impl<const N: usize> InlineText<N> {
         ensures text { OnOk result (text_chars self.new ≡ text_chars self.old ++ c ∷ []) }
         ensures room { MakesRoom (lies_inline self.old.place) N (text_len self.old + length (encode_utf8 c))
             (text_view self.old) (text_view self.new) result }
+        ensures inline_capacity { IsTrue (lies_inline self.old.place) → capacity_in self.old.place ≡ N }
     {
         push_bytes(&mut self.list, bytes)?;
         Ok(())
@@ -156,8 +161,8 @@ impl<const N: usize> InlineText<N> {
     /// As `reserve`, but room that is allocated is for no further bytes.
     pub fn reserve_exact(&mut self, additional: usize) -> Result<(), AllocError>
         ensures room { TextReserves true N additional self.old self.new result }
-        ensures exact { OnOk result (capacity_in N self.new.place
-            ≡ max (capacity_in N self.old.place) (text_len self.old + additional)) }
+        ensures exact { OnOk result (capacity_in self.new.place
+            ≡ max (capacity_in self.old.place) (text_len self.old + additional)) }
     {
         self.list.reserve_exact(additional)?;
         Ok(())
@@ -178,9 +183,9 @@ impl<const N: usize> InlineText<N> {
             → (IsTrue (lies_inline self.new.place) ↔ (max (text_len self.old) min_capacity ≤ N)) }
         ensures kept { IsTrue (lies_inline self.old.place) → self.new ≡ self.old }
         ensures capacity { lies_inline self.new.place ≡ false
-            → capacity_in N self.new.place ≤ capacity_in N self.old.place }
-        ensures lower_bound { min min_capacity (capacity_in N self.old.place) ≤ capacity_in N self.new.place }
-        ensures fits { text_len self.new ≤ capacity_in N self.new.place }
+            → capacity_in self.new.place ≤ capacity_in self.old.place }
+        ensures lower_bound { min min_capacity (capacity_in self.old.place) ≤ capacity_in self.new.place }
+        ensures fits { text_len self.new ≤ capacity_in self.new.place }
     {
         self.list.shrink_to(min_capacity);
     }
@@ -216,6 +221,7 @@ impl<const N: usize> InlineText<N> {
             ≡ chars (take index self.old.bytes) ++ ch ∷ [] ++ chars (drop index self.old.bytes)) }
         ensures room { MakesRoom (lies_inline self.old.place) N (text_len self.old + length (encode_utf8 ch))
             (text_view self.old) (text_view self.new) result }
+        ensures inline_capacity { IsTrue (lies_inline self.old.place) → capacity_in self.old.place ≡ N }
     {
         // Most characters are ASCII.
         if ch.is_ascii() {
@@ -234,6 +240,7 @@ impl<const N: usize> InlineText<N> {
             ≡ chars (take index self.old.bytes) ++ ch ∷ [] ++ chars (drop index self.old.bytes)) }
         ensures room { MakesRoom (lies_inline self.old.place) N (text_len self.old + length (encode_utf8 ch))
             (text_view self.old) (text_view self.new) result }
+        ensures inline_capacity { IsTrue (lies_inline self.old.place) → capacity_in self.old.place ≡ N }
     {
         let mut buffer = [0; 4];
         self.insert_str(index, ch.encode_utf8(&mut buffer))
@@ -250,6 +257,7 @@ impl<const N: usize> InlineText<N> {
             ≡ chars (take index self.old.bytes) ++ ch ∷ [] ++ chars (drop index self.old.bytes)) }
         ensures room { MakesRoom (lies_inline self.old.place) N (text_len self.old + length (encode_utf8 ch))
             (text_view self.old) (text_view self.new) result }
+        ensures inline_capacity { IsTrue (lies_inline self.old.place) → capacity_in self.old.place ≡ N }
     {
         put_byte(&mut self.list, index, ch as u8)?;
         Ok(())
@@ -266,6 +274,7 @@ impl<const N: usize> InlineText<N> {
             ≡ chars (take index self.old.bytes) ++ chars string.now ++ chars (drop index self.old.bytes)) }
         ensures room { MakesRoom (lies_inline self.old.place) N (text_len self.old + length string.now)
             (text_view self.old) (text_view self.new) result }
+        ensures inline_capacity { IsTrue (lies_inline self.old.place) → capacity_in self.old.place ≡ N }
     {
         put_bytes(&mut self.list, index, string.as_bytes())?;
         Ok(())
@@ -289,6 +298,7 @@ impl<const N: usize> InlineText<N> {
         ensures room { MakesRoom (lies_inline self.old.place) N (text_len self.old
             - (range_end (R.end_bound range) (text_len self.old) - range_start (R.start_bound range)) + length replace_with.now)
             (text_view self.old) (text_view self.new) result }
+        ensures inline_capacity { IsTrue (lies_inline self.old.place) → capacity_in self.old.place ≡ N }
     {
         let part = resolve_range(range, self.list.len());
         let bytes = replace_with.as_bytes();
@@ -311,6 +321,7 @@ impl<const N: usize> InlineText<N> {
         ensures room { MakesRoom (lies_inline self.old.place) N
             (text_len self.old + length (removed self.old.bytes (R.start_bound range) (R.end_bound range)))
             (text_view self.old) (text_view self.new) result }
+        ensures inline_capacity { IsTrue (lies_inline self.old.place) → capacity_in self.old.place ≡ N }
     {
         self.list.extend_from_within(range)?;
         Ok(())
@@ -374,7 +385,7 @@ fn pop_wide<const N: usize>(list: &mut TinyVec<[u8; N]>, last: u8) -> char
     ensures parts { tiny_items list.old ++ last ∷ [] ≡ tiny_items list.new ++ encode_utf8 result }
     ensures front { IsUtf8 (tiny_items list.new) }
     ensures place { is_inline list.new ≡ is_inline list.old }
-    ensures capacity { tiny_capacity N list.new ≡ tiny_capacity N list.old }
+    ensures capacity { tiny_capacity list.new ≡ tiny_capacity list.old }
     ensures spare { All (λ b. b ≡ 0) (tiny_spare list.old) → All (λ b. b ≡ 0) (tiny_spare list.new) }
 {
     let Some(third) = list.pop() else {

@@ -27,11 +27,11 @@ impl<const N: usize> Extend<char> for InlineText<N> {
         ensures full { OnErr result ((it : U.IntoIter) × (cs : List ℕ) × (c : ℕ) × (rest : U.IntoIter)
             × U.into_iter_gives iter it × YieldsThen U.IntoIter.next_gives it cs (Some c) rest
             × (self.new.bytes ≡ self.old.bytes ++ encode_utf8_all cs)
-            × (capacity_in N self.new.place < text_len self.new + length (encode_utf8 c))) }
+            × (capacity_in self.new.place < text_len self.new + length (encode_utf8 c))) }
 
         // If known characters fit, it allocates nothing.
         ensures known { (cs : List ℕ) → IntoIterYields U.into_iter_gives U.IntoIter.next_gives iter cs
-            → text_len self.old + length (encode_utf8_all cs) ≤ capacity_in N self.old.place → IsOk result }
+            → text_len self.old + length (encode_utf8_all cs) ≤ capacity_in self.old.place → IsOk result }
     {
         self.knows_room();
         let mut rest = iter.into_iter();
@@ -60,11 +60,11 @@ impl<'a, const N: usize> Extend<&'a str> for InlineText<N> {
         ensures full { OnErr result ((it : U.IntoIter) × (xs : _) × (x : _) × (rest : U.IntoIter)
             × U.into_iter_gives iter it × YieldsThen U.IntoIter.next_gives it xs (Some x) rest
             × (self.new.bytes ≡ self.old.bytes ++ flat_map (λ y. y.now) xs)
-            × (capacity_in N self.new.place < text_len self.new + length x.now)) }
+            × (capacity_in self.new.place < text_len self.new + length x.now)) }
 
         // If known texts fit, it allocates nothing.
         ensures known { (xs : _) → IntoIterYields U.into_iter_gives U.IntoIter.next_gives iter xs
-            → text_len self.old + length (flat_map (λ x. x.now) xs) ≤ capacity_in N self.old.place → IsOk result }
+            → text_len self.old + length (flat_map (λ x. x.now) xs) ≤ capacity_in self.old.place → IsOk result }
     {
         self.knows_room();
         let mut rest = iter.into_iter();
@@ -80,7 +80,7 @@ impl<const N: usize> FromIterator<char> for InlineText<N> {
     type Alloc = Global;
 
     ghost from_iter_gives = { λ cs t. (t.bytes ≡ encode_utf8_all cs)
-        × (t.place ≡ place_after_chars N empty_text cs) × TextCollects N t };
+        × (t.place ≡ place_after_chars N (empty_text N) cs) × TextCollects N t };
 
     fn from_iter<U: IntoIterator<Item = char>>(
         alloc: Global,
@@ -90,7 +90,7 @@ impl<const N: usize> FromIterator<char> for InlineText<N> {
             → U.IntoIter.can_next it × IsFinite (U.IntoIter.remaining it) × HoldsAlong U.IntoIter.next_gives it (λ _. ⊤) }
         ensures ran { IfOk result (λ t. (it : U.IntoIter) × (xs : List ℕ) × U.into_iter_gives iter it
             × DrainsIf U.IntoIter.next_gives ⊤ it xs × ((t.bytes ≡ encode_utf8_all xs)
-            × (t.place ≡ place_after_chars N empty_text xs) × TextCollects N t)) }
+            × (t.place ≡ place_after_chars N (empty_text N) xs) × TextCollects N t)) }
         ensures collects { IfOk result (TextCollects N) }
 
         // It fails only at a character that neither the array nor the room on the heap has a place for.
@@ -113,7 +113,7 @@ impl<'a, const N: usize> FromIterator<&'a str> for InlineText<N> {
     type Alloc = Global;
 
     ghost from_iter_gives = { λ xs t. (t.bytes ≡ flat_map (λ x. x.now) xs)
-        × (t.place ≡ place_after_texts (λ x. x.now) N empty_text xs) × TextCollects N t };
+        × (t.place ≡ place_after_texts (λ x. x.now) N (empty_text N) xs) × TextCollects N t };
 
     fn from_iter<U: IntoIterator<Item = &'a str>>(
         alloc: Global,
@@ -123,7 +123,7 @@ impl<'a, const N: usize> FromIterator<&'a str> for InlineText<N> {
             → U.IntoIter.can_next it × IsFinite (U.IntoIter.remaining it) × HoldsAlong U.IntoIter.next_gives it (λ _. ⊤) }
         ensures ran { IfOk result (λ t. (it : U.IntoIter) × (xs : _) × U.into_iter_gives iter it
             × DrainsIf U.IntoIter.next_gives ⊤ it xs × ((t.bytes ≡ flat_map (λ x. x.now) xs)
-            × (t.place ≡ place_after_texts (λ x. x.now) N empty_text xs) × TextCollects N t)) }
+            × (t.place ≡ place_after_texts (λ x. x.now) N (empty_text N) xs) × TextCollects N t)) }
         ensures collects { IfOk result (TextCollects N) }
 
         // It fails only at a text that neither the array nor the room on the heap has a place for.

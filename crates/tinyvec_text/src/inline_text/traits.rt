@@ -22,7 +22,7 @@ use std::ops::DerefStr;
 
 /// So that `map.entry(k)?.or_default()` makes an empty text, as `new` does.
 impl<const N: usize> MadeWith<Global> for InlineText<N> {
-    ghost is_made_with = { λ t. (t.bytes ≡ []) × IsTrue (lies_inline t.place) };
+    ghost is_made_with = { λ t. (t.bytes ≡ []) × IsTrue (lies_inline t.place) × (capacity_in t.place ≡ N) };
 
     fn made_with(alloc: Global) -> Self {
         Self::new(alloc)
@@ -31,10 +31,10 @@ impl<const N: usize> MadeWith<Global> for InlineText<N> {
 
 /// So that `mem::try_take` moves a text out. What it leaves is empty and inline, and has the same allocator.
 impl<const N: usize> Emptied for InlineText<N> {
-    ghost is_emptied = { λ t. (t.bytes ≡ []) × IsTrue (lies_inline t.place) };
+    ghost is_emptied = { λ t. (t.bytes ≡ []) × IsTrue (lies_inline t.place) × (capacity_in t.place ≡ N) };
 
     fn emptied(like: &Self) -> Result<Self, AllocError>
-        ensures empty { IfOk result (λ t. (t.bytes ≡ []) × IsTrue (lies_inline t.place)) }
+        ensures empty { IfOk result (λ t. (t.bytes ≡ []) × IsTrue (lies_inline t.place) × (capacity_in t.place ≡ N)) }
         ensures succeeds { IsOk result }
     {
         Ok(Self::new(*like.list.allocator()))
@@ -52,7 +52,7 @@ impl<const N: usize> Clone for InlineText<N> {
         ensures cases { MatchResult result (IsTextClone N self.now)
             (λ _. ¬ (IsTrue (lies_inline self.now.place) ⊎ (text_len self.now ≡ 0))) }
         ensures place { IfOk result (λ t. lies_inline t.place ≡ lies_inline self.now.place) }
-        ensures capacity { IfOk result (λ t. lies_inline t.place ≡ false → capacity_in N t.place ≡ text_len self.now) }
+        ensures capacity { IfOk result (λ t. lies_inline t.place ≡ false → capacity_in t.place ≡ text_len self.now) }
         ensures succeeds_empty { lies_inline self.now.place ≡ false → text_len self.now ≡ 0 → IsOk result }
     {
         if self.list.is_inline() {
@@ -147,6 +147,7 @@ impl<const N: usize> fmt::Write for InlineText<N> {
         ensures text { OnOk result (text_chars self.new ≡ text_chars self.old ++ chars s.now) }
         ensures room { MakesRoom (lies_inline self.old.place) N (text_len self.old + length s.now)
             (text_view self.old) (text_view self.new) result }
+        ensures inline_capacity { IsTrue (lies_inline self.old.place) → capacity_in self.old.place ≡ N }
     {
         match self.push_str(s) {
             Ok(()) => Ok(()),

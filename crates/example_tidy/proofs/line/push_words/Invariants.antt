@@ -11,7 +11,7 @@ abbrev pub invariant-loop-word : goal.invariant-loop-word
 invariant-loop-word l = record {
   so_far : (front : List ℕ) × (tiny_items l.output ≡ tiny_items l.fn.output ++ front)
       × (front ++ said l.last (words l.left) ≡ join_with_byte 32 (dedup bytes_eq (words l.line)));
-  room : tiny_capacity 4096 l.fn.output ≤ tiny_capacity 4096 l.output;
+  room : tiny_capacity l.fn.output ≤ tiny_capacity l.output;
 }
 
 abbrev pub decreases-loop-word : goal.decreases-loop-word

@@ -9,7 +9,7 @@ use Rattle.example_tidy.proofs.stream.finish.Goals as goal
 pub returns-in_default-clause-long : goal.returns-in_default-clause-long
 returns-in_default-clause-long g c = λ _ short.
     let output = c.new-output in
-    let room : 4096 ≤ tiny_capacity 4096 output.result = search rules in
+    let room : 4096 ≤ tiny_capacity output.result = search rules in
     let never : false ≡ true = c.in_default.ensures.succeeds short
     (λ some. omega (arith, length-normal_line c.args.line.now, short, ap length output.ensures.items, room)) in
     absurd cc

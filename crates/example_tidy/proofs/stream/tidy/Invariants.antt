@@ -12,7 +12,7 @@ invariant-loop-piece g l = record {
       × Appends (g.W.Write.contents l.fn.writer.inner) (g.W.Write.contents l.writer.inner) output
       × TidiedUpTo input output (tiny_items l.line)
       × (l._piece ≤ length input);
-  line_room : 80 ≤ tiny_capacity 80 l.line;
+  line_room : 80 ≤ tiny_capacity l.line;
   chunk : length l.chunk ≤ 4016;
   read_grows : l.fn.reader.faults ≤ l.reader.faults;
   write_grows : l.fn.writer.faults ≤ l.writer.faults;

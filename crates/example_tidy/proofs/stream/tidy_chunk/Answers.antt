@@ -11,7 +11,7 @@ pub returns-in_default-clause-memory : goal.returns-in_default-clause-memory
 returns-in_default-clause-memory g c = λ _ place few.
     let old = tiny_items c.args.line.now in
     let output = c.new-output in
-    let room : 4096 ≤ tiny_capacity 4096 output.result = search rules in
+    let room : 4096 ≤ tiny_capacity output.result = search rules in
     let long : 80 < length old = omega (arith, c.in_default.ensures.room.full, few, room, ap length output.ensures.items) in
     ([], Appends-nil _, before_old old c.args.bytes.now long)
 
@@ -33,7 +33,7 @@ returns-in_default-fed-clause-memory g c = λ _ place few.
     let output = c.reserve.new.self in
     let empty = c.in-Ok.ensures.items ∙ c.new-output.ensures.items in
     let refused = c.in_default-fed.ensures.refused in
-    let fits : length old + length bytes ≤ tiny_capacity 4096 output - tiny_len output = omega (arith, c.in-Ok.ensures.enough, ap length empty, ap length c.new-output.ensures.items) in
+    let fits : length old + length bytes ≤ tiny_capacity output - tiny_len output = omega (arith, c.in-Ok.ensures.enough, ap length empty, ap length c.new-output.ensures.items) in
     let said = before_long old bytes refused.0 _ _ _ place fits refused.3 in
     let text : c.as_slice.result.now ≡ refused.0 = c.as_slice.ensures ∙ refused.2 ∙ ap (λ front. front ++ refused.0) empty in
     (c.as_slice.result.now, c.in-Ok-write_all.ensures.bytes, subst (EndsBeforeLong old bytes) (sym text) said)

@@ -58,8 +58,8 @@ returns-in_err-extend_from_slice_copy-clause-refused c =
     let old = tiny_items c.args.output.now in
     let output = c.loop-end.output in
     let line = tiny_items c.loop-end.line in
-    let place = tiny_capacity 80 c.loop-end.line in
-    let room = tiny_capacity 4096 output - tiny_len output in
+    let place = tiny_capacity c.loop-end.line in
+    let room = tiny_capacity output - tiny_len output in
     let made = c.in_err-extend_from_slice_copy.ensures.room in
     let held : length line ≤ place = omega (arith, made.fits, ap length made.refused.items, made.refused.capacity 80) in
     on_err c.from_residual-in_err-extend_from_slice_copy.result (

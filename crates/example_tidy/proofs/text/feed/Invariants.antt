@@ -8,8 +8,8 @@ abbrev pub invariant-loop-end : goal.invariant-loop-end
 invariant-loop-end l = record {
   so_far : (taken : List ℕ) × (said : List ℕ) × (l.bytes ≡ taken ++ l.rest) × (tiny_items l.output ≡ tiny_items l.fn.output ++ said)
       × Advances (tiny_items l.fn.line) taken said (tiny_items l.line);
-  line_room : tiny_capacity 80 l.fn.line ≤ tiny_capacity 80 l.line;
-  room : tiny_capacity 4096 l.fn.output ≤ tiny_capacity 4096 l.output;
+  line_room : tiny_capacity l.fn.line ≤ tiny_capacity l.line;
+  room : tiny_capacity l.fn.output ≤ tiny_capacity l.output;
 }
 
 abbrev pub decreases-loop-end : goal.decreases-loop-end

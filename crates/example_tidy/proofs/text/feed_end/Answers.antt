@@ -18,13 +18,13 @@ pub returns-in_err-end_line-clause-refused : goal.returns-in_err-end_line-clause
 returns-in_err-end_line-clause-refused c =
     let end = c.args.end.now in
     let output = c.args.output.now in
-    let room = tiny_capacity 4096 output - tiny_len output in
+    let room = tiny_capacity output - tiny_len output in
     let none : length (tiny_items c.args.line.now) ≡ 0 = search rules in
     let refused = c.in_err-end_line.ensures in
     on_err c.from_residual.result (
       end,
       refused.refused,
-      subst (λ line. Refuses line (end ++ 10 ∷ []) [] end (tiny_capacity 80 c.args.line.now) room) (sym (nil_from_length _ none)) (refuses_feed [] end _ room c.requires
+      subst (λ line. Refuses line (end ++ 10 ∷ []) [] end (tiny_capacity c.args.line.now) room) (sym (nil_from_length _ none)) (refuses_feed [] end _ room c.requires
           (λ short fits. let never : false ≡ true = refused.succeeds short (omega (arith, fits)) in absurd cc)),
     )
 
@@ -34,8 +34,8 @@ returns-in_err-extend_from_slice_copy-clause-refused c =
     let line = tiny_items c.args.line.now in
     let end = c.args.end.now in
     let output = c.args.output.now in
-    let place = tiny_capacity 80 c.args.line.now in
-    let room = tiny_capacity 4096 output - tiny_len output in
+    let place = tiny_capacity c.args.line.now in
+    let room = tiny_capacity output - tiny_len output in
     let made = c.in_err-extend_from_slice_copy.ensures.room in
     let held : length line ≤ place = omega (arith, made.fits, ap length made.refused.items, made.refused.capacity 80) in
     on_err c.from_residual-in_err-extend_from_slice_copy.result (

@@ -24,8 +24,8 @@ returns-in_err-feed-clause-succeeds c = λ each fits.
     let text = c.args.text.now in
     let line = c.new-line in
     let output = c.new-output in
-    let place : 80 ≤ tiny_capacity 80 line.result = search rules in
-    let room : 4096 ≤ tiny_capacity 4096 output.result = search rules in
+    let place : 80 ≤ tiny_capacity line.result = search rules in
+    let room : 4096 ≤ tiny_capacity output.result = search rules in
     let refused = c.in_err-feed.ensures.refused in
     absurd (refused_never (tiny_items line.result) text refused.0 _ _ _
     (rw line.ensures.items (All-nil (λ byte. byte ≢ 10)))
@@ -41,7 +41,7 @@ returns-in_err-end_text-clause-succeeds c = λ each fits.
     let output = tiny_items c.feed.new.output in
     let fed = c.in_ok-feed.ensures.ok in
     let so_far : TidiedUpTo text output line = advanced _ _ text _ _ fed.0 c.new-line.ensures.items c.new-output.ensures.items fed.1 fed.2 in
-    let room : 4096 ≤ tiny_capacity 4096 c.new-output.result = search rules in
+    let room : 4096 ≤ tiny_capacity c.new-output.result = search rules in
     let never : false ≡ true = rw c.as_slice.ensures at c.in_err-end_text.ensures.succeeds
     (short_end text output line so_far each)
     (λ some. omega (arith, says_last text output line so_far some, fits, room, c.in_ok-feed.ensures.capacity)) in

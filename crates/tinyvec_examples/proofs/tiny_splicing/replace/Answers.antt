@@ -5,7 +5,7 @@ use Rattle.tinyvec_slots.specs.Fused.{fused_rest}
 use Rattle.tinyvec_slots.specs.SplicedByWord.{IsSpliceRefused}
 use Rattle.tinyvec_slots.proofs.Lists.{length-slice_range}
 use Rattle.tinyvec_slots.proofs.AnySpliceLemmas.{spliced_len}
-use Rattle.tinyvec.specs.TinyVec.{tiny_items_of, tiny_len_of, is_inline, tiny_capacity, tiny_view_of}
+use Rattle.tinyvec.specs.TinyVec.{tiny_items_of, tiny_len_of, is_inline, tiny_view_of, tiny_capacity_of}
 use Rattle.tinyvec.specs.View.{PlaceRule, TinySlotRule}
 use Rattle.tinyvec.specs.FrameLaws.{FrameOf}
 use Rattle.tinyvec_slots.specs.Splice.{splice_view, splice_replacement, splice_vec, SpliceKeeps}
@@ -28,8 +28,8 @@ returns-clause-list g c = λ rest ends.
     let finished = c.finish.ensures.listed rest ends.first in
     let n = length-slice_range xs c.args.start c.args.end c.requires.start_le_end c.requires.in_bounds in
     let list : OnOk result (tiny_items_of g.A.Slots v ≡ take c.args.start xs ++ P ++ drop c.args.end xs) =
-    ended_list R (tiny_capacity g.A.Array.CAPACITY v) s t (front ∷ back ∷ []) (tiny_items_of g.A.Slots v) _ _ _ P along made.begins.front made.begins.left made.begins.back whole result finished in
-    let unplaced = ended_refused R (tiny_capacity g.A.Array.CAPACITY v) s t (front ∷ back ∷ []) (tiny_items_of g.A.Slots v) _ _ _ P along made.begins.front made.begins.left made.begins.back whole result finished in
+    ended_list R (tiny_capacity_of g.A.Slots v) s t (front ∷ back ∷ []) (tiny_items_of g.A.Slots v) _ _ _ P along made.begins.front made.begins.left made.begins.back whole result finished in
+    let unplaced = ended_refused R (tiny_capacity_of g.A.Slots v) s t (front ∷ back ∷ []) (tiny_items_of g.A.Slots v) _ _ _ P along made.begins.front made.begins.left made.begins.back whole result finished in
     let counted_out = subst (λ k. IfErr result (λ refused. IsSpliceRefused (front ∷ back ∷ []) k (take c.args.start xs) (drop c.args.end xs) P (tiny_items_of g.A.Slots v) (refused.item ∷ R refused.rest))) n unplaced in
     let same = along.kept.same_reference in
     let lender = made.same_reference in (
@@ -49,15 +49,15 @@ returns-clause-succeeds g c = λ rest ends room.
     let one = length-take-le c.args.start xs (omega (arith, c.requires.start_le_end, c.requires.in_bounds)) in
     let two = length-drop c.args.end xs in
     let sum = spliced_len (splice_view (tiny_items_of g.A.Slots)) (SpliceKeeps (tiny_items_of g.A.Slots) (FrameOf g.A.Slots)) (fused_rest rest) s t (front ∷ back ∷ []) xs _ _ _ P along made.begins.front made.begins.left made.begins.back whole in
-    let capacity : tiny_capacity g.A.Array.CAPACITY (splice_vec t) ≡ tiny_capacity g.A.Array.CAPACITY c.args.vec.now =
-    along.kept.kept.capacity g.A.Array.CAPACITY ∙ ap (tiny_capacity g.A.Array.CAPACITY) made.vec in
+    let capacity : tiny_capacity_of g.A.Slots (splice_vec t) ≡ tiny_capacity_of g.A.Slots c.args.vec.now =
+    along.kept.kept.capacity ∙ ap (tiny_capacity_of g.A.Slots) made.vec in
     c.finish.ensures.succeeds rest ends.first (omega (arith, room, one, two, sum, capacity))
 
 pub returns-clause-full : goal.returns-clause-full
 returns-clause-full g c =
     let same = c.one_from_each_end-ends.ensures.kept.same_reference in
     let lender = c.splice-splice.ensures.same_reference in
-    let fact : OnErr c.finish.result (tiny_len_of g.A.Slots c.finish.new.self.0 ≡ tiny_capacity g.A.Array.CAPACITY c.finish.new.self.0) = c.finish.ensures.finished.full in
+    let fact : OnErr c.finish.result (tiny_len_of g.A.Slots c.finish.new.self.0 ≡ tiny_capacity_of g.A.Slots c.finish.new.self.0) = c.finish.ensures.finished.full in
     search rules
 
 pub returns-clause-place : goal.returns-clause-place

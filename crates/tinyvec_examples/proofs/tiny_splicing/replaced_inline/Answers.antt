@@ -5,13 +5,12 @@ use Rattle.tinyvec_slots.specs.Fused.{fused_rest}
 use Rattle.tinyvec_slots.proofs.Fused.{fused_ends}
 use Rattle.tinyvec_slots.proofs.AnySpliceLemmas.{spliced_len}
 use Rattle.tinyvec_array.proofs.Named.{array_slots}
-use Rattle.tinyvec.specs.TinyVec.{tiny_items_of, tiny_items, tiny_len, tiny_view, is_inline, tiny_capacity, IsInline}
+use Rattle.tinyvec.specs.TinyVec.{tiny_items_of, tiny_items, tiny_len, is_inline, tiny_capacity, IsInline}
 use Rattle.tinyvec.specs.FrameLaws.{FrameOf}
 use Rattle.tinyvec_slots.specs.Splice.{splice_view, splice_front, splice_left, splice_back, splice_replacement, splice_vec, SpliceKeeps}
 use Rattle.tinyvec.specs.SpliceLaws.{frame_refl, frame_then}
 use Rattle.tinyvec_slots.proofs.SpliceLemmas.{RunsWord-splices}
 use Rattle.tinyvec_slots.proofs.KnownItems.{array_ends}
-use Rattle.tinyvec.proofs.TinyLemmas.{capacity_inline}
 use Rattle.tinyvec_examples.proofs.SpliceEnded.{first_taken, ended_fits, ended_all}
 use Rattle.tinyvec_examples.proofs.tiny_splicing.replaced_inline.Goals as goal
 
@@ -32,11 +31,11 @@ returns c =
     let along = RunsWord-splices (tiny_items_of g) (FrameOf g) (frame_refl g) (frame_then g) R _ _ (fused_ends _ _ _ array_ends) s (front ∷ []) (c.next-first.result ∷ []) t (t, c.next-first.ensures.steps, refl) in
     let sum = spliced_len (splice_view (tiny_items_of g)) (SpliceKeeps (tiny_items_of g) (FrameOf g)) R s t (front ∷ []) (tiny_items v) _ _ _ _ along ahead left behind whole in
     let inside : IsInline (splice_vec t) = along.kept.kept.place ∙ ap is_inline made.vec ∙ start.place in
-    let slots : tiny_capacity 4 (splice_vec t) ≡ 4 = capacity_inline 4 (tiny_view (splice_vec t)) inside in
+    let slots : tiny_capacity (splice_vec t) ≡ 4 = along.kept.kept.capacity ∙ ap tiny_capacity made.vec ∙ start.capacity in
     let ok : IsOk c.finish-finished.result = c.finish-finished.ensures.succeeds array_into_iter_items array_ends.first (omega (arith, sum, slots)) in
     let finished = c.finish-finished.ensures.listed array_into_iter_items array_ends.first in
-    let fits = (ended_fits R (tiny_capacity 4 v) s t (front ∷ []) (tiny_items v) _ _ _ _ along ahead left behind whole _ finished).0 ok in
-    let list : tiny_items v ≡ pos 1 ∷ pos 7 ∷ pos 8 ∷ pos 3 ∷ [] = ended_all R (tiny_capacity 4 v) s t (front ∷ []) (tiny_items v) _ _ _ _ along ahead left behind whole _ finished fits in
+    let fits = (ended_fits R (tiny_capacity v) s t (front ∷ []) (tiny_items v) _ _ _ _ along ahead left behind whole _ finished).0 ok in
+    let list : tiny_items v ≡ pos 1 ∷ pos 7 ∷ pos 8 ∷ pos 3 ∷ [] = ended_all R (tiny_capacity v) s t (front ∷ []) (tiny_items v) _ _ _ _ along ahead left behind whole _ finished fits in
     let long : tiny_len v ≡ 4 = ap length list in
     let place : IsInline v = c.finish-finished.ensures.changes.place.1 (inside, omega (arith, long)) in
     let same = along.kept.same_reference in

@@ -5,16 +5,15 @@ use Rattle.tinyvec_script.specs.Script.{start, zeros, State, IsZero}
 use Rattle.tinyvec_array.specs.ArrayVec.{view as array_view, all_slots}
 use Rattle.tinyvec_array.specs.SliceVec.{view}
 use Rattle.tinyvec.specs.TinyVec.{tiny_view}
-use Rattle.tinyvec.specs.View.{Place, in_array, on_heap, lies_inline}
+use Rattle.tinyvec.specs.View.{Place, in_array, lies_inline}
 use Rattle.std.proofs.KnownBytes.{Appends-nil, Appends-trans, Consumes-nil, Consumes-trans, Consumes-kept}
 use Rattle.tinyvec_script.proofs.HistoryLemmas.{feeds_nothing, feeds_then, complete_lines, whole_script, chunk_longer}
 use Rattle.tinyvec_io.proofs.Pieces.{AppendsFront-then}
 use Rattle.tinyvec_script.proofs.Written.{reported_since}
 use Rattle.tinyvec_script.proofs.script.run.Goals as goal
 
-is_in_array : (p : Place) → IsTrue (lies_inline p) → p ≡ in_array
-is_in_array in_array h = refl
-is_in_array (on_heap n) h = absurd (let no = h in cc)
+is_in_array : (p : Place) (n : ℕ) → IsTrue (lies_inline p) → p.capacity ≡ n → p ≡ in_array n
+is_in_array p n inline room i = record { inline = inline i; capacity = room i }
 
 pub loop-piece-init : goal.loop-piece-init
 loop-piece-init g c =
@@ -25,9 +24,9 @@ loop-piece-init g c =
     let s_begins : view c.from_slice_len.result ≡ zeros = c.from_slice_len.ensures.value in
     let tiny = c.new-2 in
     let tiny_spare = defaults_are IsZero (pos 0) (λ x h. h) 4 _ tiny.ensures.spare in
-    let t_begins : tiny_view tiny.result ≡ start.t = λ t. record { items = tiny.ensures.items t; spare = tiny_spare t; place = is_in_array _ tiny.ensures.place t } in
+    let t_begins : tiny_view tiny.result ≡ start.t = λ t. record { items = tiny.ensures.items t; spare = tiny_spare t; place = is_in_array _ 4 tiny.ensures.place tiny.ensures.capacity t } in
     let text = c.new-3 in
-    let x_begins : text.result ≡ start.x = λ t. record { bytes = text.ensures.bytes t; place = is_in_array _ text.ensures.place t } in
+    let x_begins : text.result ≡ start.x = λ t. record { bytes = text.ensures.bytes t; place = is_in_array _ 4 text.ensures.place text.ensures.capacity t } in
     let state : State = record { a = array; s = view c.from_slice_len.result; t = tiny_view tiny.result; x = text.result } in
     let begins : state ≡ start = λ t. record { a = a_begins t; s = s_begins t; t = t_begins t; x = x_begins t } in
     record {

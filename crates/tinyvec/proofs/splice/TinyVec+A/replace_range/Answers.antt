@@ -36,4 +36,4 @@ returns-clause-same_room g c = (returns-clause-room g c).same_room
 
 pub returns-clause-slot_rule : goal.returns-clause-slot_rule
 returns-clause-slot_rule g c =
-    slots_after_room g.A.Item.Default.is_default _ _ _ (λ i. ap (tiny_view_of g.A.Slots) (c.in_ok-reserve.ensures.stays i)) c.replace_reserved.ensures.place c.replace_reserved.ensures.slot_rule
+    slots_after_room g.A.Item.Default.is_default _ (tiny_view_of g.A.Slots c.reserve.new.self) (tiny_view_of g.A.Slots c.replace_reserved.new.self) (λ i. ap (tiny_view_of g.A.Slots) (c.in_ok-reserve.ensures.stays i)) c.replace_reserved.ensures.place c.replace_reserved.ensures.slot_rule

@@ -50,7 +50,7 @@ returns-clause-capacity g c =
     let framed = tiny_framed-with g.A.Slots mid c.read_items.new.slots same in
     let few : c.len-start.result + c.min.result ≤ c.args.count = search rules in
     let grown = room-grown slots (c.len-start.result + c.min.result) c.args.count (tiny_view_of g.A.Slots c.args.v.now) (tiny_view_of g.A.Slots mid) c.resize_with.ensures.room.same_room c.in-Ok.ensures.room.grown few in
-    on_ok_weaker c.read_items.result (λ _. omega (arith, framed.capacity slots, grown)) c.read_items.ensures.ok
+    on_ok_weaker c.read_items.result (λ _. omega (arith, framed.capacity, grown)) c.read_items.ensures.ok
 
 pub returns-clause-fails : goal.returns-clause-fails
 returns-clause-fails g c =

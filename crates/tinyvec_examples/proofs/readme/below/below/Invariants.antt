@@ -7,6 +7,6 @@ abbrev pub invariant-loop-number : goal.invariant-loop-number
 invariant-loop-number l = record {
   so_far : tiny_items l.v ≡ filter (λ x. nat_lt x l.limit) (take l.number-index l.numbers);
   few : tiny_len l.v ≤ l.number-index;
-  room : 8 ≤ tiny_capacity 8 l.v;
+  room : 8 ≤ tiny_capacity l.v;
   inline : length l.numbers ≤ 8 → IsInline l.v;
 }

@@ -2,7 +2,7 @@ use Rattle.std.proofs.Common.{◌≡◌, ◌++◌, IsUtf8, ap, sym, subst, ◌�
 use Rattle.std.proofs.Math.Seq.{drop-nil}
 use Rattle.std.proofs.CharBoundary.{IsUtf8-three_parts}
 use Rattle.std.proofs.lemmas.Str.{IsUtf8-append, chars-append}
-use Rattle.tinyvec.specs.TinyVec.{tiny_items}
+use Rattle.tinyvec.specs.TinyVec.{tiny_items, tiny_view}
 use Rattle.tinyvec.specs.View.{Unchanged}
 use Rattle.tinyvec.proofs.TinyLemmas.{used_rule}
 use Rattle.tinyvec_slots.specs.Ranges.{range_start, range_end, removed}
@@ -52,7 +52,7 @@ invariant_of-self-2 g c =
     let part = (IsUtf8-three_parts bs utf8 _ _ cuts.order cuts.first cuts.last).1 in
     let told = c.in_ok-extend_from_within.ensures in
     let joined : tiny_items c.extend_from_within.new.self ≡ bs ++ removed bs start end = told.clones.if_clones_equal (λ x y h. h) in
-    text_kept list c.extend_from_within.new.self (λ i. (told.room.place.0 i).0) (used_rule (λ b. b ≡ 0) _ _ (omega (arith, ap length joined, length-append bs (removed bs start end))) told.room.spare) c.self.invariant
+    text_kept list c.extend_from_within.new.self (λ i. (told.room.place.0 i).0) (used_rule (λ b. b ≡ 0) (tiny_view list) (tiny_view c.extend_from_within.new.self) (omega (arith, ap length joined, length-append bs (removed bs start end))) told.room.spare) c.self.invariant
     (subst IsUtf8 (sym joined) (IsUtf8-append _ _ utf8 part))
 
 pub returns-clause-text : goal.returns-clause-text

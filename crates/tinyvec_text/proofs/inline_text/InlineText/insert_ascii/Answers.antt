@@ -2,7 +2,7 @@ use Rattle.std.proofs.Common.{◌≡◌, ◌++◌, ◌∷◌, [], IsUtf8, encode
 use Rattle.tinyvec_slots.proofs.Lists.{length-replaced}
 use Rattle.tinyvec.proofs.TinyLemmas.{used_rule}
 use Rattle.std.proofs.lemmas.Str.{IsUtf8-from_ascii, encode_ascii}
-use Rattle.tinyvec.specs.TinyVec.{tiny_items}
+use Rattle.tinyvec.specs.TinyVec.{tiny_items, tiny_view}
 use Rattle.tinyvec_text.proofs.Boundaries.{utf8_put, chars_put, chars_of_one}
 use Rattle.tinyvec_text.proofs.Lists.{text_utf8, text_cut, text_kept, text_same}
 use Rattle.tinyvec_text.proofs.inline_text.InlineText.insert_ascii.Goals as goal
@@ -23,7 +23,7 @@ invariant_of-self-2 g c =
     let ascii = IsUtf8-from_ascii (x ∷ []) (search rules) in
     let room = c.in_ok-put_byte.ensures.room in
     let is : tiny_items c.put_byte.new.list ≡ take i bs ++ x ∷ [] ++ drop i bs = search rules in
-    text_kept list c.put_byte.new.list (λ j. (room.place.0 j).0) (used_rule (λ b. b ≡ 0) _ _ (omega (arith, ap length is, length-replaced i i (x ∷ []) bs (le_refl i) cut.0)) room.spare) c.self.invariant
+    text_kept list c.put_byte.new.list (λ j. (room.place.0 j).0) (used_rule (λ b. b ≡ 0) (tiny_view list) (tiny_view c.put_byte.new.list) (omega (arith, ap length is, length-replaced i i (x ∷ []) bs (le_refl i) cut.0)) room.spare) c.self.invariant
     (subst IsUtf8 (sym is) (utf8_put bs (text_utf8 list c.self.invariant) i i cut cut (x ∷ []) ascii))
 
 pub returns-clause-text : goal.returns-clause-text

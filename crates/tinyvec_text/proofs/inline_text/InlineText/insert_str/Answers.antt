@@ -1,7 +1,7 @@
 use Rattle.std.proofs.Common.{◌≡◌, ◌++◌, IsUtf8, ap, sym, subst, ◌∙◌, chars, length, take, drop, le_refl, arith, rules}
 use Rattle.tinyvec_slots.proofs.Lists.{length-replaced}
 use Rattle.tinyvec.proofs.TinyLemmas.{used_rule}
-use Rattle.tinyvec.specs.TinyVec.{tiny_items}
+use Rattle.tinyvec.specs.TinyVec.{tiny_items, tiny_view}
 use Rattle.tinyvec_text.proofs.Boundaries.{utf8_put, chars_put}
 use Rattle.tinyvec_text.proofs.Lists.{text_utf8, text_cut, text_kept, text_same}
 use Rattle.tinyvec_text.proofs.inline_text.InlineText.insert_str.Goals as goal
@@ -21,7 +21,7 @@ invariant_of-self-2 g c =
     let put = c.as_bytes.result.now in
     let room = c.in_ok-put_bytes.ensures.room in
     let is : tiny_items c.put_bytes.new.list ≡ take i bs ++ put ++ drop i bs = search rules in
-    text_kept list c.put_bytes.new.list (λ j. (room.place.0 j).0) (used_rule (λ b. b ≡ 0) _ _ (omega (arith, ap length is, length-replaced i i put bs (le_refl i) cut.0)) room.spare) c.self.invariant
+    text_kept list c.put_bytes.new.list (λ j. (room.place.0 j).0) (used_rule (λ b. b ≡ 0) (tiny_view list) (tiny_view c.put_bytes.new.list) (omega (arith, ap length is, length-replaced i i put bs (le_refl i) cut.0)) room.spare) c.self.invariant
     (subst IsUtf8 (sym is) (utf8_put bs (text_utf8 list c.self.invariant) i i cut cut put c.as_bytes.ensures.utf8))
 
 pub returns-clause-text : goal.returns-clause-text

@@ -5,7 +5,10 @@ use Rattle.tinyvec_slots.specs.Slots.{items as listed, spare as left}
 use Rattle.tinyvec_slots.proofs.BorderLemmas.{list_to, spare_from}
 use Rattle.tinyvec_array.specs.ArrayVec.{items, items_len, spare}
 use Rattle.tinyvec_array.specs.CutLaws.{written_of}
+use Rattle.tinyvec_array.specs.Lends.{with_items_of}
+use Rattle.tinyvec_array.specs.SpliceLaws.{kept_count}
 use Rattle.tinyvec_array.proofs.Named.{array_slots}
+use Rattle.tinyvec_array.proofs.ViewLemmas.{parts_of}
 use Rattle.tinyvec_text.proofs.Moving.{inserted}
 use Rattle.tinyvec_text.proofs.inline_text.bytes.insert_inline.Goals as goal
 
@@ -26,16 +29,19 @@ returns g c =
     let behind : c.min.result ≡ items_len v - c.args.index = search rules in
     let written = written_of (array_slots g.row.N) mid ws long in
     record {
-      items = written.0 ∙ c.put_before.ensures ∙ inserted (items v) (take n (spare v)) xs seen c.args.index c.min.result c.requires.in_list behind grown;
-      spare =
-          written.1.1.0 ∙ ap (λ w. left w) c.set_len.ensures.value ∙ sym (drop-drop n len v.slots) ∙ ap (drop n) (spare_from v.len.len v.slots len at);
-      fits = omega (
-        arith,
-        ap length written.0,
-        long,
-        c.set_len.ensures.len,
-        at,
-        c.knows_slots.ensures,
-        c.requires.room,
-      );
+      gains = record {
+        items = written.0 ∙ c.put_before.ensures ∙ inserted (items v) (take n (spare v)) xs seen c.args.index c.min.result c.requires.in_list behind grown;
+        spare =
+            written.1.1.0 ∙ ap (λ w. left w) c.set_len.ensures.value ∙ sym (drop-drop n len v.slots) ∙ ap (drop n) (spare_from v.len.len v.slots len at);
+        fits = omega (
+          arith,
+          ap length written.0,
+          long,
+          c.set_len.ensures.len,
+          at,
+          parts_of (array_slots g.row.N) v,
+          c.requires.room,
+        );
+      };
+      slot_count = kept_count (array_slots g.row.N) mid (with_items_of (array_slots g.row.N) mid ws) written.1 ∙ c.set_len.ensures.lender.slot_count;
     }

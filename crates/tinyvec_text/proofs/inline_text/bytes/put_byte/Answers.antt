@@ -7,7 +7,7 @@ pub returns-in-Inline-clause-room : goal.returns-in-Inline-clause-room
 returns-in-Inline-clause-room g c =
     let v = c.in-Inline.v in
     let new = c.insert_inline.new.v in
-    let made = c.insert_inline.ensures in
+    let made = c.insert_inline.ensures.gains in
     let inside : c.args.index ≤ items_len v = search rules in
     let size : items_len new ≡ items_len v + 1 =
     ap length made.items ∙ length-replaced c.args.index c.args.index (c.args.byte ∷ []) (items v) (omega arith) inside ∙ omega (arith, inside) in

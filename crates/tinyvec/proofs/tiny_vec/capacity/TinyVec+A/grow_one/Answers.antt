@@ -1,8 +1,7 @@
 use Rattle.std.proofs.Common.{◌≡◌, Bool, true, false, if◌then◌else◌, arith, sym, ◌∙◌}
 use Rattle.std.proofs.lemmas.Bool.{false≢true, false_from_ne_true}
 use Rattle.std.proofs.lemmas.Result.{on_ok_weaker, on_err_weaker}
-use Rattle.tinyvec.proofs.TinyLemmas.{capacity_inline}
-use Rattle.tinyvec.specs.TinyVec.{tiny_view_of, is_inline}
+use Rattle.tinyvec.specs.TinyVec.{is_inline}
 use Rattle.tinyvec.proofs.tiny_vec.capacity.TinyVec+A.grow_one.Goals as goal
 
 either : {X : Type 0} (b : Bool) (x y z : X) → x ≡ z → y ≡ z → (if b then x else y) ≡ z
@@ -14,16 +13,15 @@ pub returns-clause-place : goal.returns-clause-place
 returns-clause-place g c =
     let full = c.requires in
     on_ok_weaker c.grow.result (λ rule. false_from_ne_true (is_inline c.grow.new.self) (λ j. let both = rule.0 j in
-    omega (arith, full, c.len-len.ensures.value, both.1, capacity_inline g.A.Array.CAPACITY (tiny_view_of g.A.Slots c.args.self.now) both.0))) c.grow.ensures.room.place
+    omega (arith, full, c.len-len.ensures.value, both.1))) c.grow.ensures.room.place
 
 pub returns-clause-room : goal.returns-clause-room
 returns-clause-room g c =
     let full = c.requires in
     let len = c.len-len.ensures in
-    let slots = g.A.Array.CAPACITY in
     let old = c.args.self.now in
     let grown = c.grow.ensures.room in record {
-      place = on_ok_weaker c.grow.result (λ out. (λ i. absurd (false≢true (sym out ∙ i)), λ h. absurd (omega (arith, full, h.1, capacity_inline slots (tiny_view_of g.A.Slots old) h.0))))
+      place = on_ok_weaker c.grow.result (λ out. (λ i. absurd (false≢true (sym out ∙ i)), λ h. absurd (omega (arith, full, h.1))))
           (returns-clause-place g c);
       spare = grown.spare;
       capacity = grown.capacity;

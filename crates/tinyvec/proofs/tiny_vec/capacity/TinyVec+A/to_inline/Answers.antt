@@ -3,6 +3,7 @@ use Rattle.std.proofs.lemmas.List.{length_push}
 use Rattle.std.proofs.lemmas.List.Elements.{All-drop}
 use Rattle.std.specs.Vec.Iter.{drain_items}
 use Rattle.tinyvec_array.specs.ArrayVec.{items_of, spare_of, len_of}
+use Rattle.tinyvec_array.proofs.ViewLemmas.{parts_of}
 use Rattle.tinyvec.proofs.tiny_vec.capacity.TinyVec+A.to_inline.Goals as goal
 
 pub loop-x-preserved : goal.loop-x-preserved
@@ -28,4 +29,4 @@ loop-x-preserved g c =
     }
 
 pub returns : goal.returns
-returns g c = search rules
+returns g c = search (rules, parts_of g.A.Slots c.loop-x.v)

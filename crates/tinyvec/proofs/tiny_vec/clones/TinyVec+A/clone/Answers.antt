@@ -32,6 +32,7 @@ returns-in-Inline-clause-copied g c =
       spare = rw c.in-Inline.is (spare_cloned g.A.Item.Clone.is_clone (view_of g.A.Slots c.in-Inline.v) (view_of g.A.Slots c.in_ok-copy-in-Inline.copy) made.items.len made.slots.each);
       place = sym (ap is_inline c.in-Inline.is);
       capacity = λ heap. absurd (false≢true (sym heap));
+      inline_capacity = λ _. rw c.in-Inline.is made.slots.len;
     }
 
 pub returns-in_err-copy : goal.returns-in_err-copy
@@ -73,4 +74,5 @@ returns-clause-copied g c =
       spare = rw c.in-Heap.is tt;
       place = sym (ap is_inline c.in-Heap.is);
       capacity = λ _. rw c.in-Heap.is (made.capacity ∙ c.in_ok-copy.ensures.exact ∙ c.len.ensures ∙ c.in-Heap.v.ok.0);
+      inline_capacity = λ inline. absurd (false≢true (sym (ap is_inline c.in-Heap.is) ∙ inline));
     }

@@ -40,15 +40,16 @@ returns-then-count-len g c =
     let least : c.len-count.result ≡ m = omega (arith, is_len.value, is_count, le) in
     let within : m ≤ length old.items = omega arith in
     let cut : left.items ≡ take m old.items = trimmed.items ∙ ap (λ n. take n old.items) least in
-    let granted = granted_before (view_inline old) slots (length xs) old new (put.frame.place ∙ trimmed.place) (put.frame.capacity slots ∙ trimmed.capacity) (omega (arith, is_len.value, is_len.fits, is_count, le)) in
+    let granted = granted_before (view_inline old) slots (length xs) old new (put.frame.place ∙ trimmed.place) (put.frame.capacity ∙ trimmed.capacity) (omega (arith, is_len.value, is_len.fits, is_count, le)) in
     let rule : TinySlotRule D old new = tiny_slots_then_framed D old left new trimmed.slot_rule put.frame in
-    let fits : view_len new ≤ view_capacity slots new = omega (arith, put.frame.len, put.frame.capacity slots, trimmed.fits) in record {
+    let fits : view_len new ≤ view_capacity new = omega (arith, put.frame.len, put.frame.capacity, trimmed.fits) in record {
       items = on_ok_weaker r (are_clones C xs new.items) (rw c.as_slice.ensures at put.ok);
       room = room_granted _ slots _ old new r granted fits (on_ok_weaker r (λ _ i j le. taken D old new le rule i j) put.ok);
       slot_rule = on_ok_weaker r (λ _. rule) put.ok;
       capacity = granted_no_less _ slots _ old new granted;
       same_room = granted.1;
       fits = fits;
+      inline_capacity = c.len-len.ensures.inline_capacity;
       succeeds = λ room all. put.succeeds (rw c.as_slice.ensures all);
       refused = on_err_weaker r (λ h.
           let below : h.0 < length xs = rw c.as_slice.ensures at h.1.0 in
@@ -74,6 +75,7 @@ returns-in_err-reserve g c =
       capacity = grown.capacity;
       same_room = λ fits. grown.same_room (omega (arith, fits));
       fits = grown.fits;
+      inline_capacity = c.len-len.ensures.inline_capacity;
       succeeds = λ fits _. absurd (false≢true (grown.succeeds (omega (arith, fits))));
       refused = on_err answer (inl (omega (arith, grown.full), grown.refused));
     }
@@ -108,13 +110,14 @@ returns-in_err-overwrite g c =
     let long : m ≡ length old.items = omega arith in
     let all : take m old.items ≡ old.items = take_all m old.items (omega arith) in
     let many : length old.items + (c.len-count.result - n) ≡ length xs = omega arith in
-    let granted = granted_then _ slots _ old new mid _ frame.place (frame.capacity slots) (rw many at c.in_ok-reserve.ensures.room) in record {
+    let granted = granted_then _ slots _ old new mid _ frame.place frame.capacity (rw many at c.in_ok-reserve.ensures.room) in record {
       items = never_ok _ answer err;
       room = never_ok _ answer err;
       slot_rule = never_ok _ answer err;
       capacity = granted_no_less _ slots _ old new granted;
       same_room = granted.1;
-      fits = omega (arith, c.reserve.ensures.room.fits, frame.len, frame.capacity slots);
+      fits = omega (arith, c.reserve.ensures.room.fits, frame.len, frame.capacity);
+      inline_capacity = c.len-len.ensures.inline_capacity;
       succeeds = λ fits sure. absurd (false≢true (c.in_err-overwrite.ensures.succeeds (rw c.as_slice-2.ensures (All-take I n xs sure))));
       refused = on_err answer (inr (
         granted,
@@ -136,7 +139,7 @@ extend_reserved-requires g c =
         length-drop n xs,
         ap length c.as_slice-3.ensures,
         frame.len,
-        frame.capacity g.A.Array.CAPACITY,
+        frame.capacity,
         c.in_ok-reserve.ensures.enough,
         ap length c.reserve.ensures.items,
         c.len-len.ensures.value,
@@ -171,7 +174,7 @@ returns g c =
     let others : take (length source - n) (drop n source) ≡ drop n xs =
     ap (λ l. take (length l - n) (drop n l)) c.as_slice-3.ensures ∙ take_all (length xs - n) (drop n xs) (omega (arith, length-drop n xs)) in
     let first : AllZip C (take n xs) over.items = rw c.as_slice-2.ensures at c.in_ok-overwrite.ensures.ok in
-    let granted = granted_then (view_inline old) slots (length xs) old new mid _ place (made.capacity ∙ frame.capacity slots) (rw many at c.in_ok-reserve.ensures.room) in
+    let granted = granted_then (view_inline old) slots (length xs) old new mid _ place (made.capacity ∙ frame.capacity) (rw many at c.in_ok-reserve.ensures.room) in
     let rule : OnOk r (TinySlotRule D old new) = on_ok_two r made.items made.spare (λ items spare.
     let long = appends_len C over.items new.items _ items in
     slots_after_room D old mid new stays place (slots_taken D mid new _ (omega (arith, long, frame.len)) (spare ∙ ap (drop _) frame.spare))) in record {
@@ -181,6 +184,7 @@ returns g c =
       capacity = granted_no_less _ slots _ old new granted;
       same_room = granted.1;
       fits = made.fits;
+      inline_capacity = c.len-len.ensures.inline_capacity;
       succeeds = λ fits all. let every : All I source = rw c.as_slice-3.ensures all in made.succeeds (All-take I (length source - n) (drop n source) (All-drop I n source every));
       refused = on_err_two r made.refused made.kept (λ h kept. inr (
         granted,

@@ -29,6 +29,7 @@ returns g c =
         writes_back = tt;
         value = c.index_mut.ensures.value ∙ ap (λ l. get_or l i y) put.items ∙ get_or-insert_at xs i x y in_list;
         succeeds = search rules;
+        inline_capacity = put.inline_capacity;
         succeeds_inline = search rules;
         full = tt;
         value_returned = tt;

@@ -27,6 +27,7 @@ returns g c =
         writes_back = tt;
         value = c.index_mut.ensures.value ∙ ap (λ l. get_or l i y) put.items ∙ get_or_at (tiny_items_of g.A.Slots old) x [] y i at;
         succeeds = search rules;
+        inline_capacity = put.inline_capacity;
         succeeds_inline = search rules;
         full = tt;
         value_returned = tt;

@@ -1,7 +1,6 @@
 use Rattle.tinyvec_array.specs.ArrayVec.{view_of}
 use Rattle.tinyvec.proofs.FrameLemmas.{inline_becomes}
 use Rattle.tinyvec.proofs.TinyLemmas.{slots_pushed}
-use Rattle.tinyvec_array.proofs.ViewLemmas.{still_fits}
 use Rattle.tinyvec.proofs.tiny_vec.edits.TinyVec+A.push_reserved.Goals as goal
 
 pub returns-in-Inline : goal.returns-in-Inline
@@ -12,4 +11,4 @@ returns-in-Inline g c =
     let new = c.push.new.self in
     let put = c.push.ensures in
     rw c.in-Inline.is (inline_becomes D g.A.Array.CAPACITY (view_of G v) (view_of G new) _ put.items
-    (slots_pushed D (view_of G v) (view_of G new) c.args.value put.items put.spare) (still_fits G v new _ c.knows_slots.ensures.parts put.lender))
+    (slots_pushed D (view_of G v) (view_of G new) c.args.value put.items put.spare) put.lender.slot_count)

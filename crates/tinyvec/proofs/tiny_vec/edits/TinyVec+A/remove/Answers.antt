@@ -1,5 +1,4 @@
 use Rattle.std.proofs.Common.{◌<◌}
-use Rattle.tinyvec_array.proofs.ViewLemmas.{still_fits}
 use Rattle.tinyvec.proofs.FrameLemmas.{inline_becomes}
 use Rattle.tinyvec.proofs.TinyLemmas.{slots_removed}
 use Rattle.tinyvec_array.specs.ArrayVec.{len_of, view_of}
@@ -11,4 +10,4 @@ returns-in-Inline-clause-becomes g c =
     let D = g.A.Item.Default.is_default in
     let in_list : c.args.index < len_of g.A.Slots c.in-Inline.v = rw c.in-Inline.is at c.requires in
     rw c.in-Inline.is (inline_becomes D g.A.Array.CAPACITY (view_of g.A.Slots c.in-Inline.v) (view_of g.A.Slots c.remove.new.self) _ taken.items
-    (slots_removed D (view_of g.A.Slots c.in-Inline.v) (view_of g.A.Slots c.remove.new.self) c.args.index in_list taken.items taken.spare) (still_fits g.A.Slots c.in-Inline.v c.remove.new.self _ c.knows_slots.ensures.parts taken.lender))
+    (slots_removed D (view_of g.A.Slots c.in-Inline.v) (view_of g.A.Slots c.remove.new.self) c.args.index in_list taken.items taken.spare) taken.lender.slot_count)

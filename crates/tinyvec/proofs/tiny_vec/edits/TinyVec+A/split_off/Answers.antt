@@ -3,8 +3,10 @@ use Rattle.std.proofs.lemmas.Bool.{false≢true}
 use Rattle.tinyvec_slots.specs.Slots.{AreDefaults}
 use Rattle.tinyvec_slots.proofs.SlotsLemmas.{slots_freed}
 use Rattle.tinyvec_array.specs.ArrayVec.{view_of, items_of, spare_of, len_of}
+use Rattle.tinyvec_array.proofs.ViewLemmas.{parts_of}
 use Rattle.tinyvec.proofs.FrameLemmas.{inline_becomes}
-use Rattle.tinyvec_array.proofs.ViewLemmas.{still_fits}
+use Rattle.tinyvec.proofs.TinyLemmas.{tiny_fits}
+use Rattle.tinyvec.specs.declared.tiny_vec.TinyVec.TheVariants.{Inline}
 use Rattle.tinyvec.proofs.tiny_vec.edits.TinyVec+A.split_off.Goals as goal
 
 pub returns-in-Inline-clause-becomes : goal.returns-in-Inline-clause-becomes
@@ -17,7 +19,7 @@ returns-in-Inline-clause-becomes g c =
     let in_list : c.args.at ≤ len_of G v = rw c.in-Inline.is at c.requires in
     rw c.in-Inline.is (inline_becomes D g.A.Array.CAPACITY (view_of G v) (view_of G new) _ cut.items
     (slots_freed D (view_of G v) (view_of G new) (len_of G v - c.args.at) (omega (arith, ap length cut.items, length-take c.args.at (items_of G v), in_list)) cut.spare)
-    (still_fits G v new _ c.knows_slots.ensures.parts cut.lender))
+    cut.lender.slot_count)
 
 pub returns-in-Inline-clause-tail : goal.returns-in-Inline-clause-tail
 returns-in-Inline-clause-tail g c =
@@ -27,5 +29,6 @@ returns-in-Inline-clause-tail g c =
       place = rw c.in-Inline.is refl;
       spare = λ _. subst (λ n. AreDefaults g.A.Item.Default.is_default (g.A.Array.CAPACITY - n) (spare_of g.A.Slots c.split_off.result)) (sym long) made.tail_spare;
       capacity = λ no. absurd (false≢true (sym no));
-      fits = omega (arith, c.knows_slots.ensures.parts, long);
+      inline_capacity = rw c.in-Inline.is (λ _ whole. omega (arith, parts_of g.A.Slots c.split_off.result, parts_of g.A.Slots c.in-Inline.v, made.tail_spare.0, long, whole));
+      fits = tiny_fits g.A.Slots (Inline c.split_off.result c.in-Inline.alloc);
     }

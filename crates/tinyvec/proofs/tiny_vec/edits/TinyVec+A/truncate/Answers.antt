@@ -1,7 +1,6 @@
 use Rattle.std.proofs.Common.{◌-◌, ap, arith, length, length-take}
 use Rattle.tinyvec_slots.proofs.SlotsLemmas.{slots_freed}
 use Rattle.tinyvec_array.specs.ArrayVec.{items_of, len_of, view_of}
-use Rattle.tinyvec_array.proofs.ViewLemmas.{still_fits}
 use Rattle.tinyvec.proofs.FrameLemmas.{inline_becomes}
 use Rattle.tinyvec.proofs.tiny_vec.edits.TinyVec+A.truncate.Goals as goal
 
@@ -14,4 +13,4 @@ returns-in-Inline g c =
     let n = c.args.new_len in
     rw c.in-Inline.is (inline_becomes D g.A.Array.CAPACITY (view_of g.A.Slots v) (view_of g.A.Slots new) _ cut.items
     (slots_freed D (view_of g.A.Slots v) (view_of g.A.Slots new) (len_of g.A.Slots v - n) (omega (arith, ap length cut.items, length-take n (items_of g.A.Slots v))) cut.spare)
-    (still_fits g.A.Slots v new _ c.knows_slots.ensures.parts cut.lender))
+    cut.lender.slot_count)

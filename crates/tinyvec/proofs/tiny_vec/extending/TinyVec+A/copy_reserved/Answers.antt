@@ -1,7 +1,6 @@
 use Rattle.std.proofs.Common.{ap, ◌∙◌, length, length-append}
 use Rattle.tinyvec_slots.proofs.SlotsLemmas.{slots_used}
 use Rattle.tinyvec_array.specs.ArrayVec.{items_of, view_of}
-use Rattle.tinyvec_array.proofs.ViewLemmas.{still_fits}
 use Rattle.tinyvec.proofs.FrameLemmas.{inline_becomes}
 use Rattle.tinyvec.proofs.tiny_vec.extending.TinyVec+A.copy_reserved.Goals as goal
 
@@ -14,4 +13,4 @@ returns-in-Inline g c =
     let more = c.args.other.now in
     rw c.in-Inline.is (inline_becomes D g.A.Array.CAPACITY (view_of g.A.Slots v) (view_of g.A.Slots new) _ put.items
     (slots_used D (view_of g.A.Slots v) (view_of g.A.Slots new) (length more) (ap length put.items ∙ length-append (items_of g.A.Slots v) more) put.spare)
-    (still_fits g.A.Slots v new _ c.knows_slots.ensures.parts put.lender))
+    put.lender.slot_count)

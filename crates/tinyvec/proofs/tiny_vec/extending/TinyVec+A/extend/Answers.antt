@@ -1,5 +1,5 @@
 use Rattle.tinyvec.proofs.FillingLemmas.{told_listed, told_known, can_go_on}
-use Rattle.tinyvec.specs.TinyVec.{tiny_items_of, tiny_len_of, tiny_capacity}
+use Rattle.tinyvec.specs.TinyVec.{tiny_items_of, tiny_len_of, tiny_capacity_of}
 use Rattle.tinyvec.proofs.tiny_vec.extending.TinyVec+A.extend.Goals as goal
 
 pub returns-clause-goes_on : goal.returns-clause-goes_on
@@ -21,5 +21,5 @@ returns-clause-items g c =
       ran = (it, ran.0, gives, ran.1, ran.2);
       listed = λ rest shows. (it, ran.0, gives, told_listed steps (λ e. e.item) (λ e. e.rest) r rest shows it ran.0 ran.1, ran.2);
       known = λ xs yields. told_known steps (λ e. e.item) (λ e. e.rest) r xs it (yields it gives) ran.0
-          (tiny_items_of g.A.Slots old) (tiny_items_of g.A.Slots new) (tiny_capacity slots old) (tiny_capacity slots new) ran.1 ran.2 made.grows.capacity made.fills.full;
+          (tiny_items_of g.A.Slots old) (tiny_items_of g.A.Slots new) (tiny_capacity_of g.A.Slots old) (tiny_capacity_of g.A.Slots new) ran.1 ran.2 made.grows.capacity made.fills.full;
     }

@@ -1,9 +1,9 @@
 use Rattle.std.proofs.Common.{◌≡◌, ◌+◌, ◌≤◌, length, refl, sym, ap, ◌∙◌, arith, vec_capacity}
-use Rattle.tinyvec_array.proofs.ViewLemmas.{still_fits}
+use Rattle.std.proofs.lemmas.Bool.{false≢true}
 use Rattle.tinyvec.proofs.ExtendingLemmas.{inline_clones, heap_clones, extended_in_room, extended_grown, extended_refused}
 use Rattle.tinyvec.proofs.tiny_vec.extending.TinyVec+A.extend_from_slice.Goals.{In_default, in_default-via-in-Inline+else-other-capacity, in_default-via-in-Heap+else-other-capacity-2}
-use Rattle.tinyvec.specs.TinyVec.{tiny_view_of}
-use Rattle.tinyvec_array.specs.ArrayVec.{len_of, spare_of, view_of}
+use Rattle.tinyvec.specs.TinyVec.{tiny_view_of, tiny_capacity_of, IsInline}
+use Rattle.tinyvec_array.specs.ArrayVec.{len_of, slots_of, view_of}
 use Rattle.tinyvec.proofs.tiny_vec.extending.TinyVec+A.extend_from_slice.Goals as goal
 
 pub extend_from_slice-requires : goal.extend_from_slice-requires
@@ -12,13 +12,12 @@ extend_from_slice-requires g c = record { room = omega (arith, c.if-other-capaci
 pub returns-in-Inline : goal.returns-in-Inline
 returns-in-Inline g c =
     let v = c.in-Inline.v in
-    let parts : len_of g.A.Slots v + length (spare_of g.A.Slots v) ≡ g.A.Array.CAPACITY = (rw c.in-Inline.is at c.knows_room.ensures.slot_count) refl in
-    let room : len_of g.A.Slots v + length c.args.other.now ≤ g.A.Array.CAPACITY =
-    omega (arith, c.if-other-capacity.true, c.capacity.ensures.parts, c.len.ensures.value, parts) in
+    let room : len_of g.A.Slots v + length c.args.other.now ≤ length (slots_of g.A.Slots v) =
+    omega (arith, c.if-other-capacity.true, c.capacity.ensures, c.len.ensures.value) in
     rw c.in-Inline.is
     (let made = extended_in_room g.A.Item.Clone _ _ _ _ _
-    (inline_clones g.A.Item.Clone _ _ _ (view_of g.A.Slots v) (view_of g.A.Slots c.extend_from_slice.new.self) c.extend_from_slice.ensures.clones (still_fits g.A.Slots v c.extend_from_slice.new.self _ parts c.extend_from_slice.ensures.lender)) room in
-    record { clones = made.clones; room = made.room; capacity = made.capacity; same_room = made.same_room; fits = made.fits; succeeds = made.succeeds; refused = made.refused })
+    (inline_clones g.A.Item.Clone _ _ _ (view_of g.A.Slots v) (view_of g.A.Slots c.extend_from_slice.new.self) c.extend_from_slice.ensures.clones c.extend_from_slice.ensures.lender.slot_count) room in
+    record { inline_capacity = λ _. g.met.A.Array.counted _ c.capacity.ensures.slot_count; clones = made.clones; room = made.room; capacity = made.capacity; same_room = made.same_room; fits = made.fits; succeeds = made.succeeds; refused = made.refused })
 
 pub push_many_clones-requires : goal.push_many_clones-requires
 push_many_clones-requires g c = record { room = omega arith }
@@ -30,20 +29,21 @@ returns-in-Heap g c =
     rw c.in-Heap.is
     (let made = extended_in_room g.A.Item.Clone _ _ _ _ _
     (heap_clones g.A.Item.Clone _ _ _ v c.push_many_clones.new.heap c.push_many_clones.ensures) room in
-    record { clones = made.clones; room = made.room; capacity = made.capacity; same_room = made.same_room; fits = made.fits; succeeds = made.succeeds; refused = made.refused })
+    record { inline_capacity = λ i. absurd (false≢true i); clones = made.clones; room = made.room; capacity = made.capacity; same_room = made.same_room; fits = made.fits; succeeds = made.succeeds; refused = made.refused })
 
 -- a list that had no room is as it was before it grows
-same : (g : _) (c : In_default g) → c.in_default.self ≡ c.args.self.now
-same g c = elim c.in_default.branch as (λ _. c.in_default.self ≡ c.args.self.now) [
-  | in_default-via-in-Inline+else-other-capacity w ↦ w.self-is ∙ sym w.in-Inline.is
-  | in_default-via-in-Heap+else-other-capacity-2 w ↦ w.self-is ∙ sym w.in-Heap.is
+before : (g : _) (c : In_default g) → (c.in_default.self ≡ c.args.self.now) × (IsInline c.args.self.now → tiny_capacity_of g.A.Slots c.args.self.now ≡ g.A.Array.CAPACITY)
+before g c = elim c.in_default.branch as (λ _. (c.in_default.self ≡ c.args.self.now) × (IsInline c.args.self.now → tiny_capacity_of g.A.Slots c.args.self.now ≡ g.A.Array.CAPACITY)) [
+  | in_default-via-in-Inline+else-other-capacity w ↦ (w.self-is ∙ sym w.in-Inline.is, rw w.in-Inline.is (λ _. g.met.A.Array.counted _ w.capacity.ensures.slot_count))
+  | in_default-via-in-Heap+else-other-capacity-2 w ↦ (w.self-is ∙ sym w.in-Heap.is, rw w.in-Heap.is (λ i. absurd (false≢true i)))
 ]
 
 pub returns-in_err-grow-in_default : goal.returns-in_err-grow-in_default
 returns-in_err-grow-in_default g c =
+    let known = before g (goal.at.returns-in_err-grow-in_default g c).In_default in
     let made = extended_refused g.A.Item.Clone _ _ _ (tiny_view_of g.A.Slots c.args.self.now) _ _ _ refl c.from_residual.ensures.0
-    (rw (same g (goal.at.returns-in_err-grow-in_default g c).In_default) at c.in_err-grow-in_default.ensures.room) in
-    record { clones = made.clones; room = made.room; capacity = made.capacity; same_room = made.same_room; fits = made.fits; succeeds = made.succeeds; refused = made.refused }
+    (rw known.0 at c.in_err-grow-in_default.ensures.room) in
+    record { inline_capacity = known.1; clones = made.clones; room = made.room; capacity = made.capacity; same_room = made.same_room; fits = made.fits; succeeds = made.succeeds; refused = made.refused }
 
 pub extend_reserved-requires : goal.extend_reserved-requires
 extend_reserved-requires g c = record { room = omega (arith, ap length c.grow.ensures.items, c.in_ok-grow-in_default.ensures.enough) }
@@ -51,8 +51,8 @@ extend_reserved-requires g c = record { room = omega (arith, ap length c.grow.en
 -- what grew has room
 pub returns-in_ok-grow-in_default : goal.returns-in_ok-grow-in_default
 returns-in_ok-grow-in_default g c =
-    let before = same g (goal.at.returns-in_ok-grow-in_default g c).In_default in
+    let known = before g (goal.at.returns-in_ok-grow-in_default g c).In_default in
     let grown = c.in_ok-grow-in_default.ensures in
     let made = extended_grown g.A.Item.Clone _ _ _ (tiny_view_of g.A.Slots c.args.self.now) _ _ _ _ refl
-    (rw before at grown.items) (λ i. ap (tiny_view_of g.A.Slots) ((rw before at grown.stays) i)) (rw before at grown.room) c.extend_reserved.ensures in
-    record { clones = made.clones; room = made.room; capacity = made.capacity; same_room = made.same_room; fits = made.fits; succeeds = made.succeeds; refused = made.refused }
+    (rw known.0 at grown.items) (λ i. ap (tiny_view_of g.A.Slots) ((rw known.0 at grown.stays) i)) (rw known.0 at grown.room) c.extend_reserved.ensures in
+    record { inline_capacity = known.1; clones = made.clones; room = made.room; capacity = made.capacity; same_room = made.same_room; fits = made.fits; succeeds = made.succeeds; refused = made.refused }

@@ -1,5 +1,5 @@
 use Rattle.std.proofs.Common.{arith}
-use Rattle.tinyvec_array.proofs.ViewLemmas.{still_fits}
+use Rattle.tinyvec_array.proofs.ViewLemmas.{parts_of}
 use Rattle.tinyvec.proofs.ExtendingLemmas.{inline_clones, heap_clones}
 use Rattle.tinyvec_array.specs.ArrayVec.{view_of}
 use Rattle.tinyvec.proofs.tiny_vec.extending.TinyVec+A.extend_reserved.Goals as goal
@@ -7,7 +7,7 @@ use Rattle.tinyvec.proofs.tiny_vec.extending.TinyVec+A.extend_reserved.Goals as 
 pub extend_from_slice-requires : goal.extend_from_slice-requires
 extend_from_slice-requires g c =
     let room = rw c.in-Inline.is at c.requires.room in
-    record { room = omega (arith, room, c.knows_slots.ensures.parts) }
+    record { room = omega (arith, room, parts_of g.A.Slots c.in-Inline.v) }
 
 pub push_many_clones-requires : goal.push_many_clones-requires
 push_many_clones-requires g c =
@@ -17,7 +17,7 @@ push_many_clones-requires g c =
 pub returns-in-Inline : goal.returns-in-Inline
 returns-in-Inline g c =
     rw c.in-Inline.is (inline_clones g.A.Item.Clone _ _ _ (view_of g.A.Slots c.in-Inline.v) (view_of g.A.Slots c.extend_from_slice.new.self)
-    c.extend_from_slice.ensures.clones (still_fits g.A.Slots c.in-Inline.v c.extend_from_slice.new.self _ c.knows_slots.ensures.parts c.extend_from_slice.ensures.lender))
+    c.extend_from_slice.ensures.clones c.extend_from_slice.ensures.lender.slot_count)
 
 pub returns-in-Heap : goal.returns-in-Heap
 returns-in-Heap g c = rw c.in-Heap.is (heap_clones g.A.Item.Clone _ _ _ c.in-Heap.v c.push_many_clones.new.heap c.push_many_clones.ensures)

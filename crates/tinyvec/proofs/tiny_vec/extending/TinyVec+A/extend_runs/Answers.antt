@@ -1,4 +1,4 @@
-use Rattle.std.proofs.Common.{◌≡◌, ◌≤◌, ◌+◌, ◌∷◌, ◌++◌, [], append_assoc, append-nil, Err, length, sym, ap, subst, ◌∙◌, arith, rules}
+use Rattle.std.proofs.Common.{◌≡◌, ◌≤◌, ◌+◌, ◌∷◌, ◌++◌, [], append_assoc, append-nil, Err, length, inl, inr, refl, sym, ap, subst, ◌∙◌, arith, rules}
 use Rattle.std.proofs.iter.Next.{Yields-more}
 use Rattle.std.proofs.lemmas.List.{length_push}
 use Rattle.std.specs.Iterator.{Yields}
@@ -8,9 +8,9 @@ use Rattle.tinyvec.specs.Following.{FillsRoom}
 use Rattle.tinyvec.specs.SpliceLaws.{stays_grows}
 use Rattle.tinyvec.proofs.FillingLemmas.{runs_on, no_fewer}
 use Rattle.tinyvec.proofs.FrameLemmas.{stays_same, grows_stays, grows_pushed}
-use Rattle.tinyvec.proofs.TinyLemmas.{view_unchanged}
+use Rattle.tinyvec.proofs.TinyLemmas.{view_unchanged, tiny_fits}
 use Rattle.tinyvec.proofs.tiny_vec.extending.TinyVec+A.extend_runs.Goals.{After-fill_room, In-Err}
-use Rattle.tinyvec.specs.TinyVec.{tiny_items_of, tiny_len_of, tiny_view_of, tiny_capacity}
+use Rattle.tinyvec.specs.TinyVec.{tiny_items_of, tiny_len_of, tiny_view_of, tiny_capacity_of, IsInline}
 use Rattle.tinyvec.proofs.tiny_vec.extending.TinyVec+A.extend_runs.Goals as goal
 
 pub loop-item-init : goal.loop-item-init
@@ -18,7 +18,7 @@ loop-item-init g c =
     let D = g.A.Item.Default.is_default in
     let slots = g.A.Array.CAPACITY in
     let v = tiny_view_of g.A.Slots c.args.self.now in
-    let fits : view_len v ≤ view_capacity slots v = c.knows_room.ensures.fits in
+    let fits : view_len v ≤ view_capacity v = tiny_fits g.A.Slots c.args.self.now in
     let none : Yields g.I.Iterator.next_gives c.args.iter [] c.args.iter = search rules in record {
       can = c.requires.0;
       finite = c.requires.1;
@@ -26,7 +26,21 @@ loop-item-init g c =
       no_longer = omega arith;
       longer = omega arith;
       grows = stays_grows D slots v v (stays_same D slots v fits) fits;
+      inline_capacity = inl refl;
     }
+
+-- the first run tells how many slots an array has
+known : (g : _) (c : After-fill_room g) → IsInline c.args.self.now → tiny_capacity_of g.A.Slots c.args.self.now ≡ g.A.Array.CAPACITY
+known g c i = elim c.loop-item.invariant.inline_capacity [
+  | inl same ↦ (rw same at c.fill_room.ensures.inline_capacity) i
+  | inr h ↦ h i
+]
+
+pub returns-in-Ok-clause-inline_capacity : goal.returns-in-Ok-clause-inline_capacity
+returns-in-Ok-clause-inline_capacity g c = known g (goal.at.returns-in-Ok-clause-inline_capacity g c).After-fill_room
+
+pub returns-in-Err-push-clause-inline_capacity : goal.returns-in-Err-push-clause-inline_capacity
+returns-in-Err-push-clause-inline_capacity g c = known g (goal.at.returns-in-Err-push-clause-inline_capacity g c).After-fill_room
 
 pub returns-in-Ok-clause-fills : goal.returns-in-Ok-clause-fills
 returns-in-Ok-clause-fills g c =
@@ -46,7 +60,7 @@ pub returns-in-Ok-clause-grows : goal.returns-in-Ok-clause-grows
 returns-in-Ok-clause-grows g c = filled g (goal.at.returns-in-Ok-clause-grows g c).After-fill_room
 
 -- what was placed before an item found no room
-refused : (g : _) (c : In-Err g) → FillsRoom {X = Unit} g.I.Iterator c.args.iter (tiny_capacity g.A.Array.CAPACITY c.fill_room.new.self) (Err c.in-Err.field-0) (tiny_items_of g.A.Slots c.args.self.now) (tiny_items_of g.A.Slots c.fill_room.new.self)
+refused : (g : _) (c : In-Err g) → FillsRoom {X = Unit} g.I.Iterator c.args.iter (tiny_capacity_of g.A.Slots c.fill_room.new.self) (Err c.in-Err.field-0) (tiny_items_of g.A.Slots c.args.self.now) (tiny_items_of g.A.Slots c.fill_room.new.self)
 refused g c =
     let at = c.loop-item in
     let placed = at.invariant.ran in
@@ -75,13 +89,14 @@ loop-item-preserved g c =
       longer = omega (arith, long, one);
       grows = grows_pushed g.A.Item.Default.is_default g.A.Array.CAPACITY (tiny_view_of g.A.Slots c.args.self.now) (tiny_view_of g.A.Slots mid) (tiny_view_of g.A.Slots new) _ long one run.full
           (filled g (goal.at.loop-item-preserved g c).After-fill_room) made.room;
+      inline_capacity = inr (known g (goal.at.loop-item-preserved g c).After-fill_room);
     }
 
 pub returns-in-Err-push-clause-fills : goal.returns-in-Err-push-clause-fills
 returns-in-Err-push-clause-fills g c =
     let refusal = c.in-Err-push.ensures in
     let same = refusal.room.refused in
-    rw (same.items, same.capacity g.A.Array.CAPACITY, refusal.value_returned) (refused g (goal.at.returns-in-Err-push-clause-fills g c).In-Err)
+    rw (same.items, same.capacity, refusal.value_returned) (refused g (goal.at.returns-in-Err-push-clause-fills g c).In-Err)
 
 pub returns-in-Err-push-clause-grows : goal.returns-in-Err-push-clause-grows
 returns-in-Err-push-clause-grows g c =

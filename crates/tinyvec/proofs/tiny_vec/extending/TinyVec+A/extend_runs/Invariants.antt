@@ -1,7 +1,7 @@
-use Rattle.std.proofs.Common.{◌≡◌, ◌+◌, ◌≤◌, ◌++◌, List}
+use Rattle.std.proofs.Common.{◌≡◌, ◌+◌, ◌≤◌, ◌++◌, ◌⊎◌, List}
 use Rattle.std.specs.Iterator.{Yields, IsFinite, size}
 use Rattle.tinyvec.specs.Room.{Grows}
-use Rattle.tinyvec.specs.TinyVec.{tiny_items_of, tiny_len_of, tiny_view_of}
+use Rattle.tinyvec.specs.TinyVec.{tiny_items_of, tiny_len_of, tiny_view_of, tiny_capacity_of, IsInline}
 use Rattle.tinyvec.proofs.tiny_vec.extending.TinyVec+A.extend_runs.Given as goal
 
 abbrev pub invariant-loop-item : goal.invariant-loop-item
@@ -13,6 +13,7 @@ invariant-loop-item g l = record {
   no_longer : tiny_len_of g.A.Slots l.self + size (g.I.Iterator.remaining l.items) ≤ tiny_len_of g.A.Slots l.initial.self + size (g.I.Iterator.remaining l.initial.items);
   longer : tiny_len_of g.A.Slots l.initial.self ≤ tiny_len_of g.A.Slots l.self;
   grows : Grows g.A.Item.Default.is_default g.A.Array.CAPACITY (tiny_view_of g.A.Slots l.initial.self) (tiny_view_of g.A.Slots l.self);
+  inline_capacity : (l.self ≡ l.initial.self) ⊎ (IsInline l.initial.self → tiny_capacity_of g.A.Slots l.initial.self ≡ g.A.Array.CAPACITY);
 }
 
 abbrev pub decreases-loop-item : goal.decreases-loop-item

@@ -1,17 +1,16 @@
-use Rattle.std.proofs.Common.{◌≡◌, ◌≤◌, ◌+◌, ◌-◌, replicate, take, take_all, sym, subst, arith}
+use Rattle.std.proofs.Common.{◌≡◌, ◌≤◌, ◌+◌, ◌-◌, length, replicate, take, take_all, sym, subst, arith}
 use Rattle.std.proofs.lemmas.List.{length-replicate, take-replicate}
 use Rattle.std.proofs.lemmas.Result.{on_ok_weaker, on_err_weaker}
 use Rattle.tinyvec_slots.specs.Clones.{ClonesOver}
 use Rattle.tinyvec.proofs.CloneLemmas.{copy_refused, none_refused}
-use Rattle.tinyvec_array.proofs.ViewLemmas.{still_fits}
 use Rattle.tinyvec.proofs.ExtendingLemmas.{inline_clones, heap_clones}
-use Rattle.tinyvec_array.specs.ArrayVec.{items_of, spare_of, len_of, view_of}
+use Rattle.tinyvec_array.specs.ArrayVec.{items_of, spare_of, slots_of, len_of, view_of}
 use Rattle.tinyvec.proofs.tiny_vec.extending.TinyVec+A.fill_reserved.Goals as goal
 
 pub resize-requires : goal.resize-requires
 resize-requires g c =
-    let room : len_of g.A.Slots c.in-Inline.v + c.args.n ≤ g.A.Array.CAPACITY = rw c.in-Inline.is at c.requires.room in
-    record { room = omega (arith, c.len.ensures.value, c.knows_slots.ensures.slots, room) }
+    let room : len_of g.A.Slots c.in-Inline.v + c.args.n ≤ length (slots_of g.A.Slots c.in-Inline.v) = rw c.in-Inline.is at c.requires.room in
+    record { room = omega (arith, c.len.ensures.value, g.met.A.Array.counted _ c.len.ensures.slot_count, room) }
 
 pub returns-in-Inline-clause-clones : goal.returns-in-Inline-clause-clones
 returns-in-Inline-clause-clones g c =
@@ -41,7 +40,7 @@ returns-in-Inline-clause-clones g c =
       succeeds = none_refused g.A.Item.Clone.is_infallible (replicate c.args.n x) r
           (on_err_weaker r (λ h. (h.0, copy_refused g.A.Item.Clone.is_infallible c.args.n h.0 x h.1 h.2)) refused);
     })
-    (still_fits G v new _ c.knows_slots.ensures.parts c.resize.ensures.lender))
+    c.resize.ensures.lender.slot_count)
 
 pub returns-in-Ok-clause-clones : goal.returns-in-Ok-clause-clones
 returns-in-Ok-clause-clones g c =

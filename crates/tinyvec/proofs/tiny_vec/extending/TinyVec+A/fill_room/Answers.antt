@@ -14,7 +14,7 @@ returns-in-Inline-clause-frame g c =
     let filled = c.fill_array.ensures in
     let more = no_fewer (items_of G v) (items_of G new) filled.fills in
     rw c.in-Inline.is (inline_becomes D g.A.Array.CAPACITY (view_of G v) (view_of G new) _ refl
-    (slots_used D (view_of G v) (view_of G new) (len_of G new - len_of G v) (omega (arith, more)) filled.grows.spare) filled.fits)
+    (slots_used D (view_of G v) (view_of G new) (len_of G new - len_of G v) (omega (arith, more)) filled.grows.spare) filled.grows.lender.slot_count)
 
 pub returns-in-Heap-clause-frame : goal.returns-in-Heap-clause-frame
 returns-in-Heap-clause-frame g c =

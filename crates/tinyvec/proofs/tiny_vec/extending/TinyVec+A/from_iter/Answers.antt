@@ -22,9 +22,9 @@ returns-in-Ok-clause-known g c = λ xs yields.
 pub returns-in-Ok-clause-collected : goal.returns-in-Ok-clause-collected
 returns-in-Ok-clause-collected g c =
     let made = c.new-vec.ensures in
-    collected g.A.Item.Default.is_default g.A.Array.CAPACITY (tiny_view_of g.A.Slots c.new-vec.result) _ (record { items = made.items; spare = made.spare; place = made.place }) c.in-Ok.ensures.grows
+    collected g.A.Item.Default.is_default g.A.Array.CAPACITY (tiny_view_of g.A.Slots c.new-vec.result) _ (record { items = made.items; spare = made.spare; place = made.place; capacity = made.capacity }) c.in-Ok.ensures.grows
 
 pub returns-in-Err-clause-collected_so_far : goal.returns-in-Err-clause-collected_so_far
 returns-in-Err-clause-collected_so_far g c =
     let made = c.new-vec.ensures in
-    collected g.A.Item.Default.is_default g.A.Array.CAPACITY (tiny_view_of g.A.Slots c.new-vec.result) _ (record { items = made.items; spare = made.spare; place = made.place }) c.in-Err.ensures.grows
+    collected g.A.Item.Default.is_default g.A.Array.CAPACITY (tiny_view_of g.A.Slots c.new-vec.result) _ (record { items = made.items; spare = made.spare; place = made.place; capacity = made.capacity }) c.in-Err.ensures.grows

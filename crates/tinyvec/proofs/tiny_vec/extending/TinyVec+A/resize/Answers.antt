@@ -40,7 +40,7 @@ returns g c =
       len = on_ok_weaker r (λ h. omega (arith, appends_len C olds news xs h, need)) made.clones.items;
       if_clones_equal = on_ok_weaker r (λ h rule. h.1 ∙ ap (λ l. take c.args.new_len olds ++ l) (same_from_all_zip C xs h.0 h.2 rule)) items;
       room = room;
-      slot_rule = on_ok_two r room made.clones.items (λ h added. used_rule g.A.Item.Default.is_default _ _ (omega (arith, appends_len C olds news xs added)) h.spare);
+      slot_rule = on_ok_two r room made.clones.items (λ h added. used_rule g.A.Item.Default.is_default (tiny_view_of g.A.Slots old) (tiny_view_of g.A.Slots new) (omega (arith, appends_len C olds news xs added)) h.spare);
       capacity = made.capacity;
       same_room = rw need at made.same_room;
       fits = made.fits;
@@ -49,5 +49,6 @@ returns g c =
       succeeds = λ _ sure. put.succeeds (All-replicate g.A.Item.Clone.is_infallible n x sure);
       value_returned = c.fill_reserved.ensures.value_returned;
       kept = made.clones.kept;
+      inline_capacity = c.len-len.ensures.inline_capacity;
       refused = on_err_weaker r (copies_refused g.A.Item.Clone slots n (max c.args.new_len (tiny_len_of g.A.Slots old)) x (tiny_view_of g.A.Slots old) (tiny_view_of g.A.Slots new) (omega (arith, len, longer))) made.refused;
     }

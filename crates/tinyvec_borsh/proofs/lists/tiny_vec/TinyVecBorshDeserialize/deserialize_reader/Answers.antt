@@ -53,7 +53,7 @@ loop-alloc-preserved g c =
       read = read-appended g.A.Item.BorshForm.Spells g.A.Item.BorshForm.Fits g.A.Item.BorshForm.content_of _ _ t.0 _ _ _ _ t.1 c.loop-alloc.invariant.read t.5 t.4;
       few = t.3;
       spare = spare-longer g.A.Item.Default.is_default g.A.Array.CAPACITY (tiny_view_of g.A.Slots c.loop-alloc.v) (tiny_view_of g.A.Slots c.read_more.new.v) (omega (arith, ap length t.1, length-append (tiny_items_of g.A.Slots c.loop-alloc.v) t.0)) c.in_ok-read_more.ensures.place c.in_ok-read_more.ensures.slot_rule c.loop-alloc.invariant.spare;
-      place = placed-longer g.A.Array.CAPACITY _ (tiny_view_of g.A.Slots c.loop-alloc.v) (tiny_view_of g.A.Slots c.read_more.new.v) t.3 c.in_ok-read_more.ensures.place c.loop-alloc.invariant.place;
+      place = placed-longer g.A.Array.CAPACITY _ (tiny_view_of g.A.Slots c.loop-alloc.v) (tiny_view_of g.A.Slots c.read_more.new.v) t.3 c.in_ok-read_more.ensures.place c.len.ensures.inline_capacity c.loop-alloc.invariant.place;
       room = omega (arith, c.in_ok-read_more.ensures.capacity, c.loop-alloc.invariant.room);
       grows = omega arith;
       failed = c.in_ok-read_more.ensures.fails.failed.exact ∙ c.loop-alloc.invariant.failed;
@@ -65,4 +65,4 @@ returns-in_err-read_more-clause-fails g c =
     let long = length-map (tiny_items_of g.A.Slots c.loop-alloc.v) g.A.Item.BorshForm.content_of in
     rw (p.1, p.2) (fails-wanting g.A.Item.BorshForm.Spells g.A.Item.BorshForm.Fits g.A.Item.BorshDeserialize.Reason g.met.A.Item.BorshDeserialize.apart.front_is_cut g.A.Array.CAPACITY (2 ^ 64 - 1) c.in_ok-count.count _
     _ _ c.loop-alloc.invariant.read (omega (arith, long, c.loop-alloc.invariant.few)) (omega (arith, long, c.loop-alloc.invariant.few, c.in_ok-count.ensures.valid)) c.loop-alloc.invariant.grows c.loop-alloc.invariant.failed
-    (λ wanting. wanting-above g.A.Array.CAPACITY c.in_ok-count.count (tiny_view_of g.A.Slots c.loop-alloc.v) wanting c.loop-alloc.invariant.place) c.in_err-read_more.ensures.fails)
+    (λ wanting. wanting-above g.A.Array.CAPACITY c.in_ok-count.count (tiny_view_of g.A.Slots c.loop-alloc.v) wanting c.len.ensures.inline_capacity c.loop-alloc.invariant.place) c.in_err-read_more.ensures.fails)

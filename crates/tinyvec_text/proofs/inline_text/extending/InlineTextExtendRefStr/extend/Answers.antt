@@ -1,9 +1,9 @@
-use Rattle.std.proofs.Common.{◌+◌, ◌<◌, length, length-append, ap, sym, subst, ◌∙◌, arith, rules}
+use Rattle.std.proofs.Common.{◌≡◌, ◌+◌, ◌<◌, length, length-append, ap, sym, subst, ◌∙◌, arith, rules}
 use Rattle.std.proofs.lemmas.Grind.{common_steps}
 use Rattle.std.specs.List.{flat_map}
 use Rattle.tinyvec.specs.View.{capacity_in, lies_inline}
 use Rattle.tinyvec_text.specs.InlineText.{text_len}
-use Rattle.tinyvec_text.proofs.Extending.{made_place, no_more, pushed_place}
+use Rattle.tinyvec_text.proofs.Extending.{made_place, no_more, placed_further, pushed_place}
 use Rattle.tinyvec_text.proofs.Lists.{text_unchanged}
 use Rattle.tinyvec_slots.proofs.CloneLemmas.{on_err}
 use Rattle.tinyvec_text.proofs.inline_text.extending.InlineTextExtendRefStr.extend.Goals as goal
@@ -30,7 +30,7 @@ returns-in_err-push_str-clause-full g c =
       c.into_iter-rest.ensures.into_iter_gives,
       (at.rest, at.yielded_by, c.in-Some.ensures.steps),
       ap (λ t. t.bytes) kept ∙ at.invariant.bytes,
-      subst (λ t. capacity_in g.row.N t.place < text_len t + length c.in-Some.s.now) (sym kept) c.in_err-push_str.ensures.room.full,
+      subst (λ t. capacity_in t.place < text_len t + length c.in-Some.s.now) (sym kept) c.in_err-push_str.ensures.room.full,
     )
 
 pub loop-s-preserved : goal.loop-s-preserved
@@ -38,6 +38,7 @@ loop-s-preserved g c =
     let at = c.loop-s in
     let len = ap length at.invariant.bytes ∙ length-append c.args.self.now.bytes (flat_map (λ x. x.now) at.yielded) in
     let room = c.in_ok-push_str.ensures.room in
+    let size : text_len c.push_str.new.self ≡ text_len at.self + length c.in-Some.s.now = grind (arith, common_steps) in
     record {
       can = search rules;
       ends = search rules;
@@ -45,11 +46,12 @@ loop-s-preserved g c =
       place = pushed_place (λ place x. lies_inline place) (λ x. x.now) g.row.N _ _ _ _ _ at.yielded c.in-Some.s at.invariant.place (omega (arith, len)) (made_place _ g.row.N _ _ _ room.place room.same_room room.grown);
       grows = record {
         longer = grind (arith, common_steps);
-        place = grind (arith, common_steps);
+        place = placed_further g.row.N _ c.args.self.now at.self c.push_str.new.self size (omega arith) at.invariant.grows room.place;
         capacity = grind (arith, common_steps);
         same_room = grind (arith, common_steps);
         grown = grind (arith, common_steps);
         doubled = grind (arith, common_steps);
         fits = grind (arith, common_steps);
+        inline_capacity = at.invariant.grows.inline_capacity;
       };
     }
