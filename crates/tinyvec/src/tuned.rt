@@ -200,7 +200,34 @@ pub(crate) fn push_clones_of<T: Clone>(heap: &mut Vec<T>, n: usize, x: &T) -> Re
 }
 
 // Appends copies of `from`, if there is room. `Vec::extend_from_slice` does not say that a capacity which suffices stays.
+#[inline(always)]
 pub(crate) fn push_copies<T: Copy>(heap: &mut Vec<T>, from: &[T])
+    requires room { vec_len heap.old + length from.now ≤ vec_capacity heap.old }
+    ensures { HeapBecomes heap.old heap.new (heap.old.items ++ from.now) }
+{
+    if 512 <= from.len() {
+        return push_many_copies::<T, 512>(heap, from);
+    }
+    push_few_copies(heap, from);
+}
+
+// `push_copies`, in blocks of N while N items are left, each of which LLVM moves by one `memcpy`. Not inlined, since a block is
+// on the stack.
+#[inline(never)]
+fn push_many_copies<T: Copy, const N: usize>(heap: &mut Vec<T>, from: &[T])
+    requires some { 0 < N }
+    requires room { vec_len heap.old + length from.now ≤ vec_capacity heap.old }
+    ensures { HeapBecomes heap.old heap.new (heap.old.items ++ from.now) }
+{
+    let mut vec = mem::replace(heap, Vec::new(*heap.allocator()));
+    let done = push_blocks::<T, N>(&mut vec, from);
+    *heap = vec;
+    push_few_copies(heap, &from[done..]);
+}
+
+// `push_copies`, in blocks of 16 and of 4.
+#[inline(always)]
+fn push_few_copies<T: Copy>(heap: &mut Vec<T>, from: &[T])
     requires room { vec_len heap.old + length from.now ≤ vec_capacity heap.old }
     ensures { HeapBecomes heap.old heap.new (heap.old.items ++ from.now) }
 {

@@ -236,9 +236,7 @@ impl<A: Array> TinyVec<A> {
         ensures refused { OnErr result (self.new ≡ self.old) }
     {
         match self {
-            TinyVec::Inline(v, alloc) => {
-                Ok(TinyVec::Inline(v.split_off(at), *alloc))
-            }
+            TinyVec::Inline(v, alloc) => { Ok(TinyVec::Inline(v.split_off(at), *alloc)) }
             TinyVec::Heap(v) => {
                 let mut back = TinyVec::Heap(Vec::with_capacity(*v.allocator(), v.len() - at)?);
                 back.append_slots(&mut v.as_mut_slice()[at..]);

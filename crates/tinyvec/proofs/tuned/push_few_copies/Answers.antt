@@ -1,7 +1,7 @@
 use Rattle.std.proofs.Common.{◌++◌, take, drop, length, ◌-◌, ap, sym, ◌∙◌, vec_len, vec_capacity, ◌∷◌, [], arith, take_all, length-append, length-drop, length-take}
 use Rattle.std.proofs.lemmas.List.{take_more, append_assoc}
 use Rattle.tinyvec.proofs.CloneLemmas.{appended_further}
-use Rattle.tinyvec.proofs.tuned.push_copies.Goals as goal
+use Rattle.tinyvec.proofs.tuned.push_few_copies.Goals as goal
 
 pub push_blocks-requires-clause-room : goal.push_blocks-requires-clause-room
 push_blocks-requires-clause-room g c =
