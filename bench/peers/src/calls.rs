@@ -3,6 +3,7 @@
 use crate::comparing::{compare, equal, hash};
 use crate::number::Number;
 use crate::report::Report;
+use crate::spilling::look_at as look_at_numbers;
 use crate::texts::look_at;
 use crate::vector::Vector;
 use std::cmp::Ordering;
@@ -176,7 +177,7 @@ macro_rules! row {
         $report.row("split_off", $n, |x| {
             $refill($vec, $source);
             let tail = $vec.split_off($vec.len() / 2);
-            x.wrapping_add(tail.len() as u64)
+            look_at_numbers(&tail[..], x)
         });
     };
     (resize, $report:ident, $n:ident, $vec:ident, $other:ident, $source:ident, $refill:expr) => {

@@ -1,5 +1,6 @@
 //! The benchmarks of a vector over a lent slice, which `tinyvec` alone has.
 
+use crate::spilling::look_at;
 use tinyvec::SliceVec;
 
 /// Pushes until the slice is full.
@@ -78,7 +79,7 @@ pub fn slice_split_off(slots: &mut [u64], x: u64) -> u64 {
     let len = slots.len();
     let mut vec = SliceVec::from_slice_len(slots, len);
     let tail = vec.split_off(len / 2);
-    x.wrapping_add(tail.len() as u64)
+    look_at(tail.as_slice(), x)
 }
 
 /// Makes an empty list as long as the slice.

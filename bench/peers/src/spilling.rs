@@ -101,7 +101,7 @@ fn filled<V: Growing<u64, N>, const N: usize>(source: &[u64; N]) -> V {
 }
 
 // How many items there are, one of them and `x`, added up.
-fn look_at(items: &[u64], x: u64) -> u64 {
+pub fn look_at(items: &[u64], x: u64) -> u64 {
     let item = items.get((x % 64) as usize).map_or(0, |y| *y);
     x.wrapping_add(item).wrapping_add(items.len() as u64)
 }

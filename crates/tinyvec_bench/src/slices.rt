@@ -6,6 +6,7 @@ use crate::looks::looks_at;
 use crate::number::is_odd;
 use crate::report::{Bench, Report, run};
 use crate::sources::{higher_at, pairs, scattered};
+use crate::spilling::look_at;
 use tinyvec_array::SliceVec;
 
 /// What is done with the slice.
@@ -172,7 +173,7 @@ fn slice_split_off(slots: &mut [u64], x: u64) -> u64 {
     let len = slots.len();
     let mut vec = SliceVec::from_slice_len(slots, len);
     let tail = vec.split_off(len / 2);
-    x.wrapping_add(tail.len() as u64)
+    look_at(tail.as_slice(), x)
 }
 
 // Makes an empty list as long as the slice.

@@ -10,6 +10,7 @@ use crate::number::{is_odd_mut, last};
 use crate::prints::{PrintBench, prints};
 use crate::report::{Bench, Report};
 use crate::sources::pairs;
+use crate::spilling::look_at;
 use std::alloc::Global;
 use tinyvec_array::{ArrayVec, SliceVec, TakesClones};
 
@@ -167,7 +168,7 @@ impl<const N: usize> Bench<Whole> for CallBench<'_, ArrayVec<[u64; N]>> {
                 refill(vec, self.source);
                 let half = vec.len() / 2;
                 let tail = vec.split_off(half);
-                return x.wrapping_add(tail.len() as u64);
+                return look_at(tail.as_slice(), x);
             }
             Whole::Resize => {
                 vec.set_len(0);

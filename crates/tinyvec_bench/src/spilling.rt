@@ -296,8 +296,8 @@ fn filled<const N: usize>(
     Ok(vec)
 }
 
-// How many items there are, one of them and `x`, added up.
-fn look_at(items: &[u64], x: u64) -> u64 {
+/// How many items there are, one of them and `x`, added up.
+pub fn look_at(items: &[u64], x: u64) -> u64 {
     let item = match items.get((x % 64) as usize) {
         Some(y) => *y,
         None => 0,

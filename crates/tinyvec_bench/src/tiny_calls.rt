@@ -9,6 +9,7 @@ use crate::looks::compared;
 use crate::number::{is_odd_mut, last};
 use crate::prints::{PrintBench, prints};
 use crate::report::{Bench, Report};
+use crate::spilling::look_at;
 use std::alloc::Global;
 use tinyvec::TinyVec;
 
@@ -75,7 +76,7 @@ impl<const N: usize> Bench<Whole> for CallBench<'_, TinyVec<[u64; N]>> {
                 let Ok(tail) = vec.split_off(half) else {
                     return 0;
                 };
-                return x.wrapping_add(tail.len() as u64);
+                return look_at(tail.as_slice(), x);
             }
             Whole::Resize => {
                 vec.truncate(0);
