@@ -1,16 +1,31 @@
 -- A splice along a word of ends, and what `finish` puts in.
-use Rattle.std.proofs.Common.{◌≡◌, ℕ, ◌+◌, ◌≤◌, ◌↔◌, List, [], ◌∷◌, ◌++◌, length, Option, Result, false, if◌then◌else◌, IsOk, OnOk, IfErr, ap, refl, subst, sym, ◌∙◌}
+use Rattle.std.proofs.Common.{◌≡◌, ℕ, ◌+◌, ◌<◌, ◌≤◌, ◌↔◌, List, [], ◌∷◌, ◌++◌, length, take, drop, Option, Result, true, false, if◌then◌else◌, IsOk, OnOk, IfErr, ap, refl, subst, sym, ◌∙◌, arith}
+use Rattle.std.proofs.lemmas.Bool.Decides.{nat_tests}
 use Rattle.std.proofs.lemmas.Result.{IfErr-weaker}
+use Rattle.std.specs.Bool.{◌==◌}
 use Rattle.std.specs.declared.iter.Fuse.{Fuse}
 use Rattle.std.specs.Iterator.Adapters.{fuse_done, fuse_source}
 use Rattle.tinyvec_slots.specs.Ends.{End, RunsWord}
 use Rattle.tinyvec_slots.specs.AnySplice.{SpliceView, FinishesWith}
+use Rattle.tinyvec_slots.specs.Gap.{gap_len, gap_left}
+use Rattle.tinyvec_slots.specs.declared.gap.Gap.{Gap}
 use Rattle.tinyvec_slots.specs.Fused.{HasTwoEnds, fused_rest}
 use Rattle.tinyvec_slots.specs.Splice.{splice_view, splice_vec, SpliceKeeps, SpliceSteps, SpliceStepsBack}
 use Rattle.tinyvec_slots.specs.SplicedByWord.{SplicedByWord}
 use Rattle.tinyvec_slots.specs.declared.no_room.NoRoom.{NoRoom}
 use Rattle.tinyvec_slots.specs.declared.splice.Splice.{Splice}
 use Rattle.tinyvec_slots.proofs.AnySpliceLemmas as all
+
+is_zero : (n : ℕ) → (n == 0) ≡ true → n ≡ 0
+is_zero n is = grind (arith, nat_tests)
+
+-- a gap with no removed item left
+pub none_left : {T : Type 0} (gap : Gap) (xs : List T) → (gap_len gap == 0) ≡ true → gap_left gap xs ≡ []
+none_left gap xs is = ap (λ n. take n (drop gap.next xs)) (is_zero (gap_len gap) is)
+
+-- one that lost one of them
+pub fewer_left : (m n : ℕ) → m ≡ n + 1 → n < m
+fewer_left m n is = omega arith
 
 -- `same` and `onward` are laws of `CanSplice`
 module _ {V I T : Type 0} (items : V → List T) (Kept : V → V → Type 0) (same : (v : V) → Kept v v) (onward : (u v w : V) → Kept u v → Kept v w → Kept u w) where
