@@ -1,5 +1,5 @@
 -- A splice along a word of ends, and what `finish` puts in.
-use Rattle.std.proofs.Common.{◌≡◌, ℕ, ◌+◌, ◌<◌, ◌≤◌, ◌↔◌, List, [], ◌∷◌, ◌++◌, length, take, drop, Option, Result, true, false, if◌then◌else◌, IsOk, OnOk, IfErr, ap, refl, subst, sym, ◌∙◌, arith}
+use Rattle.std.proofs.Common.{Bool, ◌≡◌, ℕ, ◌+◌, ◌-◌, ◌<◌, ◌≤◌, ◌↔◌, List, [], ◌∷◌, ◌++◌, length, take, drop, Option, Result, true, false, if◌then◌else◌, IsOk, OnOk, IfErr, ap, refl, subst, sym, ◌∙◌, arith}
 use Rattle.std.proofs.lemmas.Bool.Decides.{nat_tests}
 use Rattle.std.proofs.lemmas.Result.{IfErr-weaker}
 use Rattle.std.specs.Bool.{◌==◌}
@@ -7,7 +7,7 @@ use Rattle.std.specs.declared.iter.Fuse.{Fuse}
 use Rattle.std.specs.Iterator.Adapters.{fuse_done, fuse_source}
 use Rattle.tinyvec_slots.specs.Ends.{End, RunsWord}
 use Rattle.tinyvec_slots.specs.AnySplice.{SpliceView, FinishesWith}
-use Rattle.tinyvec_slots.specs.Gap.{gap_len, gap_left}
+use Rattle.tinyvec_slots.specs.Gap.{gap_len, gap_left, gap_touches, GapCanStep}
 use Rattle.tinyvec_slots.specs.declared.gap.Gap.{Gap}
 use Rattle.tinyvec_slots.specs.Fused.{HasTwoEnds, fused_rest}
 use Rattle.tinyvec_slots.specs.Splice.{splice_view, splice_vec, SpliceKeeps, SpliceSteps, SpliceStepsBack}
@@ -26,6 +26,31 @@ none_left gap xs is = ap (λ n. take n (drop gap.next xs)) (is_zero (gap_len gap
 -- one that lost one of them
 pub fewer_left : (m n : ℕ) → m ≡ n + 1 → n < m
 fewer_left m n is = omega arith
+
+-- a gap that can still step after an item was taken, with at most two touches
+module _ (gap new : Gap) (ended after : Bool) (slots len : ℕ) (can : GapCanStep gap ended slots) (left : 0 < gap_len gap) (long : len ≡ slots)
+    (touches : gap_touches new ≤ gap_touches gap + 2) (besides : after ≡ false → (new.front ≡ new.next) × (new.end ≡ new.back)) where
+  -- from the front
+  pub ready_next : new.next ≡ gap.next + 1 → new.end ≡ gap.end → new.back ≡ gap.back → new.front ≤ gap.next + 1 → GapCanStep new after len
+  ready_next next end back front = record {
+    front_le_next = omega arith;
+    next_le_end = omega arith;
+    end_le_back = omega (arith, can.end_le_back);
+    back_le_len = omega (arith, can.back_le_len);
+    no_slot_besides = besides;
+    few = omega (arith, can.few);
+  }
+
+  -- from the back
+  pub ready_back : new.front ≡ gap.front → new.next ≡ gap.next → new.end ≡ gap.end - 1 → gap.end - 1 ≤ new.back → new.back ≤ gap.back → GapCanStep new after len
+  ready_back front next end least back = record {
+    front_le_next = omega (arith, can.front_le_next);
+    next_le_end = omega arith;
+    end_le_back = omega arith;
+    back_le_len = omega (arith, can.back_le_len);
+    no_slot_besides = besides;
+    few = omega (arith, can.few);
+  }
 
 -- `same` and `onward` are laws of `CanSplice`
 module _ {V I T : Type 0} (items : V → List T) (Kept : V → V → Type 0) (same : (v : V) → Kept v v) (onward : (u v w : V) → Kept u v → Kept v w → Kept u w) where

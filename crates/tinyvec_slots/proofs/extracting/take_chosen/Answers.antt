@@ -47,3 +47,12 @@ pub returns-clause-asked : goal.returns-clause-asked
 returns-clause-asked g c =
     let at = c.loop-at in
     found_none (CalledAtMut g.F.FnMut) c.args.pred.now c.args.items.now c.args.front c.args.gap c.args.end at.pred at.items at.at _ (omega arith) (omega arith) at.invariant.so_far
+
+pub returns-then-pred-clause-callable : goal.returns-then-pred-clause-callable
+returns-then-pred-clause-callable g c = search of_calls
+
+pub returns-clause-callable : goal.returns-clause-callable
+returns-clause-callable g c = c.loop-at.invariant.callable
+
+pub returns-clause-back : goal.returns-clause-back
+returns-clause-back g c = c.loop-at.invariant.so_far.back

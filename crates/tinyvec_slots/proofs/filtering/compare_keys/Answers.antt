@@ -1,4 +1,4 @@
-use Rattle.std.proofs.Common.{◌<◌, length, get_or, set, ◌∙◌, arith, refl}
+use Rattle.std.proofs.Common.{◌<◌, ◌∙◌, length, get_or, set, arith, refl, of_calls}
 use Rattle.std.proofs.Common.{get_or-set_other}
 use Rattle.std.proofs.lemmas.List.{get_or_default}
 use Rattle.std.proofs.RetainMut.{Called-Mut}
@@ -33,3 +33,6 @@ returns-clause-asked g c =
       };
       after = refl {a = set (set xs i left) j left_beside};
     }
+
+pub returns-clause-callable : goal.returns-clause-callable
+returns-clause-callable g c = search of_calls

@@ -1,7 +1,11 @@
-use Rattle.std.proofs.Common.{◌≡◌, ◌+◌, ◌-◌, length, slice_index_or, slice_set, refl, sym, ◌∙◌, subst, arith}
+use Rattle.std.proofs.Common.{◌≡◌, ◌+◌, ◌-◌, ◌∙◌, ◌∷◌, [], List, length, slice_index_or, slice_set, refl, sym, subst, arith, inl}
 use Rattle.std.specs.Fn.{FnOnceReturnsAtMut}
 use Rattle.tinyvec_slots.proofs.PopLemmas.{pops_if-taken, pops_if-left}
 use Rattle.tinyvec_slots.proofs.filtering.take_last_if.Goals as goal
+
+no_items : {T : Type 0} (xs : List T) → length xs ≡ 0 → xs ≡ []
+no_items [] is = refl
+no_items (x ∷ xs) is = absurd (omega (arith, is))
 
 pub returns-then-f-clause-popped : goal.returns-then-f-clause-popped
 returns-then-f-clause-popped g c =
@@ -24,3 +28,6 @@ returns-clause-popped g c =
     let last : n + 1 ≡ length xs = omega (arith, c.if-len-eq0.false) in
     let asked : FnOnceReturnsAtMut g.F.FnOnce c.args.f x c.f.result y = record { shown = _; shows = sym c.index-items-last.is; left = _; met = c.f.ensures; leaves = refl } in
     pops_if-left g.F.FnOnce c.args.f xs n x y last c.index-items-last.is (subst (λ b. FnOnceReturnsAtMut g.F.FnOnce c.args.f x b y) c.if-f.false asked)
+
+pub returns-then-len-eq0-clause-popped : goal.returns-then-len-eq0-clause-popped
+returns-then-len-eq0-clause-popped g c = inl (no_items c.args.items.now c.if-len-eq0.true, refl, refl)

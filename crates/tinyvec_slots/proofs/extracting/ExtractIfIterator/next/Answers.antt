@@ -1,4 +1,4 @@
-use Rattle.std.proofs.Common.{◌≡◌, ℕ, ◌+◌, ◌-◌, ◌<◌, ◌≤◌, Bool, List, ◌++◌, Option, length, take, drop, slice_range, refl, sym, ap, ◌∙◌, arith}
+use Rattle.std.proofs.Common.{◌≡◌, ◌+◌, ◌-◌, ◌<◌, ◌≤◌, ◌++◌, ◌∙◌, ℕ, Bool, List, Option, length, take, drop, slice_range, refl, ap, arith}
 use Rattle.std.specs.Borrow.{MutBor}
 use Rattle.std.specs.Fn.{CalledAtMut, Mut}
 use Rattle.std.specs.List.Retain.{ExtractsNext}

@@ -1,8 +1,18 @@
-use Rattle.std.proofs.Common.{length, Some, None, sym, ap, ◌∙◌, arith, append-nil, rules, true≢false, length-set, drop-set-lt}
+use Rattle.std.proofs.Common.{◌∙◌, ◌≡◌, ◌+◌, ◌≤◌, Some, None, ℕ, length, sym, ap, arith, append-nil, true≢false, length-set, drop-set-lt, refl}
 use Rattle.std.proofs.lemmas.List.{take_more_set, take-set-le}
+use Rattle.tinyvec_slots.proofs.SpliceLemmas.{ready_next}
 use Rattle.tinyvec_slots.proofs.Lists.{slice_range_first}
 use Rattle.tinyvec_slots.proofs.Fused.{not_ended}
 use Rattle.tinyvec_slots.proofs.gap.Gap.take_first.Goals as goal
+
+same_most : (m n : ℕ) → m ≡ n → m ≤ n
+same_most m n same = omega arith
+
+one_most : (m n : ℕ) → m ≡ n + 1 → m ≤ n + 2
+one_most m n same = omega arith
+
+next_most : (m n : ℕ) → m ≤ n → m ≤ n + 1
+next_most m n most = omega arith
 
 pub returns-in-Some-clause-gives : goal.returns-in-Some-clause-gives
 returns-in-Some-clause-gives g c =
@@ -35,20 +45,22 @@ returns-in-None-clause-gives g c =
       touches = c.take.ensures.count ∙ omega arith;
     }
 
+pub returns-in-None-clause-can : goal.returns-in-None-clause-can
+returns-in-None-clause-can g c =
+    let asked = rw c.in-None.is at c.next.ensures.steps in λ more. absurd (true≢false (sym asked.1 ∙ more))
+
 pub returns-in-Some-clause-ready : goal.returns-in-Some-clause-ready
 returns-in-Some-clause-ready g c =
     let ready = c.requires.ready in
     let long = ap length c.replace.ensures.after ∙ length-set c.args.slots.now c.args.self.now.next c.in-Some.new in
     let asked = rw c.in-Some.is at c.next.ensures.steps in
     let joined = ready.no_slot_besides (not_ended g.I.Iterator.next_gives _ _ _ asked) in
-    search (rules, arith)
+    ready_next c.args.self.now _ _ _ _ _ ready c.requires.left long (same_most _ _ c.replace.ensures.count) (λ _. (refl, joined.1)) refl refl refl (same_most _ _ refl)
 
 pub returns-in-None-clause-ready : goal.returns-in-None-clause-ready
 returns-in-None-clause-ready g c =
+    let ready = c.requires.ready in
     let long = ap length c.take.ensures.after.2 ∙ length-set c.args.slots.now c.args.self.now.next c.take.ensures.after.0 in
     let asked = rw c.in-None.is at c.next.ensures.steps in
-    search (rules, arith)
-
-pub returns-in-None-clause-can : goal.returns-in-None-clause-can
-returns-in-None-clause-can g c =
-    let asked = rw c.in-None.is at c.next.ensures.steps in λ more. absurd (true≢false (sym asked.1 ∙ more))
+    ready_next c.args.self.now _ _ _ _ _ ready c.requires.left long (one_most _ _ c.take.ensures.count) (λ more. absurd (true≢false (sym asked.1 ∙ more)))
+    refl refl refl (next_most _ _ ready.front_le_next)

@@ -1,7 +1,10 @@
-use Rattle.std.proofs.Common.{◌≡◌, ◌+◌, ◌-◌, ◌++◌, ◌∷◌, [], length, refl, sym, ap, ◌∙◌, append-nil, append_assoc, length-set, drop-set-lt, arith, take, drop}
+use Rattle.std.proofs.Common.{◌≡◌, ◌+◌, ◌-◌, ◌++◌, ◌∷◌, ◌∙◌, ◌<◌, [], ℕ, length, refl, sym, ap, append-nil, append_assoc, length-set, drop-set-lt, arith, take, drop}
 use Rattle.std.proofs.lemmas.List.{take_more_set, length_push}
 use Rattle.std.proofs.iter.Next.{Yields-more}
 use Rattle.tinyvec_slots.proofs.gap.closing.place.Goals as goal
+
+never_both : (i n : ℕ) → i ≡ n → i < n → ⊥
+never_both i n same less = omega arith
 
 pub loop-at-init : goal.loop-at-init
 loop-at-init g c =
@@ -34,3 +37,31 @@ loop-at-preserved g c =
       );
       count = new.4 ∙ omega (arith, inv.count, one);
     }
+
+pub returns-then-not-place_one-clause-placed : goal.returns-then-not-place_one-clause-placed
+returns-then-not-place_one-clause-placed g c =
+    let ran = c.loop-at.invariant.ran in
+    let met = c.if-not-place_one.ensures.placed in (
+      ran.0,
+      ap (take c.loop-at.at) met.1 ∙ ran.1,
+      ran.2,
+      λ full. absurd (never_both _ _ full c.loop-at-test.true),
+      λ _. (c.place_one.new.replacement, (c.loop-at.replacement, ran.3, met.0)),
+    )
+
+pub returns-then-not-place_one-clause-touches : goal.returns-then-not-place_one-clause-touches
+returns-then-not-place_one-clause-touches g c = rw c.if-not-place_one.ensures.placed.2 c.loop-at.invariant.count
+
+pub returns-then-not-place_one-clause-behind : goal.returns-then-not-place_one-clause-behind
+returns-then-not-place_one-clause-behind g c = rw c.if-not-place_one.ensures.placed.1 c.loop-at.invariant.behind
+
+pub returns-clause-placed : goal.returns-clause-placed
+returns-clause-placed g c =
+    let ran = c.loop-at.invariant.ran in
+    let last : c.loop-at.at ≡ c.args.back = omega arith in (
+      ran.0,
+      ap (λ n. take n c.loop-at.slots) (sym last) ∙ ran.1,
+      ran.2 ∙ ap (λ n. n - c.args.front) last,
+      λ _. ran.3,
+      λ less. absurd (never_both _ _ refl less),
+    )

@@ -1,16 +1,37 @@
-use Rattle.std.proofs.Common.{◌≡◌, ◌≤◌, List, ◌++◌, drop, length, length-take, length-drop, Ok, refl, sym, ap, ◌∙◌, arith, rules}
+use Rattle.std.proofs.Common.{◌^◌, ◌-◌, ◌≡◌, ◌≤◌, ◌++◌, ◌∙◌, ◌+◌, ◌*◌, ◌<◌, List, Ok, ℕ, Bool, drop, length, length-take, length-drop, refl, sym, ap, arith, rules, true, false}
 use Rattle.std.proofs.lemmas.Result.{on_err_weaker}
+use Rattle.std.specs.Prelude.{⊤}
+use Rattle.std.specs.Bool.{MatchBool}
 use Rattle.std.specs.declared.iter.Fuse.{Fuse}
 use Rattle.std.specs.Iterator.Adapters.{fuse_steps}
+use Rattle.tinyvec_slots.specs.declared.gap.Gap.{Gap}
+use Rattle.tinyvec_slots.specs.Touches.{FitsBits}
 use Rattle.tinyvec_slots.specs.Fused.{fused_rest}
-use Rattle.tinyvec_slots.specs.Gap.{gap_front, gap_back, gap_view}
+use Rattle.tinyvec_slots.specs.Gap.{gap_front, gap_back, gap_view, gap_touches, GapCanStep, GapLies}
 use Rattle.tinyvec_slots.specs.AnySplice.{SpliceView, Finishes, FinishesWith}
-use Rattle.tinyvec_slots.proofs.Fused.{fused_first}
 use Rattle.tinyvec_slots.specs.Filling.{ShowsItems}
+use Rattle.tinyvec_slots.proofs.Fused.{fused_first}
 use Rattle.tinyvec_slots.proofs.ReplacingLemmas.{finished_known}
 use Rattle.tinyvec_slots.proofs.FinishLemmas.{finished_longer, finishes_with, finishes_closed, finishes_appended, touches_closed, touches_appended}
 use Rattle.tinyvec_slots.proofs.splice.Splice+V+Fuse+I.finish_counted.Goals.{After-fill}
 use Rattle.tinyvec_slots.proofs.splice.Splice+V+Fuse+I.finish_counted.Goals as goal
+
+-- what `fill` and what follows it ask for
+before_it : (m n : ℕ) → m < n → m ≤ n
+before_it m n less = omega arith
+
+lies_there : (gap : Gap) (ended : Bool) (len : ℕ) → GapCanStep gap ended len → GapLies gap len
+lies_there gap ended len can = (omega (arith, can.front_le_next, can.next_le_end, can.end_le_back), can.back_le_len, omega (arith, can.few))
+
+still_few : {T : Type 0} (gap : Gap) (ended : Bool) (xs : List T) → GapCanStep gap ended (length xs) → (slots : List T) (new : Gap) → length slots < 2 ^ 64 → slots ≡ xs
+    → gap_touches new ≡ gap_touches gap + 2 * (gap_front new - gap_front gap) → gap_front new ≤ gap_back gap → FitsBits 80 (gap_touches new)
+still_few gap ended xs can slots new short shown touches order =
+    let long = ap length shown in
+    omega (arith, can.few, can.back_le_len)
+
+ends_still : (b : Bool) {P Q : Type 0} → MatchBool b P ⊤ → (P → Q) → MatchBool b Q ⊤
+ends_still true ends then = then ends
+ends_still false ends then = ends
 
 -- the gap, as it was filled
 module _ (g : _) (c : After-fill g) where
@@ -125,3 +146,35 @@ returns-clause-finish g c =
       succeeds = λ rest shows within. (listed g c rest shows).succeeds.1 (omega (arith, within, more_room, same_room));
       known = λ xs yields. finished_known gives _ _ (laws.grown_room _ _ grown) _ xs _ yields _ (appended g c);
     }
+
+pub fill-requires-clause-lies : goal.fill-requires-clause-lies
+fill-requires-clause-lies g c = rw c.as_mut_slice.ensures.value (lies_there _ _ _ c.requires.can.0)
+
+pub fill-requires-clause-can : goal.fill-requires-clause-can
+fill-requires-clause-can g c = c.requires.can.1
+
+pub splice_stop-requires-clause-in_bounds : goal.splice_stop-requires-clause-in_bounds
+splice_stop-requires-clause-in_bounds g c =
+    rw (c.fill.ensures.back, same_len g (goal.at.splice_stop-requires-clause-in_bounds g c).After-fill) (
+      before_it _ _ (rw c.if-not-fill.true at c.fill.ensures.filled),
+      c.requires.can.0.back_le_len,
+    )
+
+pub splice_stop-requires-clause-few : goal.splice_stop-requires-clause-few
+splice_stop-requires-clause-few g c = still_few _ _ _ c.requires.can.0 c.as_mut_slice.result.now c.fill.new.self c.as_mut_slice.type_inv.0 c.as_mut_slice.ensures.value c.fill.ensures.touches c.fill.ensures.in_order.1
+
+pub append_in-finished-requires-clause-few : goal.append_in-finished-requires-clause-few
+append_in-finished-requires-clause-few g c = still_few _ _ _ c.requires.can.0 c.as_mut_slice.result.now c.fill.new.self c.as_mut_slice.type_inv.0 c.as_mut_slice.ensures.value c.fill.ensures.touches c.fill.ensures.in_order.1
+
+pub append_in-finished-requires-clause-filled : goal.append_in-finished-requires-clause-filled
+append_in-finished-requires-clause-filled g c = (rw c.if-not-fill.false at c.fill.ensures.filled).0 ∙ sym c.fill.ensures.back
+
+pub append_in-finished-requires-clause-in_bounds : goal.append_in-finished-requires-clause-in_bounds
+append_in-finished-requires-clause-in_bounds g c =
+    rw ((rw c.if-not-fill.false at c.fill.ensures.filled).0, same_len g (goal.at.append_in-finished-requires-clause-in_bounds g c).After-fill) c.requires.can.0.back_le_len
+
+pub append_in-finished-requires-clause-can : goal.append_in-finished-requires-clause-can
+append_in-finished-requires-clause-can g c = (rw c.if-not-fill.false at c.fill.ensures.filled).1
+
+pub append_in-finished-requires-clause-finite : goal.append_in-finished-requires-clause-finite
+append_in-finished-requires-clause-finite g c = ends_still g.V.CanSplice.must_end c.requires.finite c.fill.ensures.finite

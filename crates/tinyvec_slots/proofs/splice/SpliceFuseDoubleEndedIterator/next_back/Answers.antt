@@ -1,4 +1,4 @@
-use Rattle.std.proofs.Common.{length, refl, sym, ap, ◌∙◌}
+use Rattle.std.proofs.Common.{◌∙◌, length, refl, sym, ap}
 use Rattle.tinyvec_slots.proofs.SpliceLemmas.{none_left, fewer_left}
 use Rattle.tinyvec_slots.proofs.splice.SpliceFuseDoubleEndedIterator.next_back.Goals as goal
 

@@ -1,4 +1,4 @@
-use Rattle.std.proofs.Common.{◌≡◌, ℕ, ◌≤◌, List, ◌++◌, length, take, drop, length-take-le, sym, ap, subst, ◌∙◌, arith, append-nil, take_at, take_all}
+use Rattle.std.proofs.Common.{◌≡◌, ◌≤◌, ◌++◌, ◌∙◌, ◌<◌, ℕ, List, length, take, drop, length-take-le, sym, ap, subst, arith, append-nil, take_at, take_all}
 use Rattle.std.proofs.lemmas.List.{drop_all, get_or-take, take-take}
 use Rattle.std.specs.List.{AllZip}
 use Rattle.tinyvec_slots.specs.Clones.{ClonesOver}
@@ -23,6 +23,16 @@ module _ {X : Type 0} (C : X → X → Type 0) (xs old new to : List X) (n : ℕ
     written = ap (λ l. l ++ drop k to) (h.written ∙ ap (λ l. h.made ++ l) (drop_all n old short) ∙ append-nil h.made);
   }
 
+fits_block : {X : Type 0} (xs block : List X) (n : ℕ) → n ≤ length xs → length block ≡ n → length (take n xs) ≤ length block
+fits_block xs block n enough long = rw (length-take-le n xs enough) (omega arith)
+
+within_both : (made n from to : ℕ) → made < n → n ≤ from → from ≤ to → made ≤ to
+within_both made n from to less enough fits = omega arith
+
+as_many : {X : Type 0} (from to block : List X) (made n : ℕ) → made < n → n ≤ length from → length from ≤ length to → length block ≡ n
+    → length (take made to) ≡ length (take made block)
+as_many from to block made n less enough fits long = rw (length-take-le made to (omega arith), length-take-le made block (omega arith))
+
 pub returns-then-made-clause-refused : goal.returns-then-made-clause-refused
 returns-then-made-clause-refused g c =
     let from = c.args.from.now in
@@ -46,3 +56,20 @@ returns-clause-cloned g c =
     let is : n ≡ g.row.N = omega (arith, first, met.within, c.if-made.false) in
     whole_moved g.T.Clone.is_clone (take g.row.N from) c.default-block.result c.clone_until_refused-made.new.to c.args.to.now n g.row.N is
     (omega (arith, first, is)) (omega (arith, c.default-block.ensures.long, is)) met.cloned
+
+pub returns-then-made-clause-cloned : goal.returns-then-made-clause-cloned
+returns-then-made-clause-cloned g c = tt
+
+pub returns-clause-refused : goal.returns-clause-refused
+returns-clause-refused g c = tt
+
+pub clone_until_refused-made-requires : goal.clone_until_refused-made-requires
+clone_until_refused-made-requires g c = record { fits = fits_block c.args.from.now c.default-block.result g.row.N c.requires.enough c.default-block.ensures.long }
+
+pub swap_with_slice-requires : goal.swap_with_slice-requires
+swap_with_slice-requires g c =
+    let made = c.clone_until_refused-made in
+    as_many c.args.from.now c.args.to.now made.new.to made.result g.row.N c.if-made.true c.requires.enough c.requires.fits (made.auto.to ∙ c.default-block.ensures.long)
+
+pub slice_bounds-swap_with_slice-end-then-made : goal.slice_bounds-swap_with_slice-end-then-made
+slice_bounds-swap_with_slice-end-then-made g c = sym (length-take-le c.clone_until_refused-made.result c.args.to.now (within_both _ _ _ _ c.if-made.true c.requires.enough c.requires.fits))

@@ -13,3 +13,6 @@ returns g c =
     let done = c.in_ok-done in
     let rest = c.clone_rest in
     writes_joined g.T.Clone rest.result c.args.from.now c.args.to.now first.new.to rest.new.to done.done c.requires.fits first.auto.to done.ensures.within done.ensures.cloned rest.ensures
+
+pub returns-then-are_large : goal.returns-then-are_large
+returns-then-are_large g c = c.clone_each.ensures
