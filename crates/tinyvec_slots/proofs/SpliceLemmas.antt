@@ -27,6 +27,12 @@ none_left gap xs is = ap (λ n. take n (drop gap.next xs)) (is_zero (gap_len gap
 pub fewer_left : (m n : ℕ) → m ≡ n + 1 → n < m
 fewer_left m n is = omega arith
 
+pub same_most : (m n : ℕ) → m ≡ n → m ≤ n
+same_most m n same = omega arith
+
+pub one_most : (m n : ℕ) → m ≡ n + 1 → m ≤ n + 2
+one_most m n same = omega arith
+
 -- a gap that can still step after an item was taken, with at most two touches
 module _ (gap new : Gap) (ended after : Bool) (slots len : ℕ) (can : GapCanStep gap ended slots) (left : 0 < gap_len gap) (long : len ≡ slots)
     (touches : gap_touches new ≤ gap_touches gap + 2) (besides : after ≡ false → (new.front ≡ new.next) × (new.end ≡ new.back)) where

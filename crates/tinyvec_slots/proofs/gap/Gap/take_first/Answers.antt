@@ -1,15 +1,9 @@
-use Rattle.std.proofs.Common.{◌∙◌, ◌≡◌, ◌+◌, ◌≤◌, Some, None, ℕ, length, sym, ap, arith, append-nil, true≢false, length-set, drop-set-lt, refl}
+use Rattle.std.proofs.Common.{◌∙◌, ◌+◌, ◌≤◌, Some, None, ℕ, length, sym, ap, arith, append-nil, true≢false, length-set, drop-set-lt, refl}
 use Rattle.std.proofs.lemmas.List.{take_more_set, take-set-le}
-use Rattle.tinyvec_slots.proofs.SpliceLemmas.{ready_next}
+use Rattle.tinyvec_slots.proofs.SpliceLemmas.{ready_next, same_most, one_most}
 use Rattle.tinyvec_slots.proofs.Lists.{slice_range_first}
 use Rattle.tinyvec_slots.proofs.Fused.{not_ended}
 use Rattle.tinyvec_slots.proofs.gap.Gap.take_first.Goals as goal
-
-same_most : (m n : ℕ) → m ≡ n → m ≤ n
-same_most m n same = omega arith
-
-one_most : (m n : ℕ) → m ≡ n + 1 → m ≤ n + 2
-one_most m n same = omega arith
 
 next_most : (m n : ℕ) → m ≤ n → m ≤ n + 1
 next_most m n most = omega arith

@@ -1,15 +1,9 @@
-use Rattle.std.proofs.Common.{◌-◌, ◌∙◌, ◌≡◌, ◌+◌, ◌≤◌, Some, None, ℕ, length, sym, ap, arith, true≢false, length-set, drop-set-lt, refl}
+use Rattle.std.proofs.Common.{◌-◌, ◌∙◌, ◌≤◌, Some, None, ℕ, length, sym, ap, arith, true≢false, length-set, drop-set-lt, refl}
 use Rattle.std.proofs.lemmas.List.{take-set-le}
-use Rattle.tinyvec_slots.proofs.SpliceLemmas.{ready_back}
+use Rattle.tinyvec_slots.proofs.SpliceLemmas.{ready_back, same_most, one_most}
 use Rattle.tinyvec_slots.proofs.Lists.{slice_range_last, drop_from_set}
 use Rattle.tinyvec_slots.proofs.Fused.{not_ended}
 use Rattle.tinyvec_slots.proofs.gap.Gap.take_last.Goals as goal
-
-same_most : (m n : ℕ) → m ≡ n → m ≤ n
-same_most m n same = omega arith
-
-one_most : (m n : ℕ) → m ≡ n + 1 → m ≤ n + 2
-one_most m n same = omega arith
 
 less_most : (m n : ℕ) → m ≤ n → m - 1 ≤ n
 less_most m n most = omega arith

@@ -1,6 +1,6 @@
 use Rattle.std.proofs.Common.{◌≤◌, ◌-◌, ◌∙◌, take, drop, length, rules, refl, zero-le}
 use Rattle.tinyvec_slots.proofs.CloneLemmas.{on_err}
-use Rattle.tinyvec_slots.proofs.ClonesOverLemmas.{clones_none, clones_further, clones_in_part}
+use Rattle.tinyvec_slots.proofs.ClonesOverLemmas.{clones_none, clones_further, clones_in_part, parts_fit}
 use borrow.Rule.Slice.PartMut.{same_len_mid}
 use Rattle.tinyvec_slots.proofs.tuned.cloning.clone_blocks.Goals as goal
 
@@ -43,3 +43,6 @@ returns-after-loop-done-clause-cloned g c = c.loop-done.invariant.1
 
 pub returns-after-loop-done-clause-refused : goal.returns-after-loop-done-clause-refused
 returns-after-loop-done-clause-refused g c = tt
+
+pub clone_block-requires-clause-fits : goal.clone_block-requires-clause-fits
+clone_block-requires-clause-fits g c = parts_fit c.args.from.now c.args.to.now c.loop-done.to c.loop-done.done c.requires.fits c.loop-done.invariant.2

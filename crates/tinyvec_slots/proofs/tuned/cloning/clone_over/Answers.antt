@@ -1,5 +1,5 @@
 use Rattle.std.proofs.Common.{rules}
-use Rattle.tinyvec_slots.proofs.ClonesOverLemmas.{refused_writes, writes_joined}
+use Rattle.tinyvec_slots.proofs.ClonesOverLemmas.{refused_writes, writes_joined, parts_fit}
 use Rattle.tinyvec_slots.proofs.tuned.cloning.clone_over.Goals as goal
 
 pub returns-in_err-done : goal.returns-in_err-done
@@ -16,3 +16,6 @@ returns g c =
 
 pub returns-then-are_large : goal.returns-then-are_large
 returns-then-are_large g c = c.clone_each.ensures
+
+pub clone_rest-requires : goal.clone_rest-requires
+clone_rest-requires g c = record { fits = parts_fit c.args.from.now c.args.to.now c.clone_blocks.new.to c.in_ok-done.done c.requires.fits c.clone_blocks.auto.to }
