@@ -75,6 +75,15 @@ module _ {S X : Type 0} (R : S → X → X → Bool → S → X → X → Type 0
           ),
         )
 
+  -- of an empty list nothing stays, and of another at first its first element
+  pub dedup_none : (xs : List X) → length xs ≡ 0 → IsDedupedTo R s₀ xs [] s₀
+  dedup_none [] none = record { deduped = (refl, refl) }
+  dedup_none (x ∷ xs) none = absurd (omega (arith, none))
+
+  pub dedup_begun : (xs : List X) → (length xs ≡ 0 → ⊥) → DedupInvariant xs s₀ xs 1 1
+  dedup_begun [] some = absurd (some refl)
+  dedup_begun (x ∷ xs) some = (refl, λ w zs is runs. record { deduped = subst (λ v. DedupsFromTo R s₀ v xs zs last) is runs })
+
   pub dedup_end : (xs : List X) (s : S) (ys : List X) (k i : ℕ) → 0 < k → k ≤ length ys → length xs ≤ i → last ≡ s → DedupInvariant xs s ys k i → IsDedupedTo R s₀ xs (take k ys) last
   dedup_end xs s ys k i pos le ended at h =
       let d : X = an_element ys 0 (omega arith) in

@@ -1,6 +1,6 @@
 use Rattle.std.proofs.Common.{◌<◌, length, arith, refl}
 use Rattle.std.specs.Fn.{CalledAtPairMut}
-use Rattle.tinyvec_slots.proofs.LastStateLemmas.{dedup_end, IsDedupedTo-deduped}
+use Rattle.tinyvec_slots.proofs.LastStateLemmas.{dedup_end, IsDedupedTo-deduped, dedup_none, dedup_begun}
 use Rattle.tinyvec_slots.proofs.FiltersLemmas.{drops_repeat, keeps_other}
 use Rattle.tinyvec_slots.proofs.filtering.dedup_in_front.Goals.{then-not-ask_pair, else-not-ask_pair}
 use Rattle.tinyvec_slots.proofs.filtering.dedup_in_front.Goals as goal
@@ -37,3 +37,17 @@ returns-clause-asked g c =
 
 pub returns-clause-filtered : goal.returns-clause-filtered
 returns-clause-filtered g c = IsDedupedTo-deduped _ _ _ _ _ (returns-clause-asked g c)
+
+pub returns-then-count-eq0-clause-asked : goal.returns-then-count-eq0-clause-asked
+returns-then-count-eq0-clause-asked g c = dedup_none (CalledAtPairMut g.F.FnMut) c.args.same.now c.args.same.now c.args.items.now c.if-count-eq0.true
+
+pub returns-then-count-eq0-clause-filtered : goal.returns-then-count-eq0-clause-filtered
+returns-then-count-eq0-clause-filtered g c = IsDedupedTo-deduped _ _ _ _ _ (returns-then-count-eq0-clause-asked g c)
+
+pub loop-i-init : goal.loop-i-init
+loop-i-init g c = record {
+  some = omega arith;
+  order = omega arith;
+  callable = c.requires;
+  so_far = λ last. dedup_begun (CalledAtPairMut g.F.FnMut) last c.args.same.now c.args.items.now c.if-count-eq0.false;
+}

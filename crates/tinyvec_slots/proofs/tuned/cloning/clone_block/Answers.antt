@@ -33,6 +33,9 @@ as_many : {X : Type 0} (from to block : List X) (made n : ℕ) → made < n → 
     → length (take made to) ≡ length (take made block)
 as_many from to block made n less enough fits long = rw (length-take-le made to (omega arith), length-take-le made block (omega arith))
 
+no_chunk : (n from to : ℕ) → n ≤ from → from ≤ to → to < n → ⊥
+no_chunk n from to enough fits less = omega arith
+
 pub returns-then-made-clause-refused : goal.returns-then-made-clause-refused
 returns-then-made-clause-refused g c =
     let from = c.args.from.now in
@@ -73,3 +76,6 @@ swap_with_slice-requires g c =
 
 pub slice_bounds-swap_with_slice-end-then-made : goal.slice_bounds-swap_with_slice-end-then-made
 slice_bounds-swap_with_slice-end-then-made g c = sym (length-take-le c.clone_until_refused-made.result c.args.to.now (within_both _ _ _ _ c.if-made.true c.requires.enough c.requires.fits))
+
+pub unreachable-requires : goal.unreachable-requires
+unreachable-requires g c = no_chunk _ _ _ c.requires.enough c.requires.fits c.in_default.ensures.cases

@@ -13,3 +13,6 @@ returns-else-same_by_64 g c =
     let differs : c.same_by_64.result ≡ false = search rules in
     differs ∙ sym (pointwise_front g.T.PartialEq.eq c.before_long_blocks-front.result c.args.a.now c.args.b.now (search rules)
     (search rules) (sym c.same_by_64.ensures ∙ differs))
+
+pub returns-then-are_large : goal.returns-then-are_large
+returns-then-are_large g c = c.eq.ensures

@@ -1,5 +1,8 @@
-use Rattle.std.proofs.Common.{◌∙◌, ◌++◌, ap, refl}
+use Rattle.std.proofs.Common.{◌∙◌, ◌++◌, ◌<◌, ◌≤◌, ℕ, ap, refl, arith}
 use Rattle.tinyvec_slots.proofs.tuned.taking.take_block.Goals as goal
+
+no_chunk : (n slots : ℕ) → n ≤ slots → slots < n → ⊥
+no_chunk n slots enough less = omega arith
 
 pub returns-clause-capacity : goal.returns-clause-capacity
 returns-clause-capacity g c = c.take_each.ensures.capacity
@@ -9,3 +12,6 @@ returns-clause-items g c = c.take_each.ensures.items ∙ ap (λ l. c.args.vec.no
 
 pub returns-clause-emptied : goal.returns-clause-emptied
 returns-clause-emptied g c = let left = c.take-block.ensures.after in (c.take-block.new.dest, (left.long, λ k d lt. left.at k d (rw (← left.long) lt)), refl)
+
+pub unreachable-requires : goal.unreachable-requires
+unreachable-requires g c = no_chunk _ _ c.requires.enough c.in_default.ensures.cases

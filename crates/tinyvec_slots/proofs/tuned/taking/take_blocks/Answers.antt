@@ -27,3 +27,15 @@ loop-slots-preserved g c =
       room = taken.ensures.capacity ∙ inv.room;
       emptied = emptied;
     }
+
+pub returns-clause-items : goal.returns-clause-items
+returns-clause-items g c = c.loop-slots.invariant.moved
+
+pub returns-clause-emptied : goal.returns-clause-emptied
+returns-clause-emptied g c = c.loop-slots.invariant.emptied
+
+pub returns-clause-within : goal.returns-clause-within
+returns-clause-within g c = c.loop-slots.invariant.within
+
+pub returns-clause-capacity : goal.returns-clause-capacity
+returns-clause-capacity g c = c.loop-slots.invariant.room
