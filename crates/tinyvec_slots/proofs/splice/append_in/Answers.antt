@@ -1,4 +1,4 @@
-use Rattle.std.proofs.Common.{◌≡◌, ◌+◌, ◌-◌, ◌≤◌, ◌++◌, ◌∙◌, ℕ, List, length, take, drop, slice_range, refl, sym, ap, arith, length-drop, take_at, drop_at}
+use Rattle.std.proofs.Common.{◌≡◌, ◌+◌, ◌-◌, ◌≤◌, ◌++◌, ◌∙◌, ◌^◌, ◌<◌, ℕ, List, length, take, drop, slice_range, refl, sym, ap, arith, length-drop, take_at, drop_at, length-append}
 use Rattle.std.proofs.lemmas.List.{take-append-le, drop-append-le}
 use Rattle.std.proofs.lemmas.Result.{on_err_weaker}
 use Rattle.tinyvec_slots.specs.Gap.{gap_touches}
@@ -20,6 +20,12 @@ brought_in xs placed all slots list front back end whole last le closed brought 
       drop-append-le front xs placed le,
       take_at (drop front xs) placed (length xs - front) (length-drop front xs),
     ) refl
+
+ends_within : {T : Type 0} (all xs placed : List T) (end : ℕ) → all ≡ xs ++ placed → end ≡ length xs → end ≤ length all
+ends_within all xs placed end whole last = omega (arith, last, ap length whole, length-append xs placed)
+
+few_still : (t u slots end front : ℕ) → t < 2 ^ 80 → slots < 2 ^ 64 → u ≤ t + (slots - end) + (slots - front) → u < 2 ^ 120
+few_still t u slots end front few short most = omega arith
 
 -- and counted: u touches before, and v with the n items that were moved
 module _ (u v m n : ℕ) (counted : v ≡ u + n) (moved : n ≡ m) where
@@ -90,3 +96,25 @@ returns-clause-at_most g c =
     counted_most _ _ _ _ c.count_moved.ensures c.extend_counted-appended.ensures.moved
     (gap_touches c.args.gap.now + (length (g.V.CanCut.items (appended g c)) - length (xs g c)) + (length (g.V.CanCut.items (appended g c)) - c.args.gap.now.front))
     (simp (shown g c, c.len-end.ensures.value) at c.rotate_in.ensures.at_most))
+
+pub extend_counted-appended-requires-clause-can : goal.extend_counted-appended-requires-clause-can
+extend_counted-appended-requires-clause-can g c = c.requires.can
+
+pub extend_counted-appended-requires-clause-finite : goal.extend_counted-appended-requires-clause-finite
+extend_counted-appended-requires-clause-finite g c = c.requires.finite
+
+pub rotate_in-requires-clause-in_bounds : goal.rotate_in-requires-clause-in_bounds
+rotate_in-requires-clause-in_bounds g c =
+    let ran = c.extend_counted-appended.ensures.ran in (
+      rw c.len-end.ensures.value c.requires.in_bounds,
+      ends_within c.as_mut_slice.result.now (g.V.CanCut.items c.args.vec.now) ran.0 c.len-end.result (c.as_mut_slice.ensures.value ∙ ran.2) c.len-end.ensures.value,
+    )
+
+pub rotate_in-requires-clause-few : goal.rotate_in-requires-clause-few
+rotate_in-requires-clause-few g c = c.requires.few
+
+pub count_moved-requires : goal.count_moved-requires
+count_moved-requires g c = record { few = few_still _ _ (length c.as_mut_slice.result.now) c.len-end.result c.args.gap.now.front c.requires.few c.as_mut_slice.type_inv.0 c.rotate_in.ensures.at_most }
+
+pub returns-clause-goes_on : goal.returns-clause-goes_on
+returns-clause-goes_on g c = c.extend_counted-appended.ensures.goes_on

@@ -1,4 +1,4 @@
-use Rattle.std.proofs.Common.{◌∙◌, refl}
+use Rattle.std.proofs.Common.{◌∙◌, ◌-◌, refl, length, take, drop, ap, arith, length-append, length-drop, length-take-le}
 use Rattle.tinyvec_slots.proofs.EmptiedLemmas.{emptied_all, moved_all}
 use Rattle.tinyvec_slots.proofs.tuned.taking.take_all.Goals as goal
 
@@ -32,3 +32,15 @@ returns-clause-capacity g c = c.take_each-2.ensures.capacity ∙ c.take_blocks-d
 
 pub take_blocks-done-requires-clause-room : goal.take_blocks-done-requires-clause-room
 take_blocks-done-requires-clause-room g c = c.requires
+
+pub take_each-requires-2 : goal.take_each-requires-2
+take_each-requires-2 g c =
+    let first = c.take_blocks-done in
+    let xs = c.args.slots.now in
+    let ys = first.new.slots in
+    let within = first.ensures.within in
+    let long = ap length first.ensures.items ∙ length-append c.args.vec.now.items (take first.result xs) in
+    let taken = length-take-le first.result xs within in
+    let part = length-drop first.result ys in
+    let rest = length-take-le (length ys - first.result) (drop first.result ys) (omega (arith, part)) in
+    omega (arith, long, taken, rest, within, first.auto.slots, first.ensures.capacity)

@@ -1,4 +1,4 @@
-use Rattle.std.proofs.Common.{◌∙◌, ◌++◌, ◌<◌, ◌≤◌, ℕ, ap, refl, arith}
+use Rattle.std.proofs.Common.{◌∙◌, ◌++◌, ◌<◌, ◌≤◌, ℕ, ap, refl, arith, length-take-le}
 use Rattle.tinyvec_slots.proofs.tuned.taking.take_block.Goals as goal
 
 no_chunk : (n slots : ℕ) → n ≤ slots → slots < n → ⊥
@@ -15,3 +15,6 @@ returns-clause-emptied g c = let left = c.take-block.ensures.after in (c.take-bl
 
 pub unreachable-requires : goal.unreachable-requires
 unreachable-requires g c = no_chunk _ _ c.requires.enough c.in_default.ensures.cases
+
+pub take_each-requires : goal.take_each-requires
+take_each-requires g c = rw (c.take-block.ensures.value, c.in-Some.ensures.cases.same, length-take-le g.row.N c.args.slots.now c.requires.enough) c.requires.room
