@@ -7,6 +7,7 @@ ghost use Rattle.tinyvec_slots.specs.Ranges.{IsRangeOf, removed};
 ghost use Rattle.tinyvec_slots.specs.Filling.{Fills, Extends, AppendsResultsTo};
 
 use crate::tuned::cloning::{clone_within, fill_clones};
+use crate::tuned::filling::fill_by_answers;
 use crate::{ArrayVec, NoMemory, NoRoom, Slots, TakesClones, TryFromSliceError};
 use std::alloc::AllocError;
 use std::mem;
@@ -233,9 +234,9 @@ impl<S: Slots> ArrayVec<S> {
         ensures items { AppendsResultsTo F.step (items_of S.Slots self.old) (items_of S.Slots self.new) f.old f.new }
         ensures spare { spare_of S.Slots self.new ≡ drop (n - len_of S.Slots self.old) (spare_of S.Slots self.old) }
     {
-        while self.len() < n {
-            self.push(f());
-        }
+        let len = self.len();
+        fill_by_answers(self.slots.as_slice_mut(), len, n, f);
+        self.len = self.slots.to_len(n);
     }
 
     // Truncates to `n` items, and fills the emptied slots with what `f` returns, the last slot first.

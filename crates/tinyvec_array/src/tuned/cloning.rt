@@ -3,10 +3,11 @@ ghost use Rattle.std.specs.Prelude.{◌+◌, ◌-◌, ◌<◌, ◌≤◌, ℕ, l
 ghost use Rattle.tinyvec_slots.specs.Ranges.{Within};
 ghost use Rattle.tinyvec_slots.specs.Clones.{RefusedAt, ClonesOver, ClonesOverFrom, WritesClones};
 
+use core::mem::replace_with;
 use std::alloc::AllocError;
 use tinyvec_slots::authors::{clone_each, fit_registers};
 
-// Writes clones of `from` over the slots from `start` on: four by four, and then item by item.
+// Writes clones of `from` over the slots from `start` on, by blocks.
 pub(crate) fn clone_each_from<T: Clone>(
     slots: &mut [T],
     start: usize,
@@ -15,15 +16,49 @@ pub(crate) fn clone_each_from<T: Clone>(
     requires fits { start + length from.now ≤ length slots.old }
     ensures { WritesClones T.Clone (λ ys n. ClonesOverFrom T.is_clone start ys n slots.old slots.new) from.now result }
 {
-    let to = &mut slots[start..];
-    let done = clone_fours(to, from)?;
+    let end = start + from.len();
+    // As many slots as items, so that LLVM asks once whether a block is left.
+    let to = &mut slots[start..end];
+    if from.len() < 512 {
+        return clone_few(to, from);
+    }
+    clone_many(to, from)
+}
+
+// Writes clones over the first slots of `to`, in blocks of 512 and then of fewer. A call of its own, so that short lists save
+// no registers.
+#[inline(never)]
+fn clone_many<T: Clone>(to: &mut [T], from: &[T]) -> Result<(), AllocError>
+    requires fits { length from.now ≤ length to.old }
+    ensures { WritesClones T.Clone (λ ys n. ClonesOver T.is_clone ys n to.old to.new) from.now result }
+{
+    let done = clone_blocks::<T, 512>(to, from)?;
+    clone_few(&mut to[done..], &from[done..])
+}
+
+// The same, in blocks of 16 and then of fewer.
+#[inline(always)]
+fn clone_few<T: Clone>(to: &mut [T], from: &[T]) -> Result<(), AllocError>
+    requires fits { length from.now ≤ length to.old }
+    ensures { WritesClones T.Clone (λ ys n. ClonesOver T.is_clone ys n to.old to.new) from.now result }
+{
+    let done = clone_blocks::<T, 16>(to, from)?;
+    clone_rest(&mut to[done..], &from[done..])
+}
+
+// The same, in blocks of 4, and then item by item.
+#[inline(always)]
+fn clone_rest<T: Clone>(to: &mut [T], from: &[T]) -> Result<(), AllocError>
+    requires fits { length from.now ≤ length to.old }
+    ensures { WritesClones T.Clone (λ ys n. ClonesOver T.is_clone ys n to.old to.new) from.now result }
+{
+    let done = clone_blocks::<T, 4>(to, from)?;
     clone_each(&mut to[done..], &from[done..])
 }
 
-// Clones four by four while four are left, if they fit registers, and returns the number of clones. Four are read before one
-// is written, so LLVM moves them in registers.
-#[inline(always)]
-fn clone_fours<T: Clone>(to: &mut [T], from: &[T]) -> Result<usize, AllocError>
+// Clones in blocks of N while N items are left, if they fit registers, and returns the number of clones.
+fn clone_blocks<T: Clone, const N: usize>(to: &mut [T], from: &[T]) -> Result<usize, AllocError>
+    requires some { 0 < N }
     requires fits { length from.now ≤ length to.old }
     ensures within { IfOk result (λ n. n ≤ length from.now) }
     ensures cloned { IfOk result (λ n. ClonesOver T.is_clone (take n from.now) n to.old to.new) }
@@ -31,43 +66,38 @@ fn clone_fours<T: Clone>(to: &mut [T], from: &[T]) -> Result<usize, AllocError>
         × ClonesOver T.is_clone (take j from.now) j to.old to.new) }
 {
     let mut done = 0;
-    while 4 <= from.len() - done && fit_registers(from) {
-        clone_four(&mut to[done..], &from[done..])?;
-        done += 4;
+    while N <= from.len() - done && fit_registers(from) {
+        clone_block::<T, N>(&mut to[done..], &from[done..])?;
+        done += N;
     }
     Ok(done)
 }
 
-// Clones the first four.
-#[inline(always)]
-fn clone_four<T: Clone>(to: &mut [T], from: &[T]) -> Result<(), AllocError>
-    requires enough { 4 ≤ length from.now }
+// Clones the first N items. The block is taken out of the slots meanwhile: LLVM knows that it does not overlap `from`, and
+// moves N numbers at once.
+fn clone_block<T: Clone, const N: usize>(to: &mut [T], from: &[T]) -> Result<(), AllocError>
+    requires enough { N ≤ length from.now }
     requires fits { length from.now ≤ length to.old }
-    ensures cloned { OnOk result (ClonesOver T.is_clone (take 4 from.now) 4 to.old to.new) }
+    ensures cloned { OnOk result (ClonesOver T.is_clone (take N from.now) N to.old to.new) }
     ensures refused { OnErr result ((j : ℕ) × RefusedAt T.is_infallible from.now j
         × ClonesOver T.is_clone (take j from.now) j to.old to.new) }
 {
-    let first = from[0].clone()?;
-    let Ok(second) = from[1].clone() else {
-        to[0] = first;
-        return Err(AllocError);
+    let Some(block) = to.first_chunk_mut::<N>() else {
+        unreachable!();
     };
-    let Ok(third) = from[2].clone() else {
-        to[0] = first;
-        to[1] = second;
-        return Err(AllocError);
-    };
-    let Ok(fourth) = from[3].clone() else {
-        to[0] = first;
-        to[1] = second;
-        to[2] = third;
-        return Err(AllocError);
-    };
-    to[0] = first;
-    to[1] = second;
-    to[2] = third;
-    to[3] = fourth;
-    Ok(())
+    replace_with(block, &from[..N], clone_over_block::<T, N>)
+}
+
+// Writes clones of `from` over the block.
+fn clone_over_block<T: Clone, const N: usize>(
+    mut block: [T; N],
+    from: &[T],
+) -> ([T; N], Result<(), AllocError>)
+    requires fits { length from.now ≤ N }
+    ensures { WritesClones T.Clone (λ ys n. ClonesOver T.is_clone ys n block result.0) from.now result.1 }
+{
+    let made = clone_each(&mut block, from);
+    (block, made)
 }
 
 // Writes clones of the slots from `start` up to `end` over those from `to` on.
