@@ -5,7 +5,7 @@ ghost use Rattle.std.specs.Borrow.{sem};
 ghost use Rattle.std.specs.List.{swap_remove, SwappedAt};
 
 use crate::parts::slot_of;
-use crate::places::{bounded_index, prefers_shifting_in};
+use crate::places::{bounded_index, bounded_len, prefers_shifting_in};
 use crate::tuned::resetting::fill_default;
 use crate::tuned::shifting::{insert_shifting, last_to};
 use crate::{ArrayVec, Slots};
@@ -150,8 +150,10 @@ where
         ensures last { items_of S.Slots self.old ≡ items_of S.Slots self.new ++ result ∷ [] }
         ensures value { result ≡ slice_index_or (items_of S.Slots self.old) (len_of S.Slots self.old - 1) result }
     {
-        let last = self.len() - 1;
-        let at = bounded_index(last, self.slots.most());
+        let len = self.len();
+        let most = self.slots.most();
+        let last = bounded_len(self.slots.as_slice(), len - 1, most);
+        let at = bounded_index(last, most);
         let item = mem::take(&mut self.slots.as_slice_mut()[at]);
         // Written last, so that LLVM knows the length in a loop of pops.
         self.len = self.slots.to_len(last);

@@ -7,14 +7,14 @@ use Rattle.tinyvec_array.proofs.array_vec.edits.ArrayVec+S.take_last.Goals as go
 pub returns-clause-becomes : goal.returns-clause-becomes
 returns-clause-becomes g c =
     let v = c.args.self.now in
-    let n = c.len-last.result in
+    let n = c.len-len.result in
     let d = c.take-item.new.dest in
     let one = All-cons g.S.Item.Default.is_default d [] c.take-item.ensures.after (All-nil _) in
     let pos : 0 < n = search rules in
     record {
       lender = search rules;
       items = grind (arith, common_steps);
-      spare = (d ∷ [], (refl, one), rw (g.S.Slots.slots_written, c.to_len.ensures.number, c.bounded_index-at.ensures, c.as_slice_mut.ensures.value) (drop-popped (g.S.Slots.count v.len) (g.S.Slots.slots v.slots) n c.len-last.ensures.value d pos));
+      spare = (d ∷ [], (refl, one), rw (g.S.Slots.slots_written, c.to_len.ensures.number, c.bounded_index-at.ensures, c.bounded_len-last.ensures, c.as_slice_mut.ensures.value) (drop-popped (g.S.Slots.count v.len) (g.S.Slots.slots v.slots) n c.len-len.ensures.value d pos));
     }
 
 pub returns-clause-last : goal.returns-clause-last
