@@ -43,7 +43,7 @@ says : (said : TextCall) → IsTextCommand (codes "X add hi") said → said ≡ 
 says (add text) is = ap add (sym (ap (drop 6) is.spelled))
 says (cut index) is = differ 2 _ _ is.spelled refl
 
-added : (new : Text) (answer : Answer ℤ) → TextStep 4 start.x (add (codes "hi")) answer new
+added : (new : Text) (answer : Answer ℤ) → TextStep start.x (add (codes "hi")) answer new
     → (answer ≡ answers.Done) × (new.bytes ≡ codes "hi") × (lies_inline new.place ≡ true)
 added new answers.Done step = (refl, step.bytes_are, step.room.place.1 (refl, omega arith))
 added new answers.Memory step = absurd (let small = step.0 in omega arith)
@@ -58,7 +58,7 @@ text_line new text h = elim h [
   | Answered.done name call answer command steps e ↦ absurd (text_no_name name command.text command.named)
   | Answered.memory name asks e same ↦ absurd (text_no_name name asks.text asks.named)
   | Answered.text_done said answer command steps e ↦
-      (let step = subst (λ call. TextStep 4 start.x call answer new.x) (says said command) steps.0 in
+      (let step = subst (λ call. TextStep start.x call answer new.x) (says said command) steps.0 in
       let made = added new.x answer step in
       e ∙ ap (λ a. answer_text a ++ codes " " ++ text_state_text new.x.bytes (lies_inline new.x.place)) made.0
       ∙ ap (λ bytes. codes "ok" ++ codes " " ++ text_state_text bytes (lies_inline new.x.place)) made.1

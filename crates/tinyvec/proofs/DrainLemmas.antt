@@ -46,22 +46,22 @@ module _ {A T L : Type 0} (g : Storage.Ghosts A T L) where
   drains_from_ends = takes_any_word (drain_items g) (DrainKeeps g) DrainKeeps-refl DrainKeeps-then
 
   -- what d leaves once its gap was closed: xs were the items, then ws, and the first `kept` of those stayed
-  pub drain_left : (D : T → Type 0) (slots : ℕ) (d : TinyVecDrain A T L) (xs ws : List T) (kept : ℕ) (new : TinyVec A T L)
+  pub drain_left : (D : T → Type 0) (d : TinyVecDrain A T L) (xs ws : List T) (kept : ℕ) (new : TinyVec A T L)
       → xs ≡ tiny_items_of g (drain_vec d) → length ws ≡ length xs → take kept ws ≡ remove_range xs d.start (d.start + d.gap)
-      → Becomes D slots (tiny_view_of g (tiny_with_items g (drain_vec d) ws)) (tiny_view_of g new) (take kept (tiny_items_of g (tiny_with_items g (drain_vec d) ws)))
-      → DrainLeaves g D slots d new
-  drain_left D slots d xs ws kept new same long is cut =
+      → Becomes D (tiny_view_of g (tiny_with_items g (drain_vec d) ws)) (tiny_view_of g new) (take kept (tiny_items_of g (tiny_with_items g (drain_vec d) ws)))
+      → DrainLeaves g D d new
+  drain_left D d xs ws kept new same long is cut =
       let all = long ∙ ap length same in
       let frame = tiny_framed-with g (drain_vec d) ws all in
-      subst (Becomes D slots (tiny_view_of g (drain_vec d)) (tiny_view_of g new))
+      subst (Becomes D (tiny_view_of g (drain_vec d)) (tiny_view_of g new))
       (ap (take kept) (tiny_items-with g (drain_vec d) ws all) ∙ is ∙ ap (λ l. remove_range l d.start (d.start + d.gap)) same)
-      (frame_becomes D slots (tiny_view_of g (drain_vec d)) (tiny_view_of g (tiny_with_items g (drain_vec d) ws)) (tiny_view_of g new) _ frame cut)
+      (frame_becomes D (tiny_view_of g (drain_vec d)) (tiny_view_of g (tiny_with_items g (drain_vec d) ws)) (tiny_view_of g new) _ frame cut)
 
   -- What a vector is once a drain of it ended. The premises are what `drain` ensures of `first`, what calls keep up to
   -- `last`, and what the end of `last` leaves.
-  pub tiny_drained : (D : T → Type 0) (slots : ℕ) (old : TinyVec A T L) (first last : TinyVecDrain A T L) (new : TinyVec A T L)
-      → FrameOf g old (drain_vec first) → DrainKeeps g first last → DrainLeaves g D slots last new
-      → Becomes D slots (tiny_view_of g old) (tiny_view_of g new) (drain_kept g first)
-  tiny_drained D slots old first last new frame kept left =
+  pub tiny_drained : (D : T → Type 0) (old : TinyVec A T L) (first last : TinyVecDrain A T L) (new : TinyVec A T L)
+      → FrameOf g old (drain_vec first) → DrainKeeps g first last → DrainLeaves g D last new
+      → Becomes D (tiny_view_of g old) (tiny_view_of g new) (drain_kept g first)
+  tiny_drained D old first last new frame kept left =
       let all = SameFrame-then (tiny_view_of g old) (tiny_view_of g (drain_vec first)) (tiny_view_of g (drain_vec last)) frame kept.frame in
-      subst (Becomes D slots (tiny_view_of g old) (tiny_view_of g new)) kept.kept (frame_becomes D slots (tiny_view_of g old) (tiny_view_of g (drain_vec last)) (tiny_view_of g new) _ all left)
+      subst (Becomes D (tiny_view_of g old) (tiny_view_of g new)) kept.kept (frame_becomes D (tiny_view_of g old) (tiny_view_of g (drain_vec last)) (tiny_view_of g new) _ all left)

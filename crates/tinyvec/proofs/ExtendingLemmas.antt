@@ -29,19 +29,19 @@ all_or_none C xs r old new made kept = record {
   kept = kept;
 }
 
-module _ {T X E : Type 0} (g : Clone.Ghosts T) (slots : ℕ) (xs : List T) (r : Result X E) where
+module _ {T X E : Type 0} (g : Clone.Ghosts T) (xs : List T) (r : Result X E) where
   -- what `extend_from_slice` and `extend_from_within` ensure
   pub record Extended (old new : TinyView T) : Type 0 where
     pub clones : AppendsAllOrNone g.is_clone xs r old.items new.items
-    pub room : OnOk r (MakesRoom (view_inline old) slots (view_len old + length xs) old new r)
+    pub room : OnOk r (MakesRoom (view_inline old) (view_len old + length xs) old new r)
     pub capacity : view_capacity old ≤ view_capacity new
-    pub same_room : KeepsRoom slots (view_len old + length xs) old new
+    pub same_room : KeepsRoom (view_len old + length xs) old new
     pub fits : view_len new ≤ view_capacity new
     pub succeeds : view_len old + length xs ≤ view_capacity old → All g.is_infallible xs → IsOk r
-    pub refused : OnErr r (ClonesRefused g slots xs old new)
+    pub refused : OnErr r (ClonesRefused g xs old new)
 
   -- an array that got them
-  pub inline_clones : (v w : Slots T) → AddsClones g xs r v w → length w.slots ≡ length v.slots → ClonesInRoom g slots xs (array_view v) (array_view w) r
+  pub inline_clones : (v w : Slots T) → AddsClones g xs r v w → length w.slots ≡ length v.slots → ClonesInRoom g xs (array_view v) (array_view w) r
   inline_clones v w made same = record {
     items = made.items;
     spare = made.spare;
@@ -54,7 +54,7 @@ module _ {T X E : Type 0} (g : Clone.Ghosts T) (slots : ℕ) (xs : List T) (r : 
   }
 
   -- a list on the heap that got them
-  pub heap_clones : (v w : Vec T Global) → PushesClones g xs r v w → ClonesInRoom g slots xs (heap_view v) (heap_view w) r
+  pub heap_clones : (v w : Vec T Global) → PushesClones g xs r v w → ClonesInRoom g xs (heap_view v) (heap_view w) r
   heap_clones v w made = record {
     items = made.items;
     spare = on_ok_weaker r (λ _. sym (drop-nil (length xs))) made.items;
@@ -68,15 +68,15 @@ module _ {T X E : Type 0} (g : Clone.Ghosts T) (slots : ℕ) (xs : List T) (r : 
 
   module _ (old new : TinyView T) where
     -- room for them was granted, and then they came
-    extended : (mid : TinyView T) → mid.items ≡ old.items → (ViewInline mid → mid ≡ old) → RoomGranted (view_inline old) slots (view_len old + length xs) old new
-        → ClonesInRoom g slots xs mid new r → Extended old new
+    extended : (mid : TinyView T) → mid.items ≡ old.items → (ViewInline mid → mid ≡ old) → RoomGranted (view_inline old) (view_len old + length xs) old new
+        → ClonesInRoom g xs mid new r → Extended old new
     extended mid items stays granted made =
         let kept = spare_kept old mid new stays made.place in record {
           clones = all_or_none g.is_clone xs r old.items new.items
               (on_ok_weaker r (subst (λ l. AppendsClones g.is_clone l new.items xs) items) made.items) (on_err_weaker r (λ h. h ∙ items) made.kept);
-          room = room_granted _ slots _ old new r granted made.fits (on_ok_two r made.items made.spare (λ h spare.
+          room = room_granted _ _ old new r granted made.fits (on_ok_two r made.items made.spare (λ h spare.
               used_up old new (length xs) (appends_len g.is_clone mid.items new.items xs h ∙ ap (λ l. length l + length xs) items) (λ i. spare ∙ ap (drop (length xs)) (kept i))));
-          capacity = granted_no_less (view_inline old) slots (view_len old + length xs) old new granted;
+          capacity = granted_no_less (view_inline old) (view_len old + length xs) old new granted;
           same_room = granted.1;
           fits = made.fits;
           succeeds = λ _. made.succeeds;
@@ -84,19 +84,19 @@ module _ {T X E : Type 0} (g : Clone.Ghosts T) (slots : ℕ) (xs : List T) (r : 
         }
 
     -- there was room
-    pub extended_in_room : ClonesInRoom g slots xs old new r → view_len old + length xs ≤ view_capacity old → Extended old new
-    extended_in_room made room = extended old refl (λ _. refl) (granted_before (view_inline old) slots _ old new made.place made.capacity room) made
+    pub extended_in_room : ClonesInRoom g xs old new r → view_len old + length xs ≤ view_capacity old → Extended old new
+    extended_in_room made room = extended old refl (λ _. refl) (granted_before (view_inline old) _ old new made.place made.capacity room) made
 
     -- room for n more was made first
     pub extended_grown : {Y F : Type 0} (n : ℕ) (mid : TinyView T) (y : Y) → n ≡ length xs
-        → mid.items ≡ old.items → (ViewInline mid → mid ≡ old) → MakesRoom {E = F} (view_inline old) slots (view_len old + n) old mid (Ok y)
-        → ClonesInRoom g slots xs mid new r → Extended old new
+        → mid.items ≡ old.items → (ViewInline mid → mid ≡ old) → MakesRoom {E = F} (view_inline old) (view_len old + n) old mid (Ok y)
+        → ClonesInRoom g xs mid new r → Extended old new
     extended_grown n mid y many items stays grown made =
-        extended mid items stays (granted_then (view_inline old) slots (view_len old + length xs) old new mid y made.place made.capacity (rw many at grown)) made
+        extended mid items stays (granted_then (view_inline old) (view_len old + length xs) old new mid y made.place made.capacity (rw many at grown)) made
 
   -- room for them was refused
   pub extended_refused : {Y F : Type 0} (old new : TinyView T) (n : ℕ) (e : F) → n ≡ length xs → IsErr r
-      → MakesRoom {X = Y} (view_inline old) slots (view_len old + n) old new (Err e) → Extended old new
+      → MakesRoom {X = Y} (view_inline old) (view_len old + n) old new (Err e) → Extended old new
   extended_refused old new n e many err grown = record {
     clones = all_or_none g.is_clone xs r old.items new.items (never_ok _ r err) (on_err r grown.refused.items);
     room = never_ok _ r err;
@@ -108,10 +108,10 @@ module _ {T X E : Type 0} (g : Clone.Ghosts T) (slots : ℕ) (xs : List T) (r : 
   }
 
 -- the same of what a refusal leaves: it names the value that has no clone
-pub copies_refused : {T : Type 0} (g : Clone.Ghosts T) (slots n need : ℕ) (x : T) (old new : TinyView T) → view_len old + n ≡ need
-    → ClonesRefused g slots (replicate n x) old new
-    → RefusedFor slots need ((j : ℕ) × (j < n) × ¬ (g.is_infallible x) × ClonesBehind g.is_clone (replicate j x) j old new) old new
-copies_refused g slots n need x old new is h =
+pub copies_refused : {T : Type 0} (g : Clone.Ghosts T) (n need : ℕ) (x : T) (old new : TinyView T) → view_len old + n ≡ need
+    → ClonesRefused g (replicate n x) old new
+    → RefusedFor need ((j : ℕ) × (j < n) × ¬ (g.is_infallible x) × ClonesBehind g.is_clone (replicate j x) j old new) old new
+copies_refused g n need x old new is h =
     let all : view_len old + length (replicate n x) ≡ need = omega (arith, is, length-replicate n x) in
     elim h [
       | inl none ↦ inl (omega (arith, all, none.0), none.1)

@@ -37,14 +37,14 @@ no_less false need first last (inl less) same grown = let is : last ≡ max (2 *
 no_less exact need first last (inr room) same grown = omega (arith, same room)
 
 -- an array whose slots follow the slot rule
-pub inline_becomes : {T : Type 0} (D : T → Type 0) (slots : ℕ) (v w : Slots T) (xs : List T) → items w ≡ xs → SlotRule D v w → length w.slots ≡ length v.slots
-    → Becomes D slots (array_view v) (array_view w) xs
-inline_becomes D slots v w xs is rule same = record { items = is; place = refl; slot_rule = λ _ _. rule; capacity = same; fits = omega (arith, length-take w.len w.slots) }
+pub inline_becomes : {T : Type 0} (D : T → Type 0) (v w : Slots T) (xs : List T) → items w ≡ xs → SlotRule D v w → length w.slots ≡ length v.slots
+    → Becomes D (array_view v) (array_view w) xs
+inline_becomes D v w xs is rule same = record { items = is; place = refl; slot_rule = λ _ _. rule; capacity = same; fits = omega (arith, length-take w.len w.slots) }
 
 -- an array whose list only lost items
-pub inline_shortens : {A T L : Type 0} (g : Storage.Ghosts A T L) (D : T → Type 0) (slots : ℕ) (v w : ArrayVec A L)
-    → Shortened (items_of g) (λ u. length (slots_of g u)) (CutOf g D) v w → ShortensInPlace D slots (array_view (view_of g v)) (array_view (view_of g w))
-inline_shortens g D slots v w h = record {
+pub inline_shortens : {A T L : Type 0} (g : Storage.Ghosts A T L) (D : T → Type 0) (v w : ArrayVec A L)
+    → Shortened (items_of g) (λ u. length (slots_of g u)) (CutOf g D) v w → ShortensInPlace D (array_view (view_of g v)) (array_view (view_of g w))
+inline_shortens g D v w h = record {
   bound = h.bound;
   place = refl;
   slot_rule = λ _ _. shortened D (view_of g v) (view_of g w) h.cut.1;
@@ -65,14 +65,14 @@ doubled_again : (first mid last : ℕ) → (first < mid) ⊎ (mid ≤ first) →
 doubled_again first mid last (inl more) le is h = (suc (h more).0, doubled_more (max 1 first) (h more).0 mid last (h more).1 (omega (arith, more, is)))
 doubled_again first mid last (inr least) le is h = doubled_once first last (subst (λ n. last ≡ max (2 * n) (n + 1)) (omega (arith, le, least)) is)
 
-module _ {T : Type 0} (D : T → Type 0) (slots : ℕ) where
+module _ {T : Type 0} (D : T → Type 0) where
   -- a list that is as it was
-  pub stays_same : (v : TinyView T) → view_len v ≤ view_capacity v → StaysInPlace D slots v v
+  pub stays_same : (v : TinyView T) → view_len v ≤ view_capacity v → StaysInPlace D v v
   stays_same v fits = record { items = refl; place = refl; slot_rule = slots_taken D v v 0 (omega arith) refl; capacity = refl; fits = fits }
 
   -- a list that used up k spare slots in its place
   pub taken_stays : (v w : TinyView T) (k : ℕ) → view_len w ≡ view_len v + k → view_len v + k ≤ view_capacity v → w.spare ≡ drop k v.spare
-      → view_inline w ≡ view_inline v → view_capacity w ≡ view_capacity v → StaysInPlace D slots v w
+      → view_inline w ≡ view_inline v → view_capacity w ≡ view_capacity v → StaysInPlace D v w
   taken_stays v w k len room behind place same = record {
     items = refl;
     place = place;
@@ -83,7 +83,7 @@ module _ {T : Type 0} (D : T → Type 0) (slots : ℕ) where
 
   -- a list that grew, and then became no shorter in its place
   pub grows_stays : (u v w : TinyView T) → view_len u ≤ view_len v → view_len v ≤ view_len w
-      → Grows D slots u v → StaysInPlace D slots v w → Grows D slots u w
+      → Grows D u v → StaysInPlace D v w → Grows D u w
   grows_stays u v w le more h k =
       let same = k.capacity in
       let before : ViewInline w → ViewInline v = λ i. sym k.place ∙ i in record {
@@ -101,7 +101,7 @@ module _ {T : Type 0} (D : T → Type 0) (slots : ℕ) where
 
   -- a list that grew and was full, and then took one more item
   pub grows_pushed : {X E : Type 0} (u v w : TinyView T) (x : X) → view_len u ≤ view_len v → view_len w ≡ view_len v + 1 → view_len v ≡ view_capacity v
-      → Grows D slots u v → MakesRoom {E = E} false slots (view_len v + 1) v w (Ok x) → Grows D slots u w
+      → Grows D u v → MakesRoom {E = E} false (view_len v + 1) v w (Ok x) → Grows D u w
   grows_pushed u v w x le one full h room = record {
     place = (
       λ i. absurd (omega (arith, (room.place.0 i).1, full)),
@@ -116,17 +116,17 @@ module _ {T : Type 0} (D : T → Type 0) (slots : ℕ) where
   }
 
   -- a list that grew, and fits the room that it had
-  pub grows_in_room : (v w : TinyView T) → view_len w ≤ view_capacity v → Grows D slots v w → StaysInPlace D slots v w
+  pub grows_in_room : (v w : TinyView T) → view_len w ≤ view_capacity v → Grows D v w → StaysInPlace D v w
   grows_in_room v w le h = record { items = refl; place = same_side (view_inline v) (view_inline w) (view_len w ≤ view_capacity v) le h.place; slot_rule = h.slot_rule; capacity = h.same_room le; fits = h.fits }
 
-module _ {T : Type 0} (exact : Bool) (slots need : ℕ) (old new : TinyView T) where
+module _ {T : Type 0} (exact : Bool) (need : ℕ) (old new : TinyView T) where
   -- a call that was granted room leaves no smaller capacity
-  pub granted_no_less : RoomGranted exact slots need old new → view_capacity old ≤ view_capacity new
+  pub granted_no_less : RoomGranted exact need old new → view_capacity old ≤ view_capacity new
   granted_no_less granted = no_less exact need (view_capacity old) (view_capacity new) (cases_lt (view_capacity old) need) granted.1 granted.2
 
   -- a call that was granted room, and leaves a list that fits it
-  pub room_granted : {X E : Type 0} (r : Result X E) → RoomGranted exact slots need old new → view_len new ≤ view_capacity new → OnOk r (UsesSpare old new)
-      → OnOk r (MakesRoom exact slots need old new r)
+  pub room_granted : {X E : Type 0} (r : Result X E) → RoomGranted exact need old new → view_len new ≤ view_capacity new → OnOk r (UsesSpare old new)
+      → OnOk r (MakesRoom exact need old new r)
   room_granted (Ok y) granted fits spare = record {
     place = granted.0;
     spare = spare;
@@ -142,7 +142,7 @@ module _ {T : Type 0} (exact : Bool) (slots need : ℕ) (old new : TinyView T) w
 
   -- room was refused
   pub room_not_made : {X E : Type 0} (r : Result X E) → IsErr r → view_capacity old < need → Unchanged old new → view_len new ≤ view_capacity new
-      → MakesRoom exact slots need old new r
+      → MakesRoom exact need old new r
   room_not_made (Err e) err less h fits = record {
     place = tt;
     spare = used_up old new 0 (omega (arith, ap length h.items)) (λ _. h.spare);
@@ -157,56 +157,56 @@ module _ {T : Type 0} (exact : Bool) (slots need : ℕ) (old new : TinyView T) w
   room_not_made (Ok x) err less h fits = absurd (false≢true err)
 
   -- it grew, and then the list became `new` in place
-  pub room_then_framed : {X Y E F : Type 0} (mid : TinyView T) (x : X) (y : Y) → MakesRoom {E = F} exact slots need old mid (Ok x) → SameFrame mid new
-      → MakesRoom {E = E} exact slots need old new (Ok y)
+  pub room_then_framed : {X Y E F : Type 0} (mid : TinyView T) (x : X) (y : Y) → MakesRoom {E = F} exact need old mid (Ok x) → SameFrame mid new
+      → MakesRoom {E = E} exact need old new (Ok y)
   room_then_framed mid x y made frame =
-      room_granted (Ok y) (granted_then exact slots need old new mid x frame.place frame.capacity made)
+      room_granted (Ok y) (granted_then exact need old new mid x frame.place frame.capacity made)
       (omega (arith, made.fits, frame.len, frame.capacity))
       (λ i j le. rw (frame.len, frame.spare) (made.spare i (sym frame.place ∙ j) (omega (arith, le, frame.len))))
 
 -- what failed for one call failed for the call around it
-pub not_taken : {T X Y E F : Type 0} (exact : Bool) (slots need : ℕ) (old new : TinyView T) (r : Result X F) (e : E) → true ≡ is_err r
-    → MakesRoom exact slots need old new r → MakesRoom {X = Y} exact slots need old new (Err e)
-not_taken exact slots need old new (Ok x) e err room = absurd (false≢true (sym err))
-not_taken exact slots need old new (Err f) e err room = room_not_made exact slots need old new (Err e) refl room.full room.refused room.fits
+pub not_taken : {T X Y E F : Type 0} (exact : Bool) (need : ℕ) (old new : TinyView T) (r : Result X F) (e : E) → true ≡ is_err r
+    → MakesRoom exact need old new r → MakesRoom {X = Y} exact need old new (Err e)
+not_taken exact need old new (Ok x) e err room = absurd (false≢true (sym err))
+not_taken exact need old new (Err f) e err room = room_not_made exact need old new (Err e) refl room.full room.refused room.fits
 
 -- a list that found no room for one more item was full
-pub was_full : {A T L X F : Type 0} (g : Storage.Ghosts A T L) (slots : ℕ) (old new : TinyVec A T L) (r : Result X F) → true ≡ is_err r → tiny_items_of g new ≡ tiny_items_of g old
-    → MakesRoom false slots (tiny_len_of g old + 1) (tiny_view_of g old) (tiny_view_of g new) r → tiny_len_of g old ≡ tiny_capacity_of g old
-was_full g slots old new (Ok x) err items room = absurd (false≢true (sym err))
-was_full g slots old new (Err f) err items room = omega (arith, room.full, room.fits, room.refused.capacity, ap length items)
+pub was_full : {A T L X F : Type 0} (g : Storage.Ghosts A T L) (old new : TinyVec A T L) (r : Result X F) → true ≡ is_err r → tiny_items_of g new ≡ tiny_items_of g old
+    → MakesRoom false (tiny_len_of g old + 1) (tiny_view_of g old) (tiny_view_of g new) r → tiny_len_of g old ≡ tiny_capacity_of g old
+was_full g old new (Ok x) err items room = absurd (false≢true (sym err))
+was_full g old new (Err f) err items room = omega (arith, room.full, room.fits, room.refused.capacity, ap length items)
 
 -- the spare slots that a list used up in its place, by as many items as it got longer
-pub spare_used : {A T L : Type 0} (g : Storage.Ghosts A T L) (D : T → Type 0) (slots : ℕ) (v w : TinyVec A T L) (xs : List T) (k : ℕ) → length xs ≡ tiny_len_of g v + k
-    → Becomes D slots (tiny_view_of g v) (tiny_view_of g w) xs → tiny_spare_of g w ≡ drop k (tiny_spare_of g v)
-spare_used g D slots (Inline v a) (Inline w b) xs k long h =
+pub spare_used : {A T L : Type 0} (g : Storage.Ghosts A T L) (D : T → Type 0) (v w : TinyVec A T L) (xs : List T) (k : ℕ) → length xs ≡ tiny_len_of g v + k
+    → Becomes D (tiny_view_of g v) (tiny_view_of g w) xs → tiny_spare_of g w ≡ drop k (tiny_spare_of g v)
+spare_used g D (Inline v a) (Inline w b) xs k long h =
     let len = ap length h.items ∙ long in
     taken D (tiny_view_of g (Inline v a)) (tiny_view_of g (Inline w b)) (omega (arith, len)) h.slot_rule refl refl ∙ ap (λ n. drop n (tiny_spare_of g (Inline v a))) (omega (arith, len))
-spare_used g D slots (Inline v a) (Heap w) xs k long h = absurd (false≢true h.place)
-spare_used g D slots (Heap v) (Inline w b) xs k long h = absurd (false≢true (sym h.place))
-spare_used g D slots (Heap v) (Heap w) xs k long h = sym (drop-nil k)
+spare_used g D (Inline v a) (Heap w) xs k long h = absurd (false≢true h.place)
+spare_used g D (Heap v) (Inline w b) xs k long h = absurd (false≢true (sym h.place))
+spare_used g D (Heap v) (Heap w) xs k long h = sym (drop-nil k)
 
 -- a list on the heap, which has no spare slots
-pub heap_becomes : {T : Type 0} (D : T → Type 0) (slots : ℕ) (v w : Vec T Global) (xs : List T) → w.items ≡ xs → vec_capacity w ≡ vec_capacity v → Becomes D slots (heap_view v) (heap_view w) xs
-heap_becomes D slots v w xs is same = record { items = is; place = refl; slot_rule = λ i _. absurd (false≢true i); capacity = same; fits = omega (arith, w.ok.0, w.ok.1) }
+pub heap_becomes : {T : Type 0} (D : T → Type 0) (v w : Vec T Global) (xs : List T) → w.items ≡ xs → vec_capacity w ≡ vec_capacity v → Becomes D (heap_view v) (heap_view w) xs
+heap_becomes D v w xs is same = record { items = is; place = refl; slot_rule = λ i _. absurd (false≢true i); capacity = same; fits = omega (arith, w.ok.0, w.ok.1) }
 
 -- A call that had room for `need` items, or made it, and took what it had then to `new` in place.
-module _ {T : Type 0} (exact : Bool) (D : T → Type 0) (slots need : ℕ) (old new : TinyView T) where
-  pub had_room : {X E : Type 0} {xs : List T} (y : X) → need ≤ view_capacity old → Becomes D slots old new xs → MakesRoom {E = E} exact slots need old new (Ok y)
+module _ {T : Type 0} (exact : Bool) (D : T → Type 0) (need : ℕ) (old new : TinyView T) where
+  pub had_room : {X E : Type 0} {xs : List T} (y : X) → need ≤ view_capacity old → Becomes D old new xs → MakesRoom {E = E} exact need old new (Ok y)
   had_room y room put =
-      room_granted exact slots need old new (Ok y) (granted_before exact slots need old new put.place put.capacity room) put.fits (λ i j le. taken D old new le put.slot_rule i j)
+      room_granted exact need old new (Ok y) (granted_before exact need old new put.place put.capacity room) put.fits (λ i j le. taken D old new le put.slot_rule i j)
 
-  pub made_room : {X Y E F : Type 0} {xs : List T} (mid : TinyView T) (r : Result X F) (y : Y) → false ≡ is_err r → (ViewInline mid → mid ≡ old) → MakesRoom exact slots need old mid r
-      → Becomes D slots mid new xs → MakesRoom {E = E} exact slots need old new (Ok y)
+  pub made_room : {X Y E F : Type 0} {xs : List T} (mid : TinyView T) (r : Result X F) (y : Y) → false ≡ is_err r → (ViewInline mid → mid ≡ old) → MakesRoom exact need old mid r
+      → Becomes D mid new xs → MakesRoom {E = E} exact need old new (Ok y)
   made_room mid (Err e) y ok stays made put = absurd (false≢true ok)
   made_room mid (Ok x) y ok stays made put =
-      room_granted exact slots need old new (Ok y) (granted_then exact slots need old new mid x put.place put.capacity made) put.fits
+      room_granted exact need old new (Ok y) (granted_then exact need old new mid x put.place put.capacity made) put.fits
       (λ i j le. taken D old new le (slots_after_room D old mid new stays put.place put.slot_rule) i j)
 
 -- a call that took one more item left the list xs, in room that was there or was made
 abbrev pub Took : {A T L : Type 0} → Storage.Ghosts A T L → (T → Type 0) → ℕ → List T → TinyVec A T L → TinyVec A T L → Type 0 → Type 0
 Took g D slots xs old new E = (tiny_items_of g new ≡ xs) × (IsInline old → tiny_capacity_of g old ≡ slots)
-    × MakesRoom {X = Unit} {E = E} false slots (tiny_len_of g old + 1) (tiny_view_of g old) (tiny_view_of g new) (Ok tt)
+    × MakesRoom {X = Unit} {E = E} false (tiny_len_of g old + 1) (tiny_view_of g old) (tiny_view_of g new) (Ok tt)
 
 -- The call that put one more item into a list: in its array, in its allocation, or after it grew.
 module _ {A T L E : Type 0} (g : Storage.Ghosts A T L) (D : T → Type 0) (slots : ℕ) (put : List T → List T) (old new : TinyVec A T L) where
@@ -216,21 +216,21 @@ module _ {A T L E : Type 0} (g : Storage.Ghosts A T L) (D : T → Type 0) (slots
   took_inline v w a b was is longer count some made =
       let long : length (put (items_of g v)) ≡ len_of g v + 1 = rw was at longer in
       let room : len_of g v + 1 ≤ length (slots_of g v) = omega (arith, parts_of g v, eqb-false (length (spare_of g v)) 0 (sym some)) in
-      let list = inline_becomes D slots (view_of g v) (view_of g w) _ made.items (slots_used D (view_of g v) (view_of g w) 1 (ap length made.items ∙ long) made.spare)
+      let list = inline_becomes D (view_of g v) (view_of g w) _ made.items (slots_used D (view_of g v) (view_of g w) 1 (ap length made.items ∙ long) made.spare)
       made.lender.slot_count in
-      rw (is, was) (made.items, λ _. count, had_room false D slots (len_of g v + 1) (array_view (view_of g v)) (array_view (view_of g w)) tt room list)
+      rw (is, was) (made.items, λ _. count, had_room false D (len_of g v + 1) (array_view (view_of g v)) (array_view (view_of g w)) tt room list)
 
   pub took_heap : (v w : Vec T Global) → old ≡ Heap v → new ≡ Heap w → length v.items + 1 ≤ vec_capacity v → w.items ≡ put v.items → vec_capacity w ≡ vec_capacity v
       → Took g D slots (put (tiny_items_of g old)) old new E
   took_heap v w was is room items same =
-      rw (is, was) (items, λ i. absurd (false≢true i), had_room false D slots (length v.items + 1) (heap_view v) (heap_view w) tt room (heap_becomes D slots v w (put v.items) items same))
+      rw (is, was) (items, λ i. absurd (false≢true i), had_room false D (length v.items + 1) (heap_view v) (heap_view w) tt room (heap_becomes D v w (put v.items) items same))
 
   pub took_grown : {X F : Type 0} (mid : TinyVec A T L) (r : Result X F) → false ≡ is_err r → tiny_items_of g mid ≡ tiny_items_of g old
-      → OnOk r (is_inline mid ≡ false) → (IsInline old → tiny_capacity_of g old ≡ slots) → MakesRoom false slots (tiny_len_of g old + 1) (tiny_view_of g old) (tiny_view_of g mid) r
-      → Becomes D slots (tiny_view_of g mid) (tiny_view_of g new) (put (tiny_items_of g mid)) → Took g D slots (put (tiny_items_of g old)) old new E
+      → OnOk r (is_inline mid ≡ false) → (IsInline old → tiny_capacity_of g old ≡ slots) → MakesRoom false (tiny_len_of g old + 1) (tiny_view_of g old) (tiny_view_of g mid) r
+      → Becomes D (tiny_view_of g mid) (tiny_view_of g new) (put (tiny_items_of g mid)) → Took g D slots (put (tiny_items_of g old)) old new E
   took_grown mid (Ok x) ok items out count made list = (
     list.items ∙ ap put items,
     count,
-    made_room false D slots (tiny_len_of g old + 1) (tiny_view_of g old) (tiny_view_of g new) (tiny_view_of g mid) (Ok x) tt refl (λ i. absurd (false≢true (sym out ∙ i))) made list,
+    made_room false D (tiny_len_of g old + 1) (tiny_view_of g old) (tiny_view_of g new) (tiny_view_of g mid) (Ok x) tt refl (λ i. absurd (false≢true (sym out ∙ i))) made list,
   )
   took_grown mid (Err e) ok items out count made list = absurd (false≢true ok)

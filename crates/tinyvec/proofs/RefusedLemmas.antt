@@ -89,13 +89,13 @@ pub spare_kept : {T : Type 0} (old mid new : TinyView T) → (ViewInline mid →
     → ViewInline new → mid.spare ≡ old.spare
 spare_kept old mid new stays place i = ap (λ v. v.spare) (stays (subst IsTrue place i))
 
-module _ {T : Type 0} (exact : Bool) (slots need : ℕ) (old new : TinyView T) where
+module _ {T : Type 0} (exact : Bool) (need : ℕ) (old new : TinyView T) where
   -- a list that stayed where its room was granted, and kept that room
   pub granted_then : {X E : Type 0} (mid : TinyView T) (x : X) → view_inline new ≡ view_inline mid → view_capacity new ≡ view_capacity mid
-      → MakesRoom {E = E} exact slots need old mid (Ok x) → RoomGranted exact slots need old new
+      → MakesRoom {E = E} exact need old mid (Ok x) → RoomGranted exact need old new
   granted_then mid x stays same made =
       ((λ i. made.place.0 (sym stays ∙ i), λ both. stays ∙ made.place.1 both), λ room. same ∙ made.same_room room, λ less. same ∙ made.grown less)
 
   -- there was room before
-  pub granted_before : view_inline new ≡ view_inline old → view_capacity new ≡ view_capacity old → need ≤ view_capacity old → RoomGranted exact slots need old new
-  granted_before stays same le = (place_kept slots need old new stays le, λ _. same, λ less. absurd (omega (arith, le, less)))
+  pub granted_before : view_inline new ≡ view_inline old → view_capacity new ≡ view_capacity old → need ≤ view_capacity old → RoomGranted exact need old new
+  granted_before stays same le = (place_kept need old new stays le, λ _. same, λ less. absurd (omega (arith, le, less)))

@@ -16,7 +16,7 @@ replaced room start end put old new result le inside fits puts =
     let ahead = length-take-le start old (omega (arith, le, inside)) in
     (puts.1 (omega (arith, ahead, length-drop end old, le, inside, fits))).1
 
-module _ {T : Type 0} (slots n : ℕ) (old mid new : TinyView T) (fits : view_len old ≤ view_capacity old)
+module _ {T : Type 0} (n : ℕ) (old mid new : TinyView T) (fits : view_len old ≤ view_capacity old)
     (long : view_len new ≤ view_len old + n) (exact : 0 < n → view_len new ≡ view_len old + n) where
   -- as many items as the call made room for fit where its result does
   as_many : (room : ℕ) → view_len old ≤ room → view_len new ≤ room → view_len old + n ≤ room
@@ -26,18 +26,18 @@ module _ {T : Type 0} (slots n : ℕ) (old mid new : TinyView T) (fits : view_le
         | inr none ↦ omega (arith, none, few)
       ]
 
-  replaced_place : PlaceRule slots (view_len old + n) old mid → view_inline new ≡ view_inline mid → PlaceRule slots (view_len new) old new
+  replaced_place : PlaceRule (view_len old + n) old mid → view_inline new ≡ view_inline mid → PlaceRule (view_len new) old new
   replaced_place first same = (
     (λ i. let both = first.0 (sym same ∙ i) in (both.0, omega (arith, long, both.1))),
     λ h. same ∙ first.1 (h.0, as_many (view_capacity old) fits h.1),
   )
 
   pub replaced_room : {X E Y F : Type 0} {xs : List T} (exactly : Bool) (D : T → Type 0) (x : X) (y : Y)
-      → (ViewInline mid → mid ≡ old) → MakesRoom {E = F} exactly slots (view_len old + n) old mid (Ok y) → Becomes D slots mid new xs
-      → MakesRoom {E = E} exactly slots (view_len new) old new (Ok x)
+      → (ViewInline mid → mid ≡ old) → MakesRoom {E = F} exactly (view_len old + n) old mid (Ok y) → Becomes D mid new xs
+      → MakesRoom {E = E} exactly (view_len new) old new (Ok x)
   replaced_room exactly D x y kept made stays =
-      room_granted exactly slots (view_len new) old new (Ok x) (
+      room_granted exactly (view_len new) old new (Ok x) (
         replaced_place made.place stays.place,
         λ le. stays.capacity ∙ made.same_room (as_many (view_capacity old) fits le),
-        λ less. stays.capacity ∙ subst (λ k. GrowsTo exactly slots k old mid) (sym (exact (omega (arith, less, long, fits)))) made.grown less,
+        λ less. stays.capacity ∙ subst (λ k. GrowsTo exactly k old mid) (sym (exact (omega (arith, less, long, fits)))) made.grown less,
       ) stays.fits (λ i j le. taken D old new le (slots_after_room D old mid new kept stays.place stays.slot_rule) i j)

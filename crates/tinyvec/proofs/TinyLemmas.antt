@@ -84,7 +84,7 @@ module _ {T : Type 0} (D : T → Type 0) where
   used_rule old new le spare i j = slots_taken old new (view_len new - view_len old) (omega (arith, le)) (spare i j le) i j
 
   -- what a new list collects item by item
-  pub collected : (slots : ℕ) (old new : TinyView T) → IsNew D slots old → Grows D slots old new → Collects D slots new.items new
+  pub collected : (slots : ℕ) (old new : TinyView T) → IsNew D slots old → Grows D old new → Collects D slots new.items new
   collected slots old new made grows =
       let zero : view_len old ≡ 0 = ap length made.items in
       let first = made.capacity in

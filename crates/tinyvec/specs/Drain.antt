@@ -37,8 +37,8 @@ module _ {A T L : Type 0} (g : Storage.Ghosts A T L) where
   DrainCanStep d = (d.start ≤ d.front) × (d.back ≤ d.start + d.gap) × (d.start + d.gap ≤ tiny_len_of g d.vec.now)
 
   -- what d leaves when it is dropped
-  abbrev pub DrainLeaves : (T → Type 0) → ℕ → TinyVecDrain A T L → TinyVec A T L → Type 0
-  DrainLeaves D slots d new = Becomes D slots (tiny_view_of g (drain_vec d)) (tiny_view_of g new) (drain_kept d)
+  abbrev pub DrainLeaves : (T → Type 0) → TinyVecDrain A T L → TinyVec A T L → Type 0
+  DrainLeaves D d new = Becomes D (tiny_view_of g (drain_vec d)) (tiny_view_of g new) (drain_kept d)
 
   -- old and new borrow the same vector, and leave it the same
   pub record DrainKeeps (old new : TinyVecDrain A T L) : Type 0 where

@@ -58,5 +58,5 @@ module _ {A T L : Type 0} (g : Storage.Ghosts A T L) where
   tiny_framed-with (Heap v) ws e = record { len = ap length (tiny_items-with (Heap v) ws e) ∙ e; spare = refl; place = refl; capacity = refl }
 
 -- a list that stayed in its place, if there was room
-pub place_kept : {T : Type 0} (slots need : ℕ) (old new : TinyView T) → view_inline new ≡ view_inline old → need ≤ view_capacity old → PlaceRule slots need old new
-place_kept slots need old new same le = (λ i. (sym same ∙ i, le), λ h. same ∙ h.0)
+pub place_kept : {T : Type 0} (need : ℕ) (old new : TinyView T) → view_inline new ≡ view_inline old → need ≤ view_capacity old → PlaceRule need old new
+place_kept need old new same le = (λ i. (sym same ∙ i, le), λ h. same ∙ h.0)

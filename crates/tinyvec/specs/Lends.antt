@@ -32,8 +32,8 @@ module _ (A L I : RattleType) (g : Storage.Ghosts A.Denot I.Denot L.Denot) (v : 
   lends_item i r = Lends (the_row A I L) I v r (tiny_with_item g v.now i)
 
   -- r is a new item: once its borrow ends, the list is `with` of what r shows last, and room was made as by `push`. At `Err` nothing
-  -- changes. `slots` is the number of slots of an array.
-  abbrev pub lends_added : ℕ → {E : Type 0} → (I.Denot → List I.Denot) → Result (MutBor I.Denot) E → Fml
-  lends_added slots with r = LendsSoOk (the_row A I L) I v r
-      (λ n x. (tiny_items_of g n ≡ with x) × MakesRoom false slots (tiny_len_of g v.now + 1) (tiny_view_of g v.now) (tiny_view_of g n) r)
+  -- changes.
+  abbrev pub lends_added : {E : Type 0} → (I.Denot → List I.Denot) → Result (MutBor I.Denot) E → Fml
+  lends_added with r = LendsSoOk (the_row A I L) I v r
+      (λ n x. (tiny_items_of g n ≡ with x) × MakesRoom false (tiny_len_of g v.now + 1) (tiny_view_of g v.now) (tiny_view_of g n) r)
       (λ n. Unchanged (tiny_view_of g v.now) (tiny_view_of g n))

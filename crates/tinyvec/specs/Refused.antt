@@ -7,21 +7,21 @@ use Rattle.tinyvec.specs.View.{TinyView, view_len, view_inline, view_capacity, V
 use Rattle.tinyvec.specs.Room.{KeepsRoom, GrowsTo}
 
 -- A call that needs room for `need` items had it, or allocated it. `exact` says how it grew.
-abbrev pub RoomGranted : {T : Type 0} → (exact : Bool) → ℕ → ℕ → TinyView T → TinyView T → Type 0
-RoomGranted exact slots need old new = PlaceRule slots need old new × KeepsRoom slots need old new × GrowsTo exact slots need old new
+abbrev pub RoomGranted : {T : Type 0} → (exact : Bool) → ℕ → TinyView T → TinyView T → Type 0
+RoomGranted exact need old new = PlaceRule need old new × KeepsRoom need old new × GrowsTo exact need old new
 
 -- A call that needs room for `need` items failed. Either there was no such room, the allocator refused it, and nothing
 -- changed. Or the room was granted, as when the call succeeds, and P says which clone failed then.
-abbrev pub RefusedFor : {T : Type 0} → ℕ → ℕ → Type 0 → TinyView T → TinyView T → Type 0
-RefusedFor slots need P old new =
-    ((view_capacity old < need) × Unchanged old new) ⊎ (RoomGranted (view_inline old) slots need old new × P)
+abbrev pub RefusedFor : {T : Type 0} → ℕ → Type 0 → TinyView T → TinyView T → Type 0
+RefusedFor need P old new =
+    ((view_capacity old < need) × Unchanged old new) ⊎ (RoomGranted (view_inline old) need old new × P)
 
 -- if the list is inline, its first n spare slots hold clones of xs
 abbrev pub ClonesBehind : {T : Type 0} → (T → T → Type 0) → List T → ℕ → TinyView T → TinyView T → Type 0
 ClonesBehind C xs n old new = ViewInline new → ClonesOver C xs n old.spare new.spare
 
 -- clones of xs were appended, with this result, to a list that has room for them
-pub record ClonesInRoom {T X E : Type 0} (g : Clone.Ghosts T) (slots : ℕ) (xs : List T) (old new : TinyView T)
+pub record ClonesInRoom {T X E : Type 0} (g : Clone.Ghosts T) (xs : List T) (old new : TinyView T)
     (result : Result X E) : Type 0 where
   pub items : OnOk result (AppendsClones g.is_clone old.items new.items xs)
   pub spare : OnOk result (new.spare ≡ drop (length xs) old.spare)
@@ -34,6 +34,6 @@ pub record ClonesInRoom {T X E : Type 0} (g : Clone.Ghosts T) (slots : ℕ) (xs 
 
 -- Appending clones of xs failed. If only a clone was refused, the reservation stays, and an inline list's first j spare slots hold
 -- the clones made.
-abbrev pub ClonesRefused : {T : Type 0} → Clone.Ghosts T → ℕ → List T → TinyView T → TinyView T → Type 0
-ClonesRefused g slots xs old new = RefusedFor slots (view_len old + length xs)
+abbrev pub ClonesRefused : {T : Type 0} → Clone.Ghosts T → List T → TinyView T → TinyView T → Type 0
+ClonesRefused g xs old new = RefusedFor (view_len old + length xs)
     ((j : ℕ) × RefusedAt g.is_infallible xs j × ClonesBehind g.is_clone (take j xs) j old new) old new

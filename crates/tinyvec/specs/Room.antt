@@ -5,31 +5,31 @@ use Rattle.tinyvec.specs.View.{TinyView, view_len, view_inline, ViewInline, view
 
 module _ {T : Type 0} where
   -- if there was room for `need` items, the capacity is as it was
-  abbrev pub KeepsRoom : ℕ → ℕ → TinyView T → TinyView T → Type 0
-  KeepsRoom slots need old new = need ≤ view_capacity old → view_capacity new ≡ view_capacity old
+  abbrev pub KeepsRoom : ℕ → TinyView T → TinyView T → Type 0
+  KeepsRoom need old new = need ≤ view_capacity old → view_capacity new ≡ view_capacity old
 
   -- if there was less room than `need`, the capacity became `need` if `exact` holds; else it doubled, or became `need` if that is more
-  abbrev pub GrowsTo : (exact : Bool) → ℕ → ℕ → TinyView T → TinyView T → Type 0
-  GrowsTo exact slots need old new = view_capacity old < need
+  abbrev pub GrowsTo : (exact : Bool) → ℕ → TinyView T → TinyView T → Type 0
+  GrowsTo exact need old new = view_capacity old < need
       → view_capacity new ≡ (if exact then need else max (2 * view_capacity old) need)
 
   -- a capacity that grew item by item is less than twice the length
-  abbrev pub GrowsInSteps : ℕ → TinyView T → TinyView T → Type 0
-  GrowsInSteps slots old new = view_capacity old < view_capacity new → view_capacity new < 2 * view_len new
+  abbrev pub GrowsInSteps : TinyView T → TinyView T → Type 0
+  GrowsInSteps old new = view_capacity old < view_capacity new → view_capacity new < 2 * view_len new
 
   -- a capacity that grew item by item doubled some number of times, from one at least: as many times as pushes double it
-  abbrev pub DoublesInSteps : ℕ → TinyView T → TinyView T → Type 0
-  DoublesInSteps slots old new = view_capacity old < view_capacity new
+  abbrev pub DoublesInSteps : TinyView T → TinyView T → Type 0
+  DoublesInSteps old new = view_capacity old < view_capacity new
       → (k : ℕ) × (view_capacity new ≡ 2 ^ k * max 1 (view_capacity old))
 
   -- a call that pushes item by item took `old` to `new`: the list moves only if it outgrows the array
-  pub record Grows (D : T → Type 0) (slots : ℕ) (old new : TinyView T) : Type 0 where
-    pub place : PlaceRule slots (view_len new) old new
+  pub record Grows (D : T → Type 0) (old new : TinyView T) : Type 0 where
+    pub place : PlaceRule (view_len new) old new
     pub slot_rule : TinySlotRule D old new
     pub capacity : view_capacity old ≤ view_capacity new
-    pub same_room : KeepsRoom slots (view_len new) old new
-    pub grown : GrowsInSteps slots old new
-    pub doubled : DoublesInSteps slots old new
+    pub same_room : KeepsRoom (view_len new) old new
+    pub grown : GrowsInSteps old new
+    pub doubled : DoublesInSteps old new
     pub fits : view_len new ≤ view_capacity new
 
   -- `v` was made for n items. It is inline if they fit the array, and defaults follow the `used` items of its list. On the heap it
@@ -54,13 +54,13 @@ module _ {T : Type 0} where
 module _ {T X E : Type 0} where
   -- A call that needs room for `need` items took `old` to `new`, with this result. The list is inline exactly if it was and the need is
   -- within the slots. If there was that room, the capacity is unchanged, else it grew, as `exact` says.
-  pub record MakesRoom (exact : Bool) (slots need : ℕ) (old new : TinyView T) (result : Result X E) : Type 0 where
-    pub place : OnOk result (PlaceRule slots need old new)
+  pub record MakesRoom (exact : Bool) (need : ℕ) (old new : TinyView T) (result : Result X E) : Type 0 where
+    pub place : OnOk result (PlaceRule need old new)
     -- an inline list that got no shorter used up as many spare slots
     pub spare : ViewInline old → ViewInline new → view_len old ≤ view_len new → new.spare ≡ drop (view_len new - view_len old) old.spare
     pub capacity : view_capacity old ≤ view_capacity new
-    pub same_room : KeepsRoom slots need old new
-    pub grown : OnOk result (GrowsTo exact slots need old new)
+    pub same_room : KeepsRoom need old new
+    pub grown : OnOk result (GrowsTo exact need old new)
     pub fits : view_len new ≤ view_capacity new
     -- if there is room it allocates nothing, and a failure changes nothing
     pub succeeds : need ≤ view_capacity old → IsOk result
@@ -69,12 +69,12 @@ module _ {T X E : Type 0} where
 
   -- A move to the heap took `old` to `new`, with this result, and made room there for n more items. A list that moves has room for no
   -- further ones. One on the heap grows as by `reserve`.
-  pub record MovesToHeap (slots n : ℕ) (old new : TinyView T) (result : Result X E) : Type 0 where
+  pub record MovesToHeap (n : ℕ) (old new : TinyView T) (result : Result X E) : Type 0 where
     pub items : new.items ≡ old.items
     pub place : OnOk result (view_inline new ≡ false)
     pub enough : OnOk result (view_len old + n ≤ view_capacity new)
     pub moved : ViewInline old → OnOk result (view_capacity new ≡ view_len old + n)
-    pub room : view_inline old ≡ false → MakesRoom (view_inline old) slots (view_len old + n) old new result
+    pub room : view_inline old ≡ false → MakesRoom (view_inline old) (view_len old + n) old new result
     pub fits : view_len new ≤ view_capacity new
     -- an empty list allocates nothing, and a failure changes nothing
     pub succeeds_empty : view_len old + n ≡ 0 → IsOk result

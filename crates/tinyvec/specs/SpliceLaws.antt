@@ -31,8 +31,8 @@ module _ {T : Type 0} where
       → items_moved slots (view_inline v) (view_inline w) ≡ items_moved slots (view_inline u) (view_inline x)
   frame_moved slots u v w x k j = ap (λ b. items_moved slots b (view_inline w)) k.place ∙ ap (items_moved slots (view_inline u)) (sym j.place)
 
-  module _ (D : T → Type 0) (slots : ℕ) where
-    pub frame_becomes : (u v w : TinyView T) (xs : List T) → SameFrame u v → Becomes D slots v w xs → Becomes D slots u w xs
+  module _ (D : T → Type 0) where
+    pub frame_becomes : (u v w : TinyView T) (xs : List T) → SameFrame u v → Becomes D v w xs → Becomes D u w xs
     frame_becomes u v w xs k h = record {
       items = h.items;
       place = h.place ∙ k.place;
@@ -41,7 +41,7 @@ module _ {T : Type 0} where
       fits = h.fits;
     }
 
-    pub frame_grows : (u v w x : TinyView T) → SameFrame u v → Grows D slots v w → SameFrame w x → Grows D slots u x
+    pub frame_grows : (u v w x : TinyView T) → SameFrame u v → Grows D v w → SameFrame w x → Grows D u x
     frame_grows u v w x k h j = record {
       place = rw (j.place, j.len, sym k.place, sym k.capacity) h.place;
       slot_rule = tiny_slots_then_framed D u w x (tiny_slots_framed D u v w k h.slot_rule) j;
@@ -52,9 +52,9 @@ module _ {T : Type 0} where
       fits = let fits = h.fits in let b = j.capacity in let c = j.len in omega (arith, b, c, fits);
     }
 
-    pub stays_grows : (v w : TinyView T) → StaysInPlace D slots v w → view_len w ≤ view_capacity w → Grows D slots v w
+    pub stays_grows : (v w : TinyView T) → StaysInPlace D v w → view_len w ≤ view_capacity w → Grows D v w
     stays_grows v w h fits = record {
-      place = place_kept slots (view_len w) v w h.place (let c = h.capacity in omega arith);
+      place = place_kept (view_len w) v w h.place (let c = h.capacity in omega arith);
       slot_rule = h.slot_rule;
       capacity = let c = h.capacity in omega arith;
       same_room = λ _. h.capacity;
@@ -63,6 +63,6 @@ module _ {T : Type 0} where
       fits = fits;
     }
 
-    pub stays : (v w : TinyView T) → Grows D slots v w → view_len w ≤ view_capacity v
+    pub stays : (slots : ℕ) (v w : TinyView T) → Grows D v w → view_len w ≤ view_capacity v
         → items_moved slots (view_inline v) (view_inline w) ≡ 0
-    stays v w h fits = stays_in slots (view_inline v) (view_inline w) (λ was. h.place.1 (was, fits))
+    stays slots v w h fits = stays_in slots (view_inline v) (view_inline w) (λ was. h.place.1 (was, fits))

@@ -65,8 +65,8 @@ module _ {T : Type 0} where
 
   -- The place rule: after a call that needs room for `need` items, the list is inline exactly if it was inline and the
   -- need is within the slots.
-  abbrev pub PlaceRule : ℕ → ℕ → TinyView T → TinyView T → Type 0
-  PlaceRule slots need old new = ViewInline new ↔ (ViewInline old × (need ≤ view_capacity old))
+  abbrev pub PlaceRule : ℕ → TinyView T → TinyView T → Type 0
+  PlaceRule need old new = ViewInline new ↔ (ViewInline old × (need ≤ view_capacity old))
 
   -- The slot rule, if the list is inline before and after. If it got shorter, as many defaults precede the old spare slots. If it
   -- got longer, it used up as many of them.
@@ -89,7 +89,7 @@ module _ {T : Type 0} where
     pub capacity : new.place.capacity ≡ old.place.capacity
 
   -- a call that allocates nothing took `old` to `new`, whose list is xs: place and capacity are unchanged, and inline the slot rule holds
-  pub record Becomes (D : T → Type 0) (slots : ℕ) (old new : TinyView T) (xs : List T) : Type 0 where
+  pub record Becomes (D : T → Type 0) (old new : TinyView T) (xs : List T) : Type 0 where
     pub items : new.items ≡ xs
     pub place : view_inline new ≡ view_inline old
     pub slot_rule : TinySlotRule D old new
@@ -97,11 +97,11 @@ module _ {T : Type 0} where
     pub fits : view_len new ≤ view_capacity new
 
   -- the same of any list
-  abbrev pub StaysInPlace : (T → Type 0) → ℕ → TinyView T → TinyView T → Type 0
-  StaysInPlace D slots old new = Becomes D slots old new new.items
+  abbrev pub StaysInPlace : (T → Type 0) → TinyView T → TinyView T → Type 0
+  StaysInPlace D old new = Becomes D old new new.items
 
   -- a call that only removes items, and allocates nothing, took `old` to `new`
-  pub record ShortensInPlace (D : T → Type 0) (slots : ℕ) (old new : TinyView T) : Type 0 where
+  pub record ShortensInPlace (D : T → Type 0) (old new : TinyView T) : Type 0 where
     pub bound : view_len new ≤ view_len old
     pub place : view_inline new ≡ view_inline old
     pub slot_rule : TinySlotRule D old new
@@ -119,7 +119,7 @@ module _ {T : Type 0} where
 
   -- what `v.clone()` may return: clones of the items and the spare slots in the same place, on the heap with a capacity of
   -- the length; C is the `is_clone` of the item
-  pub record IsTinyClone (C : T → T → Type 0) (slots : ℕ) (v w : TinyView T) : Type 0 where
+  pub record IsTinyClone (C : T → T → Type 0) (v w : TinyView T) : Type 0 where
     pub items : AllZip C v.items w.items
     pub len : view_len w ≡ view_len v
     pub spare : AllZip C v.spare w.spare

@@ -61,7 +61,7 @@ impl<A: Array> TinyVec<A> {
         requires room { vec_len out.old
             + length (removed (tiny_items_of A.Slots self.old) (R.start_bound range) (R.end_bound range))
             ≤ vec_capacity out.old }
-        ensures becomes { Becomes A.Item.is_default A.CAPACITY (tiny_view_of A.Slots self.old)
+        ensures becomes { Becomes A.Item.is_default (tiny_view_of A.Slots self.old)
             (tiny_view_of A.Slots self.new)
             (before (tiny_items_of A.Slots self.old) (R.start_bound range) ++ after
             (tiny_items_of A.Slots self.old) (R.end_bound range)) }
@@ -80,7 +80,7 @@ impl<'a, A: Array> Drop for TinyVecDrain<'a, A> {
 
     #[inline(always)]
     fn drop(self)
-        ensures { DrainLeaves A.Slots A.Item.is_default A.CAPACITY self.entry self.exit.0.now }
+        ensures { DrainLeaves A.Slots A.Item.is_default self.entry self.exit.0.now }
     {
         let TinyVecDrain {
             vec,

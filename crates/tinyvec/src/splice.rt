@@ -74,7 +74,7 @@ impl<A: Array> TinyVec<A> {
 
         // It refuses none while there is room.
         ensures full { OnErr result (tiny_len_of A.Slots self.new ≡ tiny_capacity_of A.Slots self.new) }
-        ensures grows { Grows A.Item.is_default A.CAPACITY (tiny_view_of A.Slots self.old)
+        ensures grows { Grows A.Item.is_default (tiny_view_of A.Slots self.old)
             (tiny_view_of A.Slots self.new) }
         ensures no_shorter { OnErr result (tiny_len_of A.Slots self.old ≤ tiny_len_of A.Slots self.new) }
 
@@ -120,12 +120,12 @@ impl<A: Array> TinyVec<A> {
         ensures items { OnOk result (tiny_items_of A.Slots self.new
             ≡ before (tiny_items_of A.Slots self.old) (R.start_bound range) ++ replacement.now
             ++ after (tiny_items_of A.Slots self.old) (R.end_bound range)) }
-        ensures room { OnOk result (MakesRoom (is_inline self.old) A.CAPACITY (tiny_len_of A.Slots self.new)
+        ensures room { OnOk result (MakesRoom (is_inline self.old) (tiny_len_of A.Slots self.new)
             (tiny_view_of A.Slots self.old) (tiny_view_of A.Slots self.new) result) }
         ensures slot_rule { OnOk result (TinySlotRule A.Item.is_default (tiny_view_of A.Slots self.old)
             (tiny_view_of A.Slots self.new)) }
         ensures capacity { tiny_capacity_of A.Slots self.old ≤ tiny_capacity_of A.Slots self.new }
-        ensures same_room { KeepsRoom A.CAPACITY (tiny_len_of A.Slots self.new)
+        ensures same_room { KeepsRoom (tiny_len_of A.Slots self.new)
             (tiny_view_of A.Slots self.old) (tiny_view_of A.Slots self.new) }
         ensures fits { tiny_len_of A.Slots self.new ≤ tiny_capacity_of A.Slots self.new }
 
@@ -151,7 +151,7 @@ impl<A: Array> TinyVec<A> {
         requires in_list { part.end ≤ tiny_len_of A.Slots self.old }
         requires room { tiny_len_of A.Slots self.old - (part.end - part.start) + length replacement.now
             ≤ tiny_capacity_of A.Slots self.old }
-        ensures { Becomes A.Item.is_default A.CAPACITY (tiny_view_of A.Slots self.old) (tiny_view_of A.Slots self.new)
+        ensures { Becomes A.Item.is_default (tiny_view_of A.Slots self.old) (tiny_view_of A.Slots self.new)
             (take part.start (tiny_items_of A.Slots self.old) ++ replacement.now ++ drop part.end
             (tiny_items_of A.Slots self.old)) }
     {
@@ -168,7 +168,7 @@ impl<A: Array> CanSplice for TinyVec<A> {
 
     ghost splice_word = { codes "TinyVecSplice" };
 
-    ghost Grown = { λ v w. Grows A.Item.is_default A.CAPACITY (tiny_view_of A.Slots v) (tiny_view_of A.Slots w) };
+    ghost Grown = { λ v w. Grows A.Item.is_default (tiny_view_of A.Slots v) (tiny_view_of A.Slots w) };
 
     fn splice_name() -> &'static str {
         "TinyVecSplice"
@@ -196,13 +196,13 @@ impl<A: Array> CanSplice for TinyVec<A> {
 
     ghost kept_len = { λ v w k. k.len };
 
-    ghost kept_grown = { λ u v w x. frame_grows A.Item.is_default A.CAPACITY (tiny_view_of A.Slots u)
+    ghost kept_grown = { λ u v w x. frame_grows A.Item.is_default (tiny_view_of A.Slots u)
         (tiny_view_of A.Slots v) (tiny_view_of A.Slots w) (tiny_view_of A.Slots x) };
 
     ghost kept_moved = { λ u v w x. frame_moved A.CAPACITY (tiny_view_of A.Slots u) (tiny_view_of A.Slots v)
         (tiny_view_of A.Slots w) (tiny_view_of A.Slots x) };
 
-    ghost cut_grown = { λ v w. stays_grows A.Item.is_default A.CAPACITY (tiny_view_of A.Slots v)
+    ghost cut_grown = { λ v w. stays_grows A.Item.is_default (tiny_view_of A.Slots v)
         (tiny_view_of A.Slots w) };
 
     ghost grown_room = { λ v w h. h.capacity };
@@ -238,7 +238,7 @@ impl<A: Array> CanCut for TinyVec<A> {
 
     ghost Kept = { FrameOf A.Slots };
 
-    ghost Truncated = { λ v w. StaysInPlace A.Item.is_default A.CAPACITY (tiny_view_of A.Slots v)
+    ghost Truncated = { λ v w. StaysInPlace A.Item.is_default (tiny_view_of A.Slots v)
         (tiny_view_of A.Slots w) };
 
     #[inline]
@@ -258,6 +258,6 @@ impl<A: Array> CanCut for TinyVec<A> {
 
     ghost written = { tiny_written A.Slots };
 
-    ghost kept_cut = { λ u v w. frame_becomes A.Item.is_default A.CAPACITY (tiny_view_of A.Slots u)
+    ghost kept_cut = { λ u v w. frame_becomes A.Item.is_default (tiny_view_of A.Slots u)
         (tiny_view_of A.Slots v) (tiny_view_of A.Slots w) (tiny_items_of A.Slots w) };
 }

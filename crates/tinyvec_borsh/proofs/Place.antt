@@ -13,16 +13,16 @@ either false x y most p q = q
 
 module _ {T : Type 0} where
   -- a list was made longer, and then its items were written
-  pub place-framed : (slots need : ℕ) (old mid new : TinyView T) → PlaceRule slots need old mid → view_inline new ≡ view_inline mid → view_len new ≡ need → PlaceRule slots (view_len new) old new
-  place-framed slots need old mid new rule same long =
-      subst (λ n. PlaceRule slots n old new) (sym long) (subst (λ place. IsTrue place ↔ (ViewInline old × (need ≤ view_capacity old))) (sym same) rule)
+  pub place-framed : (need : ℕ) (old mid new : TinyView T) → PlaceRule need old mid → view_inline new ≡ view_inline mid → view_len new ≡ need → PlaceRule (view_len new) old new
+  place-framed need old mid new rule same long =
+      subst (λ n. PlaceRule n old new) (sym long) (subst (λ place. IsTrue place ↔ (ViewInline old × (need ≤ view_capacity old))) (sym same) rule)
 
   -- A list of which n items are to come is inline only where those so far fit, and surely where all do.
   pub record IsPlaced (slots n : ℕ) (v : TinyView T) : Type 0 where
     pub fits : ViewInline v → view_len v ≤ slots
     pub all_fit : n ≤ slots → ViewInline v
 
-  pub placed-longer : (slots n : ℕ) (old new : TinyView T) → view_len new ≤ n → PlaceRule slots (view_len new) old new
+  pub placed-longer : (slots n : ℕ) (old new : TinyView T) → view_len new ≤ n → PlaceRule (view_len new) old new
       → (ViewInline old → view_capacity old ≡ slots) → IsPlaced slots n old → IsPlaced slots n new
   placed-longer slots n old new few rule inline before = record {
     fits = λ h. let both = rule.0 h in omega (arith, both.1, inline both.0);
@@ -30,7 +30,7 @@ module _ {T : Type 0} where
   }
 
   -- A list that got longer in its place used up defaults, where the slots after it were defaults.
-  pub spare-longer : (D : T → Type 0) (slots : ℕ) (old new : TinyView T) → view_len old ≤ view_len new → PlaceRule slots (view_len new) old new → TinySlotRule D old new
+  pub spare-longer : (D : T → Type 0) (slots : ℕ) (old new : TinyView T) → view_len old ≤ view_len new → PlaceRule (view_len new) old new → TinySlotRule D old new
       → (ViewInline old → AreDefaults D (slots - view_len old) old.spare) → ViewInline new → AreDefaults D (slots - view_len new) new.spare
   spare-longer D slots old new longer rule used before h =
       let was = (rule.0 h).0 in
@@ -43,9 +43,9 @@ module _ {T : Type 0} where
       subst (AreDefaults D (slots - view_len new)) (sym is) (omega (arith, long, were.0, longer), All-drop D n old.spare were.1)
 
   -- a list that grows to n items, of which there will be at most `count`, has room for at most twice as many, if not for more before
-  pub room-grown : (slots n count : ℕ) (old new : TinyView T) → KeepsRoom slots n old new → GrowsTo (view_inline old) slots n old new → n ≤ count
+  pub room-grown : (n count : ℕ) (old new : TinyView T) → KeepsRoom n old new → GrowsTo (view_inline old) n old new → n ≤ count
       → view_capacity new ≤ max (view_capacity old) (2 * count)
-  room-grown slots n count old new kept grown few = elim (cases_lt (view_capacity old) n) [
+  room-grown n count old new kept grown few = elim (cases_lt (view_capacity old) n) [
     | inl less ↦ (let most = either (view_inline old) n (max (2 * view_capacity old) n) (2 * count) (omega arith) (omega arith) in omega (arith, grown less, most))
     | inr room ↦ omega (arith, kept room)
   ]

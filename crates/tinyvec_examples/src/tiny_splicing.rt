@@ -73,7 +73,7 @@ pub fn replace<A: Array, I: DoubleEndedIterator<Item = A::Item>>(
         → start + length (rest replacement) + (tiny_len_of A.Slots vec.old - end) ≤ tiny_capacity_of A.Slots vec.old
         → IsOk result }
     ensures full { OnErr result (tiny_len_of A.Slots vec.new ≡ tiny_capacity_of A.Slots vec.new) }
-    ensures place { PlaceRule A.CAPACITY (tiny_len_of A.Slots vec.new) (tiny_view_of A.Slots vec.old) (tiny_view_of A.Slots vec.new) }
+    ensures place { PlaceRule (tiny_len_of A.Slots vec.new) (tiny_view_of A.Slots vec.old) (tiny_view_of A.Slots vec.new) }
     ensures slot_rule { TinySlotRule A.Item.is_default (tiny_view_of A.Slots vec.old) (tiny_view_of A.Slots vec.new) }
 {
     let mut splice = vec.splice(start..end, replacement);

@@ -92,7 +92,7 @@ pub fn set<A: Array>(v: &mut TinyVec<A>, i: usize, x: A::Item)
 pub fn cut<A: Array, R: RangeBounds<usize>>(v: &mut TinyVec<A>, range: R)
     requires not_exhausted { R.has_bounds range }
     requires in_list { IsRangeOf (tiny_items_of A.Slots v.old) (R.start_bound range) (R.end_bound range) }
-    ensures { Becomes A.Item.is_default A.CAPACITY (tiny_view_of A.Slots v.old) (tiny_view_of A.Slots v.new)
+    ensures { Becomes A.Item.is_default (tiny_view_of A.Slots v.old) (tiny_view_of A.Slots v.new)
         (before (tiny_items_of A.Slots v.old) (R.start_bound range) ++ after (tiny_items_of A.Slots v.old) (R.end_bound range)) }
 {
     drop(v.drain(range));
@@ -107,7 +107,7 @@ pub fn nth_of<A: Array, R: RangeBounds<usize>>(
     requires not_exhausted { R.has_bounds range }
     requires in_list { IsRangeOf (tiny_items_of A.Slots v.old) (R.start_bound range) (R.end_bound range) }
     ensures item { result ≡ slice_get (removed (tiny_items_of A.Slots v.old) (R.start_bound range) (R.end_bound range)) n }
-    ensures left { Becomes A.Item.is_default A.CAPACITY (tiny_view_of A.Slots v.old) (tiny_view_of A.Slots v.new)
+    ensures left { Becomes A.Item.is_default (tiny_view_of A.Slots v.old) (tiny_view_of A.Slots v.new)
         (before (tiny_items_of A.Slots v.old) (R.start_bound range) ++ after (tiny_items_of A.Slots v.old) (R.end_bound range)) }
 {
     let mut d = v.drain(range);

@@ -47,8 +47,8 @@ module _ {T : Type 0} (D : T → Type 0) (slots : ℕ) where
 
 -- Where a text was appended there is room for all of it, and a cut keeps that room: what is no longer than what was cut off is
 -- not refused afterwards.
-pub memory_after_a_cut : (slots : ℕ) (text more : List ℕ) (index : ℕ) (old first second new : Text)
-    → TextStep slots old (add text) answers.Done first → TextStep slots first (cut index) answers.Done second
-    → TextStep slots second (add more) answers.Memory new → text_len second + length more ≤ text_len first → ⊥
-memory_after_a_cut slots text more index old first second new added shortened refused within =
+pub memory_after_a_cut : (text more : List ℕ) (index : ℕ) (old first second new : Text)
+    → TextStep old (add text) answers.Done first → TextStep first (cut index) answers.Done second
+    → TextStep second (add more) answers.Memory new → text_len second + length more ≤ text_len first → ⊥
+memory_after_a_cut text more index old first second new added shortened refused within =
     omega (arith, added.room.fits, shortened.frame.capacity, refused.0, within)

@@ -54,7 +54,7 @@ Steps T old call answer new = TinyStep IsZero 4 old.t call answer new.t × (new.
 
 -- and so a call of the text
 abbrev pub TextSteps : State → TextCall → Answer ℤ → State → Type 0
-TextSteps old call answer new = TextStep 4 old.x call answer new.x × (new.a ≡ old.a) × (new.s ≡ old.s) × (new.t ≡ old.t)
+TextSteps old call answer new = TextStep old.x call answer new.x × (new.a ≡ old.a) × (new.s ≡ old.s) × (new.t ≡ old.t)
 
 -- What is answered to one line, and the vectors that it leaves. A line that spells a call is answered by a step of its vector
 -- or of the text. One for whose letters or numbers memory was refused is `memory`, and any other is `bad`, for a reason; both

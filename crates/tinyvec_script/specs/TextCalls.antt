@@ -36,25 +36,25 @@ pub record IsTextCommand (line : List ℕ) (call : TextCall) : Type 0 where
   pub short : length line ≤ 128
 
 -- the bytes were appended, with room for the joined length, as `push_str` makes it
-pub record Added (slots : ℕ) (old : Text) (text : List ℕ) (new : Text) : Type 0 where
+pub record Added (old : Text) (text : List ℕ) (new : Text) : Type 0 where
   pub chars_are : text_chars new ≡ text_chars old ++ chars text
   pub bytes_are : new.bytes ≡ old.bytes ++ text
-  pub room : NeedsRoom (lies_inline old.place) slots (text_len old + length text) (text_view old) (text_view new)
+  pub room : NeedsRoom (lies_inline old.place) (text_len old + length text) (text_view old) (text_view new)
 
 -- the first characters were kept, whose bytes are `index`, in their place
-pub record CutAt (slots : ℕ) (old : Text) (index : ℕ) (new : Text) : Type 0 where
+pub record CutAt (old : Text) (index : ℕ) (new : Text) : Type 0 where
   pub boundary : IsBoundary (text_chars old) index
   pub chars_are : (rest : List ℕ) × (text_chars old ≡ text_chars new ++ rest)
   pub bytes_are : new.bytes ≡ take index old.bytes
   pub len : text_len new ≡ index
-  pub frame : TextStaysInPlace slots old new
+  pub frame : TextStaysInPlace old new
 
 -- From the old text the call may have this answer, and leave the new one. A refused allocation is a case of its own: `Memory`
 -- only if the joined text does not fit the room of the old one. It changes nothing, and neither does `Range`.
-abbrev pub TextStep : ℕ → Text → TextCall → Answer ℤ → Text → Type 0
-TextStep slots old (add text) answers.Done new = Added slots old text new
-TextStep slots old (add text) answers.Memory new = (capacity_in old.place < text_len old + length text) × (new ≡ old)
-TextStep slots old (cut index) answers.Done new = CutAt slots old index new
-TextStep slots old (cut index) answers.Range new = (IsBoundary (text_chars old) index → ⊥) × (new ≡ old)
+abbrev pub TextStep : Text → TextCall → Answer ℤ → Text → Type 0
+TextStep old (add text) answers.Done new = Added old text new
+TextStep old (add text) answers.Memory new = (capacity_in old.place < text_len old + length text) × (new ≡ old)
+TextStep old (cut index) answers.Done new = CutAt old index new
+TextStep old (cut index) answers.Range new = (IsBoundary (text_chars old) index → ⊥) × (new ≡ old)
 -- no other answer is given
-TextStep slots old call answer new = ⊥
+TextStep old call answer new = ⊥

@@ -12,8 +12,8 @@ use Rattle.tinyvec_script.specs.declared.call.Answer.{Answer}
 use Rattle.tinyvec_script.specs.declared.call.Answer.TheVariants as answers
 
 -- a call that needs room for `need` items had it, or made it
-abbrev pub NeedsRoom : {T : Type 0} → (exact : Bool) → (slots need : ℕ) → TinyView T → TinyView T → Type 0
-NeedsRoom exact slots need old new = MakesRoom {X = Unit {0}} {E = AllocError} exact slots need old new (Ok tt)
+abbrev pub NeedsRoom : {T : Type 0} → (exact : Bool) → (need : ℕ) → TinyView T → TinyView T → Type 0
+NeedsRoom exact need old new = MakesRoom {X = Unit {0}} {E = AllocError} exact need old new (Ok tt)
 
 module _ {T : Type 0} (D : T → Type 0) (slots : ℕ) where
   -- A move to the heap left the list there, with room for no more. A list on the heap stays as it is.
@@ -36,32 +36,32 @@ module _ {T : Type 0} (D : T → Type 0) (slots : ℕ) where
   -- of its own: `Memory` only if there is no room for the items, for the move of an inline list of items to the heap, for those
   -- that a drain or a splice takes, or for those that a splice may return.
   abbrev pub TinyAnswers : TinyView T → Call T → Answer T → TinyView T → Type 0
-  TinyAnswers old (Push x) answers.Done new = (new.items ≡ old.items ++ x ∷ []) × NeedsRoom false slots (view_len old + 1) old new
+  TinyAnswers old (Push x) answers.Done new = (new.items ≡ old.items ++ x ∷ []) × NeedsRoom false (view_len old + 1) old new
   TinyAnswers old (Push x) answers.Memory new = (view_len old ≡ view_capacity old) × (new ≡ old)
-  TinyAnswers old Pop (answers.Some x) new = (old.items ≡ new.items ++ x ∷ []) × Becomes D slots old new (take (view_len old - 1) old.items)
+  TinyAnswers old Pop (answers.Some x) new = (old.items ≡ new.items ++ x ∷ []) × Becomes D old new (take (view_len old - 1) old.items)
   TinyAnswers old Pop answers.None new = (old.items ≡ []) × (new ≡ old)
   TinyAnswers old (Insert i x) answers.Done new = (i ≤ view_len old) × (new.items ≡ insert old.items i x)
-      × NeedsRoom false slots (view_len old + 1) old new
+      × NeedsRoom false (view_len old + 1) old new
   TinyAnswers old (Insert i x) answers.Range new = (view_len old < i) × (new ≡ old)
   TinyAnswers old (Insert i x) answers.Memory new = (i ≤ view_len old) × (view_len old ≡ view_capacity old) × (new ≡ old)
   TinyAnswers old (Remove i) (answers.Some x) new = (slice_get old.items i ≡ Some x)
-      × Becomes D slots old new (remove old.items i)
+      × Becomes D old new (remove old.items i)
   TinyAnswers old (Remove i) answers.Range new = (view_len old ≤ i) × (new ≡ old)
   TinyAnswers old (SwapRemove i) (answers.Some x) new = (slice_get old.items i ≡ Some x)
-      × Becomes D slots old new (swap_remove old.items i x)
+      × Becomes D old new (swap_remove old.items i x)
   TinyAnswers old (SwapRemove i) answers.Range new = (view_len old ≤ i) × (new ≡ old)
-  TinyAnswers old (Truncate n) answers.Done new = Becomes D slots old new (take n old.items)
+  TinyAnswers old (Truncate n) answers.Done new = Becomes D old new (take n old.items)
   TinyAnswers old (Drain start end) answers.Range new = (IsRange old.items start end → ⊥) × (new ≡ old)
   TinyAnswers old (Drain start end) answers.Memory new = IsRange old.items start end × (start < end) × (new ≡ old)
   TinyAnswers old (Drain start end) (answers.Items given) new = IsRange old.items start end
-      × ListDrains old.items start end given.items new.items × Becomes D slots old new new.items
+      × ListDrains old.items start end given.items new.items × Becomes D old new new.items
   TinyAnswers old (Splice start end word replacement) answers.Range new = (IsRange old.items start end → ⊥) × (new ≡ old)
   TinyAnswers old (Splice start end word replacement) answer new = IsRange old.items start end
       × SpliceAnswers (view_capacity new) (view_len old) start end replacement.items (new ≡ old)
-      (λ yields rest. DrivenSplices (λ v. v.items) (Grows D slots) (view_capacity new) old start end word.items replacement.items yields rest new)
+      (λ yields rest. DrivenSplices (λ v. v.items) (Grows D) (view_capacity new) old start end word.items replacement.items yields rest new)
       answer
   TinyAnswers old (Reserve n) answers.Done new = (new.items ≡ old.items) × (view_len old + n ≤ view_capacity new)
-      × NeedsRoom (view_inline old) slots (view_len old + n) old new
+      × NeedsRoom (view_inline old) (view_len old + n) old new
   TinyAnswers old (Reserve n) answers.Memory new = (view_capacity old < view_len old + n) × (new ≡ old)
   TinyAnswers old Heap answers.Done new = Moved old new
   TinyAnswers old Heap answers.Memory new = ViewInline old × (0 < view_len old) × (new ≡ old)

@@ -10,7 +10,7 @@ pub(crate) fn answer_text<const N: usize>(
     text: &mut InlineText<N>,
     call: TextCall<'_>,
 ) -> Answer<i32>
-    ensures { TextStep N text.old (call_of call.entry) result text.new }
+    ensures { TextStep text.old (call_of call.entry) result text.new }
 {
     match call {
         TextCall::Add(added) => match text.push_str(added) {

@@ -40,25 +40,25 @@ as_before true c P fits rule = rule.1 (refl, fits)
 as_before false c P fits rule = outside c (λ i. let isnt = (rule.0 i).0 in cc)
 
 -- where a call leaves a text that made room as its contract says
-pub made_place : (moves : Bool) (slots need : ℕ) (p q : Place) → (IsTrue (lies_inline q) ↔ (IsTrue (lies_inline p) × (need ≤ capacity_in p))) → (need ≤ capacity_in p → capacity_in q ≡ capacity_in p)
-    → (capacity_in p < need → capacity_in q ≡ (if moves then need else max (2 * capacity_in p) need)) → q ≡ place_for moves slots need p
-made_place moves slots need p q rule same grown = elim (cases_lt p.capacity need) [
+pub made_place : (moves : Bool) (need : ℕ) (p q : Place) → (IsTrue (lies_inline q) ↔ (IsTrue (lies_inline p) × (need ≤ capacity_in p))) → (need ≤ capacity_in p → capacity_in q ≡ capacity_in p)
+    → (capacity_in p < need → capacity_in q ≡ (if moves then need else max (2 * capacity_in p) need)) → q ≡ place_for moves need p
+made_place moves need p q rule same grown = elim (cases_lt p.capacity need) [
   | inl more ↦ rw (lt-leb need p.capacity more) (one_place q (on_heap (if moves then need else max (2 * p.capacity) need))
       (outside q.inline (λ i. omega (arith, more, (rule.0 i).1))) (grown more))
   | inr fits ↦ rw (le-leb need p.capacity fits) (one_place q p (as_before p.inline q.inline (need ≤ p.capacity) fits rule) (same fits))
 ]
 
-module _ {T : Type 0} (moves : Place → T → Bool) (spell : T → List ℕ) (slots : ℕ) where
+module _ {T : Type 0} (moves : Place → T → Bool) (spell : T → List ℕ) where
   after_more : (n m : ℕ) (p : Place) (xs : List T) (x : T) → m ≡ n + length (flat_map spell xs) + length (spell x)
-      → place_after moves spell slots n p (xs ++ x ∷ []) ≡ place_for (moves (place_after moves spell slots n p xs) x) slots m (place_after moves spell slots n p xs)
-  after_more n m p [] x is = ap (λ k. place_for (moves p x) slots k p) (omega (arith, is))
+      → place_after moves spell n p (xs ++ x ∷ []) ≡ place_for (moves (place_after moves spell n p xs) x) m (place_after moves spell n p xs)
+  after_more n m p [] x is = ap (λ k. place_for (moves p x) k p) (omega (arith, is))
   after_more n m p (y ∷ ys) x is =
-      after_more (n + length (spell y)) m (place_for (moves p y) slots (n + length (spell y)) p) ys x (omega (arith, is, length-append (spell y) (flat_map spell ys)))
+      after_more (n + length (spell y)) m (place_for (moves p y) (n + length (spell y)) p) ys x (omega (arith, is, length-append (spell y) (flat_map spell ys)))
 
   -- one more piece was pushed
-  pub pushed_place : (n m : ℕ) (p q r : Place) (xs : List T) (x : T) → q ≡ place_after moves spell slots n p xs → m ≡ n + length (flat_map spell xs) + length (spell x)
-      → r ≡ place_for (moves q x) slots m q → r ≡ place_after moves spell slots n p (xs ++ x ∷ [])
-  pushed_place n m p q r xs x at is made = made ∙ ap (λ q. place_for (moves q x) slots m q) at ∙ sym (after_more n m p xs x is)
+  pub pushed_place : (n m : ℕ) (p q r : Place) (xs : List T) (x : T) → q ≡ place_after moves spell n p xs → m ≡ n + length (flat_map spell xs) + length (spell x)
+      → r ≡ place_for (moves q x) m q → r ≡ place_after moves spell n p (xs ++ x ∷ [])
+  pushed_place n m p q r xs x at is made = made ∙ ap (λ q. place_for (moves q x) m q) at ∙ sym (after_more n m p xs x is)
 
 -- what an inline text that had the room of its array was extended to
 pub collected : (slots : ℕ) (old new : Text) → IsTrue (lies_inline old.place) → capacity_in old.place ≡ slots → TextExtends slots old new → TextCollects slots new
@@ -70,8 +70,8 @@ collected slots old new inline room h = record {
 }
 
 -- the place after one more piece, of which the text that was extended so far had room or made it
-pub placed_further : (slots need : ℕ) (old mid new : Text) → text_len new ≡ need → text_len mid ≤ need → TextExtends slots old mid → PlaceRule slots need (text_view mid) (text_view new)
-    → PlaceRule slots (text_len new) (text_view old) (text_view new)
+pub placed_further : (slots need : ℕ) (old mid new : Text) → text_len new ≡ need → text_len mid ≤ need → TextExtends slots old mid → PlaceRule need (text_view mid) (text_view new)
+    → PlaceRule (text_len new) (text_view old) (text_view new)
 placed_further slots need old mid new size more h rule = (
   λ i. let last = rule.0 i in let first = h.place.0 last.0 in (first.0, omega (arith, size, last.1, h.same_room first.1)),
   λ both.

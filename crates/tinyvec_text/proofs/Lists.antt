@@ -43,16 +43,16 @@ zero_spare (Inline v a) (Inline w b) place rule zero =
 zero_spare old (Heap w) place rule zero = λ k d few. absurd (omega (arith, few))
 zero_spare (Heap v) (Inline w b) place rule zero = absurd (let no = place refl in cc)
 
-pub zero_becomes : {k : ℕ} (slots : ℕ) (old new : Bytes k) (bs : List ℕ) → Becomes (λ b. b ≡ 0) slots (tiny_view old) (tiny_view new) bs
+pub zero_becomes : {k : ℕ} (old new : Bytes k) (bs : List ℕ) → Becomes (λ b. b ≡ 0) (tiny_view old) (tiny_view new) bs
     → All (λ b. b ≡ 0) (tiny_spare old) → All (λ b. b ≡ 0) (tiny_spare new)
-zero_becomes slots old new bs made = zero_spare old new (λ i. subst IsTrue made.place i) made.slot_rule
+zero_becomes old new bs made = zero_spare old new (λ i. subst IsTrue made.place i) made.slot_rule
 
 pub text_kept : {k : ℕ} (old new : Bytes k) → (IsInline new → IsInline old) → TinySlotRule (λ b. b ≡ 0) (tiny_view old) (tiny_view new)
     → IsText old → IsUtf8 (tiny_items new) → IsText new
 text_kept old new place rule h utf8 = (∣ utf8 ∣₁, zero_spare old new place rule h.1)
 
-pub text_stays : {k : ℕ} (slots : ℕ) (old new : Bytes k) (bs : List ℕ) → Becomes (λ b. b ≡ 0) slots (tiny_view old) (tiny_view new) bs → IsText old → IsUtf8 bs → IsText new
-text_stays slots old new bs made is utf8 = text_kept old new (λ i. subst IsTrue made.place i) made.slot_rule is (subst IsUtf8 (sym made.items) utf8)
+pub text_stays : {k : ℕ} (old new : Bytes k) (bs : List ℕ) → Becomes (λ b. b ≡ 0) (tiny_view old) (tiny_view new) bs → IsText old → IsUtf8 bs → IsText new
+text_stays old new bs made is utf8 = text_kept old new (λ i. subst IsTrue made.place i) made.slot_rule is (subst IsUtf8 (sym made.items) utf8)
 
 pub text_same : {k : ℕ} (old new : Bytes k) → Unchanged (tiny_view old) (tiny_view new) → IsText old → IsText new
 text_same old new h is = (subst (λ bs. ∥ IsUtf8 bs ∥₁) (sym h.items) is.0, subst (All (λ b. b ≡ 0)) (sym h.spare) is.1)
@@ -80,9 +80,9 @@ text_range v t same is a end order first last =
     }
 
 -- a call that made room did so for the text
-pub text_room : {k : ℕ} {X E : Type 0} (exact : Bool) (slots need : ℕ) (old new : Bytes k) (r : Result X E) → MakesRoom exact slots need (tiny_view old) (tiny_view new) r
-    → MakesRoom exact slots need (text_view (text_of old)) (text_view (text_of new)) r
-text_room exact slots need old new r room = record {
+pub text_room : {k : ℕ} {X E : Type 0} (exact : Bool) (need : ℕ) (old new : Bytes k) (r : Result X E) → MakesRoom exact need (tiny_view old) (tiny_view new) r
+    → MakesRoom exact need (text_view (text_of old)) (text_view (text_of new)) r
+text_room exact need old new r room = record {
   place = room.place;
   spare = λ _ _ _. sym (drop-nil _);
   capacity = room.capacity;
@@ -95,9 +95,9 @@ text_room exact slots need old new r room = record {
 }
 
 -- a call that fails for no other reason than want of room
-pub no_room : {P : Type 0} (slots need : ℕ) (old new : TinyView ℕ) → RefusedFor slots need P old new → ¬ P → (view_capacity old < need) × Unchanged old new
-no_room slots need old new (inl h) never = h
-no_room slots need old new (inr h) never = absurd (never h.1)
+pub no_room : {P : Type 0} (need : ℕ) (old new : TinyView ℕ) → RefusedFor need P old new → ¬ P → (view_capacity old < need) × Unchanged old new
+no_room need old new (inl h) never = h
+no_room need old new (inr h) never = absurd (never h.1)
 
 -- a text that did not change
 pub text_unchanged : (old new : Text) → Unchanged (text_view old) (text_view new) → new ≡ old
@@ -115,8 +115,8 @@ module _ (slots : ℕ) (old : Bytes slots) (ws : List ℕ) (long : length ws ≡
   frame_written = tiny_framed-with (array_slots slots) old ws long
 
   -- a call after it left what `kept` says of the bytes
-  pub overwritten : (new : Bytes slots) (kept : List ℕ → List ℕ) → Becomes (λ b. b ≡ 0) slots (tiny_view written) (tiny_view new) (kept (tiny_items written))
-      → Becomes (λ b. b ≡ 0) slots (tiny_view old) (tiny_view new) (kept ws)
+  pub overwritten : (new : Bytes slots) (kept : List ℕ → List ℕ) → Becomes (λ b. b ≡ 0) (tiny_view written) (tiny_view new) (kept (tiny_items written))
+      → Becomes (λ b. b ≡ 0) (tiny_view old) (tiny_view new) (kept ws)
   overwritten new kept made =
-      subst (Becomes (λ b. b ≡ 0) slots (tiny_view old) (tiny_view new)) (ap kept bytes_written)
-      (frame_becomes (λ b. b ≡ 0) slots (tiny_view old) (tiny_view written) (tiny_view new) (kept (tiny_items written)) frame_written made)
+      subst (Becomes (λ b. b ≡ 0) (tiny_view old) (tiny_view new)) (ap kept bytes_written)
+      (frame_becomes (λ b. b ≡ 0) (tiny_view old) (tiny_view written) (tiny_view new) (kept (tiny_items written)) frame_written made)

@@ -42,23 +42,23 @@ text_len t = length t.bytes
 
 -- where a text is once there is room for `need` bytes: as it was if there is, else on the heap, with just that room if `moves` holds, else
 -- with twice the old room, or `need` if that is more
-abbrev pub place_for : (moves : Bool) → (slots need : ℕ) → Place → Place
-place_for moves slots need place =
+abbrev pub place_for : (moves : Bool) → (need : ℕ) → Place → Place
+place_for moves need place =
     if nat_le need (capacity_in place) then place else on_heap (if moves then need else max (2 * capacity_in place) need)
 
 -- where a text of n bytes is after these pieces were pushed one by one, whose bytes and ways to move `spell` and `moves` say
-abbrev pub place_after : {T : Type 0} → (moves : Place → T → Bool) → (spell : T → List ℕ) → (slots n : ℕ) → Place → List T → Place
-place_after moves spell slots n place [] = place
-place_after moves spell slots n place (x ∷ xs) =
-    place_after moves spell slots (n + length (spell x)) (place_for (moves place x) slots (n + length (spell x)) place) xs
+abbrev pub place_after : {T : Type 0} → (moves : Place → T → Bool) → (spell : T → List ℕ) → (n : ℕ) → Place → List T → Place
+place_after moves spell n place [] = place
+place_after moves spell n place (x ∷ xs) =
+    place_after moves spell (n + length (spell x)) (place_for (moves place x) (n + length (spell x)) place) xs
 
 -- where the text is after these characters, each by `push`
-abbrev pub place_after_chars : ℕ → Text → List ℕ → Place
-place_after_chars slots t cs = place_after (λ place c. lies_inline place && nat_le 128 c) encode_utf8 slots (text_len t) t.place cs
+abbrev pub place_after_chars : Text → List ℕ → Place
+place_after_chars t cs = place_after (λ place c. lies_inline place && nat_le 128 c) encode_utf8 (text_len t) t.place cs
 
 -- where the text is after the texts that `spell` shows, each by `push_str`
-abbrev pub place_after_texts : {T : Type 0} → (spell : T → List ℕ) → ℕ → Text → List T → Place
-place_after_texts spell slots t xs = place_after (λ place x. lies_inline place) spell slots (text_len t) t.place xs
+abbrev pub place_after_texts : {T : Type 0} → (spell : T → List ℕ) → Text → List T → Place
+place_after_texts spell t xs = place_after (λ place x. lies_inline place) spell (text_len t) t.place xs
 
 -- an empty text, in an array of that many bytes
 abbrev pub empty_text : ℕ → Text
@@ -68,10 +68,10 @@ empty_text slots = record { bytes = []; place = in_array slots }
 -- than twice its bytes; one on the heap that grew at least doubled its room.
 pub record TextExtends (slots : ℕ) (old new : Text) : Type 0 where
   pub longer : text_len old ≤ text_len new
-  pub place : PlaceRule slots (text_len new) (text_view old) (text_view new)
+  pub place : PlaceRule (text_len new) (text_view old) (text_view new)
   pub capacity : capacity_in old.place ≤ capacity_in new.place
-  pub same_room : KeepsRoom slots (text_len new) (text_view old) (text_view new)
-  pub grown : GrowsInSteps slots (text_view old) (text_view new)
+  pub same_room : KeepsRoom (text_len new) (text_view old) (text_view new)
+  pub grown : GrowsInSteps (text_view old) (text_view new)
   pub doubled : lies_inline old.place ≡ false → capacity_in old.place < capacity_in new.place
       → 2 * capacity_in old.place ≤ capacity_in new.place
   pub fits : text_len new ≤ capacity_in new.place
@@ -80,7 +80,7 @@ pub record TextExtends (slots : ℕ) (old new : Text) : Type 0 where
 -- a call that made room for n more bytes, and just that if `exact` holds, took `old` to `new`, with this result
 pub record TextReserves {X E : Type 0} (exact : Bool) (slots n : ℕ) (old new : Text) (result : Result X E) : Type 0 where
   pub bytes : new.bytes ≡ old.bytes
-  pub room : MakesRoom exact slots (text_len old + n) (text_view old) (text_view new) result
+  pub room : MakesRoom exact (text_len old + n) (text_view old) (text_view new) result
   pub enough : OnOk result (text_len old + n ≤ capacity_in new.place)
   pub kept : text_len old + n ≤ capacity_in old.place → new ≡ old
   pub inline_capacity : IsTrue (lies_inline old.place) → capacity_in old.place ≡ slots
@@ -95,23 +95,23 @@ pub record TextShrinks (slots : ℕ) (old new : Text) : Type 0 where
   pub kept : IsTrue (lies_inline old.place) → new ≡ old
 
 -- a call that allocates nothing took `old` to `new`: place and room are unchanged
-pub record TextStaysInPlace (slots : ℕ) (old new : Text) : Type 0 where
+pub record TextStaysInPlace (old new : Text) : Type 0 where
   pub place : lies_inline new.place ≡ lies_inline old.place
   pub capacity : capacity_in new.place ≡ capacity_in old.place
   pub fits : text_len new ≤ capacity_in new.place
 
 -- a call that allocates nothing, and leaves these bytes, which spell these characters
-pub record TextBecomes (slots : ℕ) (old new : Text) (bs cs : List ℕ) : Type 0 where
+pub record TextBecomes (old new : Text) (bs cs : List ℕ) : Type 0 where
   pub bytes : new.bytes ≡ bs
   pub text : text_chars new ≡ cs
-  pub frame : TextStaysInPlace slots old new
+  pub frame : TextStaysInPlace old new
 
 -- a call that allocates nothing, and leaves the characters whose bytes are the first n
-pub record TextKeepsFront (slots n : ℕ) (old new : Text) : Type 0 where
+pub record TextKeepsFront (n : ℕ) (old new : Text) : Type 0 where
   pub bytes : new.bytes ≡ take n old.bytes
   pub text : (rest : List ℕ) × (text_chars old ≡ text_chars new ++ rest)
   pub len : text_len new ≡ n
-  pub frame : TextStaysInPlace slots old new
+  pub frame : TextStaysInPlace old new
 
 -- a text was made with room for `need` bytes, inline if they fit the array
 pub record TextMadeFor (slots need : ℕ) (t : Text) : Type 0 where

@@ -19,7 +19,7 @@ impl<A: Array> TinyVec<A> {
         requires { tiny_capacity_of A.Slots self.old ≤ tiny_len_of A.Slots self.old }
         ensures items { tiny_items_of A.Slots self.new ≡ tiny_items_of A.Slots self.old }
         ensures place { OnOk result (is_inline self.new ≡ false) }
-        ensures room { MakesRoom false A.CAPACITY (tiny_len_of A.Slots self.old + 1)
+        ensures room { MakesRoom false (tiny_len_of A.Slots self.old + 1)
             (tiny_view_of A.Slots self.old) (tiny_view_of A.Slots self.new) result }
         ensures inline_capacity { IsInline self.old → tiny_capacity_of A.Slots self.old ≡ A.CAPACITY }
     {
@@ -32,7 +32,7 @@ impl<A: Array> TinyVec<A> {
     #[inline(always)]
     pub fn reserve(&mut self, additional: usize) -> Result<(), AllocError>
         ensures items { tiny_items_of A.Slots self.new ≡ tiny_items_of A.Slots self.old }
-        ensures room { MakesRoom (is_inline self.old) A.CAPACITY (tiny_len_of A.Slots self.old + additional)
+        ensures room { MakesRoom (is_inline self.old) (tiny_len_of A.Slots self.old + additional)
             (tiny_view_of A.Slots self.old) (tiny_view_of A.Slots self.new) result }
         ensures enough { OnOk result (tiny_len_of A.Slots self.old + additional ≤ tiny_capacity_of A.Slots self.new) }
 
@@ -54,7 +54,7 @@ impl<A: Array> TinyVec<A> {
     pub(crate) fn grow(&mut self, n: usize) -> Result<(), AllocError>
         requires { tiny_capacity_of A.Slots self.old < tiny_len_of A.Slots self.old + n }
         ensures items { tiny_items_of A.Slots self.new ≡ tiny_items_of A.Slots self.old }
-        ensures room { MakesRoom (is_inline self.old) A.CAPACITY (tiny_len_of A.Slots self.old + n)
+        ensures room { MakesRoom (is_inline self.old) (tiny_len_of A.Slots self.old + n)
             (tiny_view_of A.Slots self.old) (tiny_view_of A.Slots self.new) result }
         ensures enough { OnOk result (tiny_len_of A.Slots self.old + n ≤ tiny_capacity_of A.Slots self.new) }
 
@@ -71,7 +71,7 @@ impl<A: Array> TinyVec<A> {
     // Moves an inline list to the heap, with room for `n` items more.
     fn leave_array(&mut self, n: usize) -> Result<(), AllocError>
         requires { IsInline self.old }
-        ensures moves { MovesToHeap A.CAPACITY n (tiny_view_of A.Slots self.old)
+        ensures moves { MovesToHeap n (tiny_view_of A.Slots self.old)
             (tiny_view_of A.Slots self.new) result }
         ensures kept { IsInline self.new → self.new ≡ self.old }
     {
@@ -85,7 +85,7 @@ impl<A: Array> TinyVec<A> {
     /// The same as `reserve`.
     pub fn try_reserve(&mut self, additional: usize) -> Result<(), AllocError>
         ensures items { tiny_items_of A.Slots self.new ≡ tiny_items_of A.Slots self.old }
-        ensures room { MakesRoom (is_inline self.old) A.CAPACITY (tiny_len_of A.Slots self.old + additional)
+        ensures room { MakesRoom (is_inline self.old) (tiny_len_of A.Slots self.old + additional)
             (tiny_view_of A.Slots self.old) (tiny_view_of A.Slots self.new) result }
         ensures enough { OnOk result (tiny_len_of A.Slots self.old + additional ≤ tiny_capacity_of A.Slots self.new) }
 
@@ -101,7 +101,7 @@ impl<A: Array> TinyVec<A> {
     /// Reserves room for `additional` items more, and on the heap for no further ones.
     pub fn reserve_exact(&mut self, additional: usize) -> Result<(), AllocError>
         ensures items { tiny_items_of A.Slots self.new ≡ tiny_items_of A.Slots self.old }
-        ensures room { MakesRoom true A.CAPACITY (tiny_len_of A.Slots self.old + additional)
+        ensures room { MakesRoom true (tiny_len_of A.Slots self.old + additional)
             (tiny_view_of A.Slots self.old) (tiny_view_of A.Slots self.new) result }
         ensures enough { OnOk result (tiny_len_of A.Slots self.old + additional ≤ tiny_capacity_of A.Slots self.new) }
 
@@ -127,7 +127,7 @@ impl<A: Array> TinyVec<A> {
     /// The same as `reserve_exact`.
     pub fn try_reserve_exact(&mut self, additional: usize) -> Result<(), AllocError>
         ensures items { tiny_items_of A.Slots self.new ≡ tiny_items_of A.Slots self.old }
-        ensures room { MakesRoom true A.CAPACITY (tiny_len_of A.Slots self.old + additional)
+        ensures room { MakesRoom true (tiny_len_of A.Slots self.old + additional)
             (tiny_view_of A.Slots self.old) (tiny_view_of A.Slots self.new) result }
         ensures enough { OnOk result (tiny_len_of A.Slots self.old + additional ≤ tiny_capacity_of A.Slots self.new) }
 
@@ -158,7 +158,7 @@ impl<A: Array> TinyVec<A> {
 
     /// Moves an inline list to the heap, with a capacity of its length. A list on the heap stays as it is.
     pub fn move_to_the_heap(&mut self) -> Result<(), AllocError>
-        ensures moves { MovesToHeap A.CAPACITY 0 (tiny_view_of A.Slots self.old) (tiny_view_of A.Slots self.new) result }
+        ensures moves { MovesToHeap 0 (tiny_view_of A.Slots self.old) (tiny_view_of A.Slots self.new) result }
         ensures succeeds { is_inline self.old ≡ false → IsOk result }
         ensures kept { is_inline self.old ≡ false → self.new ≡ self.old }
     {
@@ -170,7 +170,7 @@ impl<A: Array> TinyVec<A> {
 
     /// The same as `move_to_the_heap`.
     pub fn try_move_to_the_heap(&mut self) -> Result<(), AllocError>
-        ensures moves { MovesToHeap A.CAPACITY 0 (tiny_view_of A.Slots self.old) (tiny_view_of A.Slots self.new) result }
+        ensures moves { MovesToHeap 0 (tiny_view_of A.Slots self.old) (tiny_view_of A.Slots self.new) result }
         ensures succeeds { is_inline self.old ≡ false → IsOk result }
         ensures kept { is_inline self.old ≡ false → self.new ≡ self.old }
     {
@@ -179,7 +179,7 @@ impl<A: Array> TinyVec<A> {
 
     /// Moves an inline list to the heap, and reserves room there for `additional` items more.
     pub fn move_to_the_heap_and_reserve(&mut self, additional: usize) -> Result<(), AllocError>
-        ensures moves { MovesToHeap A.CAPACITY additional (tiny_view_of A.Slots self.old)
+        ensures moves { MovesToHeap additional (tiny_view_of A.Slots self.old)
             (tiny_view_of A.Slots self.new) result }
         ensures kept { is_inline self.old ≡ false
             → tiny_len_of A.Slots self.old + additional ≤ tiny_capacity_of A.Slots self.old → self.new ≡ self.old }
@@ -192,7 +192,7 @@ impl<A: Array> TinyVec<A> {
 
     /// The same as `move_to_the_heap_and_reserve`.
     pub fn try_move_to_the_heap_and_reserve(&mut self, additional: usize) -> Result<(), AllocError>
-        ensures moves { MovesToHeap A.CAPACITY additional (tiny_view_of A.Slots self.old)
+        ensures moves { MovesToHeap additional (tiny_view_of A.Slots self.old)
             (tiny_view_of A.Slots self.new) result }
         ensures kept { is_inline self.old ≡ false
             → tiny_len_of A.Slots self.old + additional ≤ tiny_capacity_of A.Slots self.old → self.new ≡ self.old }

@@ -20,7 +20,7 @@ impl<A: Array> TinyVec<A> {
     pub fn clone(&self) -> Result<Self, AllocError>
     where
         A::Item: Clone,
-        ensures copied { IfOk result (λ v. IsTinyClone A.Item.is_clone A.CAPACITY (tiny_view_of A.Slots self.now)
+        ensures copied { IfOk result (λ v. IsTinyClone A.Item.is_clone (tiny_view_of A.Slots self.now)
             (tiny_view_of A.Slots v)) }
         ensures refused { OnErr result (IsInline self.now
             → (j : ℕ) × RefusedAt A.Item.is_infallible (tiny_items_of A.Slots self.now
@@ -63,19 +63,19 @@ impl<A: Array> TinyVec<A> {
         A::Item: Clone,
         ensures items { OnOk result (AreClones A.Item.is_clone (tiny_items_of A.Slots source.now)
             (tiny_items_of A.Slots self.new)) }
-        ensures room { OnOk result (MakesRoom (is_inline self.old) A.CAPACITY (tiny_len_of A.Slots source.now)
+        ensures room { OnOk result (MakesRoom (is_inline self.old) (tiny_len_of A.Slots source.now)
             (tiny_view_of A.Slots self.old) (tiny_view_of A.Slots self.new) result) }
         ensures slot_rule { OnOk result (TinySlotRule A.Item.is_default (tiny_view_of A.Slots self.old)
             (tiny_view_of A.Slots self.new)) }
         ensures capacity { tiny_capacity_of A.Slots self.old ≤ tiny_capacity_of A.Slots self.new }
-        ensures same_room { KeepsRoom A.CAPACITY (tiny_len_of A.Slots source.now)
+        ensures same_room { KeepsRoom (tiny_len_of A.Slots source.now)
             (tiny_view_of A.Slots self.old) (tiny_view_of A.Slots self.new) }
         ensures fits { tiny_len_of A.Slots self.new ≤ tiny_capacity_of A.Slots self.new }
 
         // If there is room only clones allocate.
         ensures succeeds { tiny_len_of A.Slots source.now ≤ tiny_capacity_of A.Slots self.old
             → All A.Item.is_infallible (tiny_items_of A.Slots source.now) → IsOk result }
-        ensures refused { OnErr result (RefusedFor A.CAPACITY (tiny_len_of A.Slots source.now)
+        ensures refused { OnErr result (RefusedFor (tiny_len_of A.Slots source.now)
             (ClonesInPart A.Item.is_default A.Item.is_infallible A.Item.is_clone
             (tiny_items_of A.Slots source.now) (tiny_items_of A.Slots self.old) (tiny_items_of A.Slots self.new)
             (min (tiny_len_of A.Slots self.old) (tiny_len_of A.Slots source.now))
@@ -99,7 +99,7 @@ impl<A: Array> Clone for TinyVec<A>
 where
     A::Item: Clone,
 {
-    ghost is_clone = { λ v w. IsTinyClone A.Item.is_clone A.CAPACITY (tiny_view_of A.Slots v)
+    ghost is_clone = { λ v w. IsTinyClone A.Item.is_clone (tiny_view_of A.Slots v)
         (tiny_view_of A.Slots w) };
 
     ghost is_infallible = { λ v. IsTinyInfallible A.Item.is_infallible (tiny_view_of A.Slots v) };

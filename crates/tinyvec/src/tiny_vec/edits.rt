@@ -17,7 +17,7 @@ impl<A: Array> TinyVec<A> {
     /// Appends `value` to a list that has room. It allocates nothing, so it cannot fail.
     pub fn push_reserved(&mut self, value: A::Item)
         requires { tiny_len_of A.Slots self.old < tiny_capacity_of A.Slots self.old }
-        ensures { Becomes A.Item.is_default A.CAPACITY (tiny_view_of A.Slots self.old)
+        ensures { Becomes A.Item.is_default (tiny_view_of A.Slots self.old)
             (tiny_view_of A.Slots self.new) (tiny_items_of A.Slots self.old ++ value ∷ []) }
     {
         match self {
@@ -35,7 +35,7 @@ impl<A: Array> TinyVec<A> {
             ≡ (if is_ok result then tiny_items_of A.Slots self.old ++ value ∷ [] else tiny_items_of A.Slots self.old) }
         ensures len { tiny_len_of A.Slots self.new ≡
             (if is_ok result then tiny_len_of A.Slots self.old + 1 else tiny_len_of A.Slots self.old) }
-        ensures room { MakesRoom false A.CAPACITY (tiny_len_of A.Slots self.old + 1)
+        ensures room { MakesRoom false (tiny_len_of A.Slots self.old + 1)
             (tiny_view_of A.Slots self.old) (tiny_view_of A.Slots self.new) result }
         ensures inline_capacity { IsInline self.old → tiny_capacity_of A.Slots self.old ≡ A.CAPACITY }
         ensures succeeds_inline { IsInline self.old → tiny_len_of A.Slots self.old < A.CAPACITY → IsOk result }
@@ -61,7 +61,7 @@ impl<A: Array> TinyVec<A> {
     /// Appends `value`, and returns it for writing. A full list grows as by `push`. If the allocator refuses, nothing changes and
     /// `value` is returned.
     pub fn push_mut(&mut self, value: A::Item) -> Result<&mut A::Item, NoMemory<A::Item>>
-        ensures* writes_back { sem 𝓛 (lends_added A.row A.Len.row A.Item.row A.Slots self.entry A.CAPACITY
+        ensures* writes_back { sem 𝓛 (lends_added A.row A.Len.row A.Item.row A.Slots self.entry
             (λ x. tiny_items_of A.Slots self.old ++ x ∷ []) result) }
         ensures value { IfOk result (λ x. x.now ≡ value) }
         ensures succeeds { tiny_len_of A.Slots self.old < tiny_capacity_of A.Slots self.old → IsOk result }
@@ -82,7 +82,7 @@ impl<A: Array> TinyVec<A> {
         ensures variant { IsSome result ↔ (0 < tiny_len_of A.Slots self.old) }
         ensures some { IfSome result (λ x. tiny_items_of A.Slots self.old ≡ tiny_items_of A.Slots self.new ++ x ∷ []) }
         ensures value { result ≡ slice_get (tiny_items_of A.Slots self.old) (tiny_len_of A.Slots self.old - 1) }
-        ensures becomes { Becomes A.Item.is_default A.CAPACITY (tiny_view_of A.Slots self.old)
+        ensures becomes { Becomes A.Item.is_default (tiny_view_of A.Slots self.old)
             (tiny_view_of A.Slots self.new) (take (tiny_len_of A.Slots self.old - 1)
             (tiny_items_of A.Slots self.old)) }
     {
@@ -96,7 +96,7 @@ impl<A: Array> TinyVec<A> {
     fn insert_reserved(&mut self, index: usize, element: A::Item)
         requires in_list { index ≤ tiny_len_of A.Slots self.old }
         requires room { tiny_len_of A.Slots self.old < tiny_capacity_of A.Slots self.old }
-        ensures { Becomes A.Item.is_default A.CAPACITY (tiny_view_of A.Slots self.old)
+        ensures { Becomes A.Item.is_default (tiny_view_of A.Slots self.old)
             (tiny_view_of A.Slots self.new) (insert (tiny_items_of A.Slots self.old) index element) }
     {
         match self {
@@ -118,7 +118,7 @@ impl<A: Array> TinyVec<A> {
             (tiny_items_of A.Slots self.old) index element else tiny_items_of A.Slots self.old) }
         ensures len { tiny_len_of A.Slots self.new ≡
             (if is_ok result then tiny_len_of A.Slots self.old + 1 else tiny_len_of A.Slots self.old) }
-        ensures room { MakesRoom false A.CAPACITY (tiny_len_of A.Slots self.old + 1)
+        ensures room { MakesRoom false (tiny_len_of A.Slots self.old + 1)
             (tiny_view_of A.Slots self.old) (tiny_view_of A.Slots self.new) result }
         ensures inline_capacity { IsInline self.old → tiny_capacity_of A.Slots self.old ≡ A.CAPACITY }
         ensures succeeds_inline { IsInline self.old → tiny_len_of A.Slots self.old < A.CAPACITY → IsOk result }
@@ -148,7 +148,7 @@ impl<A: Array> TinyVec<A> {
         element: A::Item,
     ) -> Result<&mut A::Item, NoMemory<A::Item>>
         requires { index ≤ tiny_len_of A.Slots self.old }
-        ensures* writes_back { sem 𝓛 (lends_added A.row A.Len.row A.Item.row A.Slots self.entry A.CAPACITY
+        ensures* writes_back { sem 𝓛 (lends_added A.row A.Len.row A.Item.row A.Slots self.entry
             (insert (tiny_items_of A.Slots self.old) index) result) }
         ensures value { IfOk result (λ x. x.now ≡ element) }
         ensures succeeds { tiny_len_of A.Slots self.old < tiny_capacity_of A.Slots self.old → IsOk result }
@@ -169,7 +169,7 @@ impl<A: Array> TinyVec<A> {
     pub fn remove(&mut self, index: usize) -> A::Item
         requires { index < tiny_len_of A.Slots self.old }
         ensures value { result ≡ slice_index_or (tiny_items_of A.Slots self.old) index result }
-        ensures becomes { Becomes A.Item.is_default A.CAPACITY (tiny_view_of A.Slots self.old)
+        ensures becomes { Becomes A.Item.is_default (tiny_view_of A.Slots self.old)
             (tiny_view_of A.Slots self.new) (remove (tiny_items_of A.Slots self.old) index) }
     {
         match self {
@@ -182,7 +182,7 @@ impl<A: Array> TinyVec<A> {
     pub fn swap_remove(&mut self, index: usize) -> A::Item
         requires { index < tiny_len_of A.Slots self.old }
         ensures value { result ≡ slice_index_or (tiny_items_of A.Slots self.old) index result }
-        ensures becomes { Becomes A.Item.is_default A.CAPACITY (tiny_view_of A.Slots self.old)
+        ensures becomes { Becomes A.Item.is_default (tiny_view_of A.Slots self.old)
             (tiny_view_of A.Slots self.new) (swap_remove (tiny_items_of A.Slots self.old) index result) }
     {
         match self {
@@ -195,7 +195,7 @@ impl<A: Array> TinyVec<A> {
     /// is inline.
     #[inline(always)]
     pub fn truncate(&mut self, new_len: usize)
-        ensures { Becomes A.Item.is_default A.CAPACITY (tiny_view_of A.Slots self.old)
+        ensures { Becomes A.Item.is_default (tiny_view_of A.Slots self.old)
             (tiny_view_of A.Slots self.new) (take new_len (tiny_items_of A.Slots self.old)) }
     {
         match self {
@@ -206,7 +206,7 @@ impl<A: Array> TinyVec<A> {
 
     /// Empties the list. Each vacated slot is reset to a default if the list is inline.
     pub fn clear(&mut self)
-        ensures { Becomes A.Item.is_default A.CAPACITY (tiny_view_of A.Slots self.old)
+        ensures { Becomes A.Item.is_default (tiny_view_of A.Slots self.old)
             (tiny_view_of A.Slots self.new) [] }
     {
         match self {
@@ -226,7 +226,7 @@ impl<A: Array> TinyVec<A> {
     /// allocates nothing; one on the heap allocates room for those items.
     pub fn split_off(&mut self, at: usize) -> Result<Self, AllocError>
         requires { at ≤ tiny_len_of A.Slots self.old }
-        ensures becomes { Becomes A.Item.is_default A.CAPACITY (tiny_view_of A.Slots self.old)
+        ensures becomes { Becomes A.Item.is_default (tiny_view_of A.Slots self.old)
             (tiny_view_of A.Slots self.new)
             (if is_ok result then take at (tiny_items_of A.Slots self.old) else tiny_items_of A.Slots self.old) }
         ensures tail { IfOk result (λ v. IsTail A.Item.is_default A.CAPACITY at (tiny_view_of A.Slots self.old)
@@ -251,7 +251,7 @@ impl<A: Array> TinyVec<A> {
         ensures variant { IsSome result ↔ (index < tiny_len_of A.Slots self.old) }
         ensures value { result ≡ slice_get (tiny_items_of A.Slots self.old) index }
         ensures none { IfNone result (Unchanged (tiny_view_of A.Slots self.old) (tiny_view_of A.Slots self.new)) }
-        ensures becomes { Becomes A.Item.is_default A.CAPACITY (tiny_view_of A.Slots self.old)
+        ensures becomes { Becomes A.Item.is_default (tiny_view_of A.Slots self.old)
             (tiny_view_of A.Slots self.new) (remove (tiny_items_of A.Slots self.old) index) }
     {
         if index >= self.len() {

@@ -30,7 +30,7 @@ impl<A: Array> TinyVec<A> {
     where
         A::Item: Clone,
         requires room { tiny_len_of A.Slots self.old + length other.now ≤ tiny_capacity_of A.Slots self.old }
-        ensures { ClonesInRoom A.Item.Clone A.CAPACITY other.now (tiny_view_of A.Slots self.old)
+        ensures { ClonesInRoom A.Item.Clone other.now (tiny_view_of A.Slots self.old)
             (tiny_view_of A.Slots self.new) result }
     {
         match self {
@@ -47,17 +47,17 @@ impl<A: Array> TinyVec<A> {
         A::Item: Clone,
         ensures clones { AppendsAllOrNone A.Item.is_clone other.now
             result (tiny_items_of A.Slots self.old) (tiny_items_of A.Slots self.new) }
-        ensures room { OnOk result (MakesRoom (is_inline self.old) A.CAPACITY (tiny_len_of A.Slots self.old
+        ensures room { OnOk result (MakesRoom (is_inline self.old) (tiny_len_of A.Slots self.old
             + length other.now) (tiny_view_of A.Slots self.old) (tiny_view_of A.Slots self.new) result) }
         ensures capacity { tiny_capacity_of A.Slots self.old ≤ tiny_capacity_of A.Slots self.new }
-        ensures same_room { KeepsRoom A.CAPACITY (tiny_len_of A.Slots self.old + length other.now)
+        ensures same_room { KeepsRoom (tiny_len_of A.Slots self.old + length other.now)
             (tiny_view_of A.Slots self.old) (tiny_view_of A.Slots self.new) }
         ensures fits { tiny_len_of A.Slots self.new ≤ tiny_capacity_of A.Slots self.new }
 
         // If there is room only clones allocate.
         ensures succeeds { tiny_len_of A.Slots self.old + length other.now ≤ tiny_capacity_of A.Slots self.old
             → All A.Item.is_infallible other.now → IsOk result }
-        ensures refused { OnErr result (ClonesRefused A.Item.Clone A.CAPACITY other.now
+        ensures refused { OnErr result (ClonesRefused A.Item.Clone other.now
             (tiny_view_of A.Slots self.old) (tiny_view_of A.Slots self.new)) }
         ensures inline_capacity { IsInline self.old → tiny_capacity_of A.Slots self.old ≡ A.CAPACITY }
     {
@@ -84,12 +84,12 @@ impl<A: Array> TinyVec<A> {
         ensures clones { AppendsAllOrNone A.Item.is_clone
             (removed (tiny_items_of A.Slots self.old) (R.start_bound range) (R.end_bound range))
             result (tiny_items_of A.Slots self.old) (tiny_items_of A.Slots self.new) }
-        ensures room { OnOk result (MakesRoom (is_inline self.old) A.CAPACITY
+        ensures room { OnOk result (MakesRoom (is_inline self.old)
             (tiny_len_of A.Slots self.old + length (removed (tiny_items_of A.Slots self.old) (R.start_bound range)
             (R.end_bound range)))
             (tiny_view_of A.Slots self.old) (tiny_view_of A.Slots self.new) result) }
         ensures capacity { tiny_capacity_of A.Slots self.old ≤ tiny_capacity_of A.Slots self.new }
-        ensures same_room { KeepsRoom A.CAPACITY
+        ensures same_room { KeepsRoom
             (tiny_len_of A.Slots self.old + length (removed (tiny_items_of A.Slots self.old) (R.start_bound range)
             (R.end_bound range)))
             (tiny_view_of A.Slots self.old) (tiny_view_of A.Slots self.new) }
@@ -102,7 +102,7 @@ impl<A: Array> TinyVec<A> {
             → All A.Item.is_infallible (removed (tiny_items_of A.Slots self.old) (R.start_bound range)
             (R.end_bound range))
             → IsOk result }
-        ensures refused { OnErr result (ClonesRefused A.Item.Clone A.CAPACITY
+        ensures refused { OnErr result (ClonesRefused A.Item.Clone
             (removed (tiny_items_of A.Slots self.old) (R.start_bound range) (R.end_bound range))
             (tiny_view_of A.Slots self.old) (tiny_view_of A.Slots self.new)) }
         ensures inline_capacity { IsInline self.old → tiny_capacity_of A.Slots self.old ≡ A.CAPACITY }
@@ -119,7 +119,7 @@ impl<A: Array> TinyVec<A> {
         requires in_list { (start ≤ end) × (end ≤ tiny_len_of A.Slots self.old) }
         requires room { tiny_len_of A.Slots self.old + length (slice_range (tiny_items_of A.Slots self.old) start end)
             ≤ tiny_capacity_of A.Slots self.old }
-        ensures { ClonesInRoom A.Item.Clone A.CAPACITY
+        ensures { ClonesInRoom A.Item.Clone
             (slice_range (tiny_items_of A.Slots self.old) start end) (tiny_view_of A.Slots self.old)
             (tiny_view_of A.Slots self.new) result }
     {
@@ -135,7 +135,7 @@ impl<A: Array> TinyVec<A> {
     where
         A::Item: Copy,
         requires room { tiny_len_of A.Slots self.old + length other.now ≤ tiny_capacity_of A.Slots self.old }
-        ensures { Becomes A.Item.is_default A.CAPACITY (tiny_view_of A.Slots self.old)
+        ensures { Becomes A.Item.is_default (tiny_view_of A.Slots self.old)
             (tiny_view_of A.Slots self.new) (tiny_items_of A.Slots self.old ++ other.now) }
     {
         match self {
@@ -152,7 +152,7 @@ impl<A: Array> TinyVec<A> {
         A::Item: Copy,
         ensures items { tiny_items_of A.Slots self.new
             ≡ (if is_ok result then tiny_items_of A.Slots self.old ++ other.now else tiny_items_of A.Slots self.old) }
-        ensures room { MakesRoom (is_inline self.old) A.CAPACITY
+        ensures room { MakesRoom (is_inline self.old)
             (tiny_len_of A.Slots self.old + length other.now) (tiny_view_of A.Slots self.old)
             (tiny_view_of A.Slots self.new) result }
         ensures inline_capacity { IsInline self.old → tiny_capacity_of A.Slots self.old ≡ A.CAPACITY }
@@ -165,7 +165,7 @@ impl<A: Array> TinyVec<A> {
     // Moves the items of `from` to a list that has room, and leaves defaults.
     pub(crate) fn append_slots(&mut self, from: &mut [A::Item])
         requires { tiny_len_of A.Slots self.old + length from.old ≤ tiny_capacity_of A.Slots self.old }
-        ensures becomes { Becomes A.Item.is_default A.CAPACITY (tiny_view_of A.Slots self.old)
+        ensures becomes { Becomes A.Item.is_default (tiny_view_of A.Slots self.old)
             (tiny_view_of A.Slots self.new) (tiny_items_of A.Slots self.old ++ from.old) }
         ensures left { AreDefaults A.Item.is_default (length from.old) from.new }
     {
@@ -178,7 +178,7 @@ impl<A: Array> TinyVec<A> {
     // The same, one by one.
     fn append_each(&mut self, from: &mut [A::Item])
         requires { tiny_len_of A.Slots self.old + length from.old ≤ tiny_capacity_of A.Slots self.old }
-        ensures becomes { Becomes A.Item.is_default A.CAPACITY (tiny_view_of A.Slots self.old)
+        ensures becomes { Becomes A.Item.is_default (tiny_view_of A.Slots self.old)
             (tiny_view_of A.Slots self.new) (tiny_items_of A.Slots self.old ++ from.old) }
         ensures left { AreDefaults A.Item.is_default (length from.old) from.new }
     {
@@ -190,9 +190,9 @@ impl<A: Array> TinyVec<A> {
     // `append` to a list that has room.
     fn append_reserved(&mut self, other: &mut Self)
         requires { tiny_len_of A.Slots self.old + tiny_len_of A.Slots other.old ≤ tiny_capacity_of A.Slots self.old }
-        ensures becomes { Becomes A.Item.is_default A.CAPACITY (tiny_view_of A.Slots self.old)
+        ensures becomes { Becomes A.Item.is_default (tiny_view_of A.Slots self.old)
             (tiny_view_of A.Slots self.new) (tiny_items_of A.Slots self.old ++ tiny_items_of A.Slots other.old) }
-        ensures other { Becomes A.Item.is_default A.CAPACITY (tiny_view_of A.Slots other.old)
+        ensures other { Becomes A.Item.is_default (tiny_view_of A.Slots other.old)
             (tiny_view_of A.Slots other.new) [] }
     {
         self.append_slots(other.as_mut_slice());
@@ -204,10 +204,10 @@ impl<A: Array> TinyVec<A> {
     pub fn append(&mut self, other: &mut Self) -> Result<(), AllocError>
         ensures items { OnOk result (tiny_items_of A.Slots self.new ≡ tiny_items_of A.Slots self.old
             ++ tiny_items_of A.Slots other.old) }
-        ensures room { MakesRoom (is_inline self.old) A.CAPACITY
+        ensures room { MakesRoom (is_inline self.old)
             (tiny_len_of A.Slots self.old + tiny_len_of A.Slots other.old)
             (tiny_view_of A.Slots self.old) (tiny_view_of A.Slots self.new) result }
-        ensures other { Becomes A.Item.is_default A.CAPACITY (tiny_view_of A.Slots other.old)
+        ensures other { Becomes A.Item.is_default (tiny_view_of A.Slots other.old)
             (tiny_view_of A.Slots other.new)
             (if is_ok result then [] else tiny_items_of A.Slots other.old) }
         ensures other_kept { OnErr result (other.new ≡ other.old) }
@@ -230,7 +230,7 @@ impl<A: Array> TinyVec<A> {
             → I.IntoIter.can_next it × IsFinite (I.IntoIter.remaining it) }
         ensures items { PushesItems I.into_iter_gives I.IntoIter.next_gives iter (tiny_capacity_of A.Slots self.old)
             result (tiny_items_of A.Slots self.old) (tiny_items_of A.Slots self.new) }
-        ensures grows { Grows A.Item.is_default A.CAPACITY (tiny_view_of A.Slots self.old)
+        ensures grows { Grows A.Item.is_default (tiny_view_of A.Slots self.old)
             (tiny_view_of A.Slots self.new) }
 
         // It fails only if there is no room.
@@ -260,7 +260,7 @@ impl<A: Array> TinyVec<A> {
             × (length xs ≤ size (I.IntoIter.remaining it)) × (tiny_items_of A.Slots self.new
             ≡ tiny_items_of A.Slots self.old ++ xs))
             (λ refused. refused.0 ≡ it)
-            × MakesRoom (is_inline self.old) A.CAPACITY (tiny_len_of A.Slots self.old + size
+            × MakesRoom (is_inline self.old) (tiny_len_of A.Slots self.old + size
             (I.IntoIter.remaining it))
             (tiny_view_of A.Slots self.old) (tiny_view_of A.Slots self.new) result }
 
@@ -298,7 +298,7 @@ impl<A: Array> TinyVec<A> {
         requires { I.can_next iter × IsFinite (I.remaining iter) }
         ensures fills { FillsRoom I.Iterator iter (tiny_capacity_of A.Slots self.new) result
             (tiny_items_of A.Slots self.old) (tiny_items_of A.Slots self.new) }
-        ensures grows { Grows A.Item.is_default A.CAPACITY (tiny_view_of A.Slots self.old)
+        ensures grows { Grows A.Item.is_default (tiny_view_of A.Slots self.old)
             (tiny_view_of A.Slots self.new) }
         ensures inline_capacity { IsInline self.old → tiny_capacity_of A.Slots self.old ≡ A.CAPACITY }
     {
@@ -320,7 +320,7 @@ impl<A: Array> TinyVec<A> {
         requires { I.can_next iter × IsFinite (I.remaining iter) }
         ensures fills { FillsRoom I.Iterator iter (tiny_capacity_of A.Slots self.new) result
             (tiny_items_of A.Slots self.old) (tiny_items_of A.Slots self.new) }
-        ensures frame { StaysInPlace A.Item.is_default A.CAPACITY (tiny_view_of A.Slots self.old)
+        ensures frame { StaysInPlace A.Item.is_default (tiny_view_of A.Slots self.old)
             (tiny_view_of A.Slots self.new) }
         ensures inline_capacity { IsInline self.old → tiny_capacity_of A.Slots self.old ≡ A.CAPACITY }
     {
@@ -387,15 +387,15 @@ impl<A: Array> TinyVec<A> {
         ensures if_clones_equal { OnOk result (ClonesAreEqual A.Item.is_clone
             → tiny_items_of A.Slots self.new ≡ take new_len (tiny_items_of A.Slots self.old) ++ replicate
             (new_len - tiny_len_of A.Slots self.old) value) }
-        ensures room { OnOk result (MakesRoom (is_inline self.old) A.CAPACITY new_len (tiny_view_of A.Slots self.old)
+        ensures room { OnOk result (MakesRoom (is_inline self.old) new_len (tiny_view_of A.Slots self.old)
             (tiny_view_of A.Slots self.new) result) }
         ensures slot_rule { OnOk result (TinySlotRule A.Item.is_default (tiny_view_of A.Slots self.old)
             (tiny_view_of A.Slots self.new)) }
         ensures capacity { tiny_capacity_of A.Slots self.old ≤ tiny_capacity_of A.Slots self.new }
-        ensures same_room { KeepsRoom A.CAPACITY new_len
+        ensures same_room { KeepsRoom new_len
             (tiny_view_of A.Slots self.old) (tiny_view_of A.Slots self.new) }
         ensures fits { tiny_len_of A.Slots self.new ≤ tiny_capacity_of A.Slots self.new }
-        ensures place { OnOk result (PlaceRule A.CAPACITY (max new_len (tiny_len_of A.Slots self.old))
+        ensures place { OnOk result (PlaceRule (max new_len (tiny_len_of A.Slots self.old))
             (tiny_view_of A.Slots self.old) (tiny_view_of A.Slots self.new)) }
 
         // If there is room only clones allocate.
@@ -406,7 +406,7 @@ impl<A: Array> TinyVec<A> {
         // spare slots hold the clones made.
         ensures value_returned { IfErr result (λ refused. refused.0 ≡ value) }
         ensures kept { OnErr result (tiny_items_of A.Slots self.new ≡ tiny_items_of A.Slots self.old) }
-        ensures refused { OnErr result (RefusedFor A.CAPACITY (max new_len (tiny_len_of A.Slots self.old))
+        ensures refused { OnErr result (RefusedFor (max new_len (tiny_len_of A.Slots self.old))
             ((j : ℕ) × (j < new_len - tiny_len_of A.Slots self.old) × ¬ (A.Item.is_infallible value)
             × ClonesBehind A.Item.is_clone (replicate j value) j (tiny_view_of A.Slots self.old)
             (tiny_view_of A.Slots self.new))
@@ -429,7 +429,7 @@ impl<A: Array> TinyVec<A> {
     where
         A::Item: Clone,
         requires room { tiny_len_of A.Slots self.old + n ≤ tiny_capacity_of A.Slots self.old }
-        ensures clones { ClonesInRoom A.Item.Clone A.CAPACITY (replicate n x) (tiny_view_of A.Slots self.old)
+        ensures clones { ClonesInRoom A.Item.Clone (replicate n x) (tiny_view_of A.Slots self.old)
             (tiny_view_of A.Slots self.new) result }
         ensures value_returned { IfErr result (λ refused. refused.0 ≡ x) }
     {
@@ -456,11 +456,11 @@ impl<A: Array> TinyVec<A> {
         ensures items { OnOk result (AppendsResults F.step (take new_len (tiny_items_of A.Slots self.old))
             (tiny_items_of A.Slots self.new) f) }
         ensures len { OnOk result (tiny_len_of A.Slots self.new ≡ new_len) }
-        ensures room { MakesRoom (is_inline self.old) A.CAPACITY new_len (tiny_view_of A.Slots self.old)
+        ensures room { MakesRoom (is_inline self.old) new_len (tiny_view_of A.Slots self.old)
             (tiny_view_of A.Slots self.new) result }
         ensures slot_rule { TinySlotRule A.Item.is_default (tiny_view_of A.Slots self.old)
             (tiny_view_of A.Slots self.new) }
-        ensures place { OnOk result (PlaceRule A.CAPACITY (max new_len (tiny_len_of A.Slots self.old))
+        ensures place { OnOk result (PlaceRule (max new_len (tiny_len_of A.Slots self.old))
             (tiny_view_of A.Slots self.old) (tiny_view_of A.Slots self.new)) }
         ensures inline_capacity { IsInline self.old → tiny_capacity_of A.Slots self.old ≡ A.CAPACITY }
     {
@@ -478,11 +478,11 @@ impl<A: Array> TinyVec<A> {
             (take n (tiny_items_of A.Slots self.old)) (tiny_items_of A.Slots self.new) f.old f.new) }
         ensures unasked { OnErr result (f.new ≡ f.old) }
         ensures len { OnOk result (tiny_len_of A.Slots self.new ≡ n) }
-        ensures room { MakesRoom (is_inline self.old) A.CAPACITY n (tiny_view_of A.Slots self.old)
+        ensures room { MakesRoom (is_inline self.old) n (tiny_view_of A.Slots self.old)
             (tiny_view_of A.Slots self.new) result }
         ensures slot_rule { TinySlotRule A.Item.is_default (tiny_view_of A.Slots self.old)
             (tiny_view_of A.Slots self.new) }
-        ensures place { OnOk result (PlaceRule A.CAPACITY (max n (tiny_len_of A.Slots self.old))
+        ensures place { OnOk result (PlaceRule (max n (tiny_len_of A.Slots self.old))
             (tiny_view_of A.Slots self.old) (tiny_view_of A.Slots self.new)) }
         ensures inline_capacity { IsInline self.old → tiny_capacity_of A.Slots self.old ≡ A.CAPACITY }
     {
@@ -504,7 +504,7 @@ impl<A: Array> TinyVec<A> {
         ensures items { AppendsResultsTo F.step (tiny_items_of A.Slots self.old)
             (tiny_items_of A.Slots self.new) f.old f.new }
         ensures len { tiny_len_of A.Slots self.new ≡ n }
-        ensures frame { StaysInPlace A.Item.is_default A.CAPACITY (tiny_view_of A.Slots self.old)
+        ensures frame { StaysInPlace A.Item.is_default (tiny_view_of A.Slots self.old)
             (tiny_view_of A.Slots self.new) }
     {
         match self {
@@ -521,7 +521,7 @@ impl<A: Array> TinyVec<A> {
         ensures items { AppendsResultsTo F.step (tiny_items_of A.Slots self.old)
             (tiny_items_of A.Slots self.new) f.old f.new }
         ensures len { tiny_len_of A.Slots self.new ≡ n }
-        ensures frame { StaysInPlace A.Item.is_default A.CAPACITY (tiny_view_of A.Slots self.old)
+        ensures frame { StaysInPlace A.Item.is_default (tiny_view_of A.Slots self.old)
             (tiny_view_of A.Slots self.new) }
     {
         while self.len() < n {

@@ -20,7 +20,7 @@ impl<A: Array> TinyVec<A> {
         requires { F.IsAlwaysCallable f }
         ensures filtered { IsFiltered (CalledAt F.FnMut) f (tiny_items_of A.Slots self.old)
             (tiny_items_of A.Slots self.new) }
-        ensures shortens { ShortensInPlace A.Item.is_default A.CAPACITY (tiny_view_of A.Slots self.old)
+        ensures shortens { ShortensInPlace A.Item.is_default (tiny_view_of A.Slots self.old)
             (tiny_view_of A.Slots self.new) }
     {
         match self {
@@ -35,7 +35,7 @@ impl<A: Array> TinyVec<A> {
         requires { F.IsAlwaysCallable f }
         ensures filtered { RetainsInTurn (CalledAtMut F.FnMut) f (tiny_items_of A.Slots self.old)
             (tiny_items_of A.Slots self.new) }
-        ensures shortens { ShortensInPlace A.Item.is_default A.CAPACITY (tiny_view_of A.Slots self.old)
+        ensures shortens { ShortensInPlace A.Item.is_default (tiny_view_of A.Slots self.old)
             (tiny_view_of A.Slots self.new) }
     {
         match self {
@@ -48,7 +48,7 @@ impl<A: Array> TinyVec<A> {
     pub fn dedup(&mut self)
     where
         A::Item: PartialEq,
-        ensures becomes { Becomes A.Item.is_default A.CAPACITY (tiny_view_of A.Slots self.old)
+        ensures becomes { Becomes A.Item.is_default (tiny_view_of A.Slots self.old)
             (tiny_view_of A.Slots self.new) (dedup_list A.Item.eq (tiny_items_of A.Slots self.old)) }
         ensures bound { tiny_len_of A.Slots self.new ≤ tiny_len_of A.Slots self.old }
     {
@@ -61,7 +61,7 @@ impl<A: Array> TinyVec<A> {
         requires { F.IsAlwaysCallable same }
         ensures filtered { IsDeduped (CalledAtPairMut F.FnMut) same (tiny_items_of A.Slots self.old)
             (tiny_items_of A.Slots self.new) }
-        ensures shortens { ShortensInPlace A.Item.is_default A.CAPACITY (tiny_view_of A.Slots self.old)
+        ensures shortens { ShortensInPlace A.Item.is_default (tiny_view_of A.Slots self.old)
             (tiny_view_of A.Slots self.new) }
     {
         match self {
@@ -76,7 +76,7 @@ impl<A: Array> TinyVec<A> {
         requires { F.IsAlwaysCallable key }
         ensures filtered { IsDeduped (ComparesKeys F.FnMut K.eq) key (tiny_items_of A.Slots self.old)
             (tiny_items_of A.Slots self.new) }
-        ensures shortens { ShortensInPlace A.Item.is_default A.CAPACITY (tiny_view_of A.Slots self.old)
+        ensures shortens { ShortensInPlace A.Item.is_default (tiny_view_of A.Slots self.old)
             (tiny_view_of A.Slots self.new) }
     {
         match self {
@@ -92,7 +92,7 @@ impl<A: Array> TinyVec<A> {
             → FnOnceTakesAtMut F.FnOnce predicate x }
         ensures popped { PopsIf F.FnOnce (tiny_items_of A.Slots self.old)
             (tiny_items_of A.Slots self.new) predicate result }
-        ensures shortens { ShortensInPlace A.Item.is_default A.CAPACITY (tiny_view_of A.Slots self.old)
+        ensures shortens { ShortensInPlace A.Item.is_default (tiny_view_of A.Slots self.old)
             (tiny_view_of A.Slots self.new) }
     {
         tinyvec_slots::authors::pop_if(self, predicate)
@@ -110,7 +110,7 @@ impl<A: Array> TinyVec<A> {
     ) -> ExtractIf<'_, TinyVec<A>, F>
         requires not_exhausted { R.has_bounds range }
         requires in_list { IsRangeOf (tiny_items_of A.Slots self.old) (R.start_bound range) (R.end_bound range) }
-        ensures { Extracts (tiny_items_of A.Slots) (λ v w. StaysInPlace A.Item.is_default A.CAPACITY
+        ensures { Extracts (tiny_items_of A.Slots) (λ v w. StaysInPlace A.Item.is_default
             (tiny_view_of A.Slots v) (tiny_view_of A.Slots w)) F.FnMut self.entry
             (range_start (R.start_bound range)) (range_end (R.end_bound range)
             (tiny_len_of A.Slots self.old)) pred result }

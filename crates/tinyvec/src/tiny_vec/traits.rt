@@ -181,7 +181,7 @@ impl<A: Array> FromIterator<A::Item> for TinyVec<A> {
 
 impl<A: Array> Extend<A::Item> for TinyVec<A> {
     ghost extend_gives = { λ v xs w. (tiny_items_of A.Slots w ≡ tiny_items_of A.Slots v ++ xs)
-        × Grows A.Item.is_default A.CAPACITY (tiny_view_of A.Slots v) (tiny_view_of A.Slots w) };
+        × Grows A.Item.is_default (tiny_view_of A.Slots v) (tiny_view_of A.Slots w) };
 
     /// `TinyVec::extend`, which drops what found no room and the rest of the iterator: for `try_collect` and `partition`.
     fn extend<I: IntoIterator<Item = A::Item>>(&mut self, iter: I) -> Result<(), AllocError>
@@ -189,7 +189,7 @@ impl<A: Array> Extend<A::Item> for TinyVec<A> {
             → I.IntoIter.can_next it × IsFinite (I.IntoIter.remaining it) × HoldsAlong I.IntoIter.next_gives it (λ _. ⊤) }
         ensures ran { ExtendsWithItems I.into_iter_gives I.IntoIter.next_gives
             (λ v xs w. (tiny_items_of A.Slots w ≡ tiny_items_of A.Slots v ++ xs)
-            × Grows A.Item.is_default A.CAPACITY (tiny_view_of A.Slots v) (tiny_view_of A.Slots w))
+            × Grows A.Item.is_default (tiny_view_of A.Slots v) (tiny_view_of A.Slots w))
             iter self.old self.new result }
 
         // It fails only if there is no room.
@@ -350,7 +350,7 @@ impl<A: Array<Item = u8>> io::Write for TinyVec<A> {
         ensures bytes { WriteAppends (Some (tiny_items_of A.Slots self.old)) (Some
             (tiny_items_of A.Slots self.new)) result buf.now }
         ensures count { IfOk result (λ n. n ≡ length buf.now) }
-        ensures room { MakesRoom (is_inline self.old) A.CAPACITY
+        ensures room { MakesRoom (is_inline self.old)
             (tiny_len_of A.Slots self.old + length buf.now)
             (tiny_view_of A.Slots self.old) (tiny_view_of A.Slots self.new) result }
         ensures kind { IfErr result (λ e. error_kind e ≡ OutOfMemory) }

@@ -117,7 +117,7 @@ where
         × (0 < length xs) × (tiny_len_of A.Slots v.new ≤ count) × AllByRecursion A.Item.Fits (map A.Item.content_of xs)
         × ReadsSpelling (SpellsItems A.Item.Spells (map A.Item.content_of xs))
         (R.remaining reader.old.inner) (R.remaining reader.new.inner)) }
-    ensures place { OnOk result (PlaceRule A.CAPACITY (tiny_len_of A.Slots v.new) (tiny_view_of A.Slots v.old) (tiny_view_of A.Slots v.new)) }
+    ensures place { OnOk result (PlaceRule (tiny_len_of A.Slots v.new) (tiny_view_of A.Slots v.old) (tiny_view_of A.Slots v.new)) }
     ensures slot_rule { OnOk result (TinySlotRule A.Item.is_default (tiny_view_of A.Slots v.old) (tiny_view_of A.Slots v.new)) }
     ensures capacity { OnOk result (tiny_capacity_of A.Slots v.new ≤ max (tiny_capacity_of A.Slots v.old) (2 * count)) }
     ensures fails { FailsFor R.remaining

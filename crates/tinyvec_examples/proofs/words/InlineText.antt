@@ -41,13 +41,13 @@ example-IsBoundary = ([], 97 ∷ 98 ∷ [], refl, search rules)
 pub example-IsText : (v : Bytes 4) → IsText v → All (λ b. b ≡ 0) (tiny_spare v)
 example-IsText v h = h.1
 
-pub example-TextStaysInPlace : TextStaysInPlace 4 (inline (97 ∷ 98 ∷ [])) (inline (97 ∷ []))
+pub example-TextStaysInPlace : TextStaysInPlace (inline (97 ∷ 98 ∷ [])) (inline (97 ∷ []))
 example-TextStaysInPlace = search rules
 
-pub example-TextBecomes : TextBecomes 4 (inline (97 ∷ 98 ∷ [])) (inline (97 ∷ [])) (97 ∷ []) (chars (97 ∷ []))
+pub example-TextBecomes : TextBecomes (inline (97 ∷ 98 ∷ [])) (inline (97 ∷ [])) (97 ∷ []) (chars (97 ∷ []))
 example-TextBecomes = record { bytes = refl; text = refl; frame = example-TextStaysInPlace }
 
-pub example-TextKeepsFront : TextKeepsFront 4 0 (inline (97 ∷ 98 ∷ [])) (inline [])
+pub example-TextKeepsFront : TextKeepsFront 0 (inline (97 ∷ 98 ∷ [])) (inline [])
 example-TextKeepsFront = record { bytes = refl; text = (chars (97 ∷ 98 ∷ []), ap (λ cs. cs ++ chars (97 ∷ 98 ∷ [])) (sym chars-nil)); len = refl; frame = search rules }
 
 pub example-TextReserves : TextReserves true 4 2 (inline (97 ∷ 98 ∷ [])) (inline (97 ∷ 98 ∷ [])) done
@@ -71,13 +71,13 @@ example-IsTextClone = search rules
 pub example-TextExtends : TextExtends 4 (inline (97 ∷ [])) (inline (97 ∷ 98 ∷ []))
 example-TextExtends = search rules
 
-pub example-place_after : place_after {T = ℕ} (λ place c. false) (λ c. c ∷ []) 2 1 (in_array 2) (97 ∷ 98 ∷ []) ≡ on_heap 4
+pub example-place_after : place_after {T = ℕ} (λ place c. false) (λ c. c ∷ []) 1 (in_array 2) (97 ∷ 98 ∷ []) ≡ on_heap 4
 example-place_after = refl
 
-pub example-place_after_chars : place_after_chars 4 (inline (97 ∷ [])) [] ≡ in_array 4
+pub example-place_after_chars : place_after_chars (inline (97 ∷ [])) [] ≡ in_array 4
 example-place_after_chars = refl
 
-pub example-place_after_texts : place_after_texts {T = List ℕ} (λ x. x) 4 (inline (97 ∷ [])) ((98 ∷ 99 ∷ 98 ∷ 99 ∷ []) ∷ []) ≡ on_heap 5
+pub example-place_after_texts : place_after_texts {T = List ℕ} (λ x. x) (inline (97 ∷ [])) ((98 ∷ 99 ∷ 98 ∷ 99 ∷ []) ∷ []) ≡ on_heap 5
 example-place_after_texts = refl
 
 pub example-empty_text : empty_text 4 ≡ inline []

@@ -34,7 +34,7 @@ module _ (d e : TinyVecDrain (List ℕ) ℕ (UpTo 4)) (vec : tiny_items d.vec.no
   pub example-DrainCanStep : DrainCanStep G d
   example-DrainCanStep = search rules
 
-  pub example-DrainLeaves : (v : TinyVec (List ℕ) ℕ (UpTo 4)) → DrainLeaves G D 4 d v → tiny_items v ≡ 1 ∷ 4 ∷ []
+  pub example-DrainLeaves : (v : TinyVec (List ℕ) ℕ (UpTo 4)) → DrainLeaves G D d v → tiny_items v ≡ 1 ∷ 4 ∷ []
   example-DrainLeaves v h = h.items ∙ example-drain_kept
 
   pub example-DrainSteps : DrainSteps G d (Some 2) e → drain_items G d ≡ 2 ∷ drain_items G e

@@ -77,7 +77,7 @@ module _ (alloc : Global) where
   pub example-SameFrame : SameFrame (tiny_view (inline (1 ∷ 2 ∷ []) (0 ∷ 0 ∷ []))) (tiny_view (inline (2 ∷ 1 ∷ []) (0 ∷ 0 ∷ [])))
   example-SameFrame = search rules
 
-  pub example-Becomes : Becomes D 4 (tiny_view (inline (1 ∷ 2 ∷ []) (7 ∷ 8 ∷ []))) (tiny_view (inline (1 ∷ []) (0 ∷ 7 ∷ 8 ∷ []))) (1 ∷ [])
+  pub example-Becomes : Becomes D (tiny_view (inline (1 ∷ 2 ∷ []) (7 ∷ 8 ∷ []))) (tiny_view (inline (1 ∷ []) (0 ∷ 7 ∷ 8 ∷ []))) (1 ∷ [])
   example-Becomes = record {
     items = refl;
     place = refl;
@@ -86,10 +86,10 @@ module _ (alloc : Global) where
     fits = omega arith;
   }
 
-  pub example-StaysInPlace : StaysInPlace D 4 (tiny_view (inline (1 ∷ 2 ∷ []) (7 ∷ 8 ∷ []))) (tiny_view (inline (1 ∷ []) (0 ∷ 7 ∷ 8 ∷ [])))
+  pub example-StaysInPlace : StaysInPlace D (tiny_view (inline (1 ∷ 2 ∷ []) (7 ∷ 8 ∷ []))) (tiny_view (inline (1 ∷ []) (0 ∷ 7 ∷ 8 ∷ [])))
   example-StaysInPlace = example-Becomes
 
-  pub example-ShortensInPlace : ShortensInPlace D 4 (tiny_view (inline (1 ∷ 2 ∷ []) (7 ∷ 8 ∷ []))) (tiny_view (inline (2 ∷ []) (0 ∷ 7 ∷ 8 ∷ [])))
+  pub example-ShortensInPlace : ShortensInPlace D (tiny_view (inline (1 ∷ 2 ∷ []) (7 ∷ 8 ∷ []))) (tiny_view (inline (2 ∷ []) (0 ∷ 7 ∷ 8 ∷ [])))
   example-ShortensInPlace = record {
     bound = omega arith;
     place = refl;
@@ -128,31 +128,31 @@ module _ (alloc : Global) where
 
   -- of tinyvec.specs.Lends: `inline [1] [7, 8, 0]` lent by `lends_added` at the end, by a reference that shows 5 last
   pub example-lends_added : (tiny_items (inline (1 ∷ 5 ∷ []) (8 ∷ 0 ∷ [])) ≡ (1 ∷ []) ++ 5 ∷ [])
-      × MakesRoom false 4 2 (tiny_view (inline (1 ∷ []) (7 ∷ 8 ∷ 0 ∷ []))) (tiny_view (inline (1 ∷ 5 ∷ []) (8 ∷ 0 ∷ []))) done
+      × MakesRoom false 2 (tiny_view (inline (1 ∷ []) (7 ∷ 8 ∷ 0 ∷ []))) (tiny_view (inline (1 ∷ 5 ∷ []) (8 ∷ 0 ∷ []))) done
   example-lends_added = (refl, search rules)
 
-  pub example-Grows : Grows D 4 (tiny_view (inline (1 ∷ []) (7 ∷ 8 ∷ 0 ∷ []))) (tiny_view (inline (1 ∷ 5 ∷ []) (8 ∷ 0 ∷ [])))
+  pub example-Grows : Grows D (tiny_view (inline (1 ∷ []) (7 ∷ 8 ∷ 0 ∷ []))) (tiny_view (inline (1 ∷ 5 ∷ []) (8 ∷ 0 ∷ [])))
   example-Grows = search rules
 
-  pub example-MakesRoom : MakesRoom false 4 2 (tiny_view (inline (1 ∷ []) (7 ∷ 8 ∷ 0 ∷ []))) (tiny_view (inline (1 ∷ 5 ∷ []) (8 ∷ 0 ∷ []))) done
+  pub example-MakesRoom : MakesRoom false 2 (tiny_view (inline (1 ∷ []) (7 ∷ 8 ∷ 0 ∷ []))) (tiny_view (inline (1 ∷ 5 ∷ []) (8 ∷ 0 ∷ []))) done
   example-MakesRoom = search rules
 
   pub example-MadeFor : MadeFor D 4 2 1 (tiny_view (inline (1 ∷ []) (0 ∷ 0 ∷ 0 ∷ [])))
   example-MadeFor = search rules
 
-  pub example-PlaceRule : PlaceRule 4 2 (tiny_view (inline (1 ∷ []) (7 ∷ 8 ∷ 0 ∷ []))) (tiny_view (inline (1 ∷ 5 ∷ []) (8 ∷ 0 ∷ [])))
+  pub example-PlaceRule : PlaceRule 2 (tiny_view (inline (1 ∷ []) (7 ∷ 8 ∷ 0 ∷ []))) (tiny_view (inline (1 ∷ 5 ∷ []) (8 ∷ 0 ∷ [])))
   example-PlaceRule = search rules
 
   pub example-TinySlotRule : TinySlotRule D (tiny_view (inline (1 ∷ 2 ∷ []) (7 ∷ 8 ∷ []))) (tiny_view (inline (1 ∷ []) (0 ∷ 7 ∷ 8 ∷ [])))
   example-TinySlotRule i j = (0 ∷ [], search rules, refl)
 
-  pub example-KeepsRoom : KeepsRoom 4 3 (tiny_view (inline (1 ∷ 2 ∷ []) (0 ∷ 0 ∷ []))) (tiny_view (inline (1 ∷ 2 ∷ 3 ∷ []) (0 ∷ [])))
+  pub example-KeepsRoom : KeepsRoom 3 (tiny_view (inline (1 ∷ 2 ∷ []) (0 ∷ 0 ∷ []))) (tiny_view (inline (1 ∷ 2 ∷ 3 ∷ []) (0 ∷ [])))
   example-KeepsRoom = λ _. refl
 
-  pub example-GrowsTo : (v : TinyVec (List ℕ) ℕ (UpTo 4)) → GrowsTo true 4 9 (tiny_view (inline (1 ∷ []) (0 ∷ 0 ∷ 0 ∷ []))) (tiny_view v) → tiny_capacity v ≡ 9
+  pub example-GrowsTo : (v : TinyVec (List ℕ) ℕ (UpTo 4)) → GrowsTo true 9 (tiny_view (inline (1 ∷ []) (0 ∷ 0 ∷ 0 ∷ []))) (tiny_view v) → tiny_capacity v ≡ 9
   example-GrowsTo v h = search rules
 
-  pub example-MovesToHeap : (v : TinyVec (List ℕ) ℕ (UpTo 4)) → MovesToHeap 4 2 (tiny_view (inline (1 ∷ []) (0 ∷ 0 ∷ 0 ∷ []))) (tiny_view v) done → tiny_capacity v ≡ 3
+  pub example-MovesToHeap : (v : TinyVec (List ℕ) ℕ (UpTo 4)) → MovesToHeap 2 (tiny_view (inline (1 ∷ []) (0 ∷ 0 ∷ 0 ∷ []))) (tiny_view v) done → tiny_capacity v ≡ 3
   example-MovesToHeap v h = search rules
 
   pub example-ClonesBehind : ClonesBehind C (7 ∷ []) 1 (tiny_view (inline (1 ∷ []) (0 ∷ 0 ∷ 0 ∷ []))) (tiny_view (inline (1 ∷ []) (7 ∷ 0 ∷ 0 ∷ [])))
@@ -163,13 +163,13 @@ module _ (alloc : Global) where
     written = refl;
   }
 
-  pub example-RefusedFor : RefusedFor 4 5 ⊥ (tiny_view (inline (1 ∷ 2 ∷ 3 ∷ 4 ∷ []) [])) (tiny_view (inline (1 ∷ 2 ∷ 3 ∷ 4 ∷ []) []))
+  pub example-RefusedFor : RefusedFor 5 ⊥ (tiny_view (inline (1 ∷ 2 ∷ 3 ∷ 4 ∷ []) [])) (tiny_view (inline (1 ∷ 2 ∷ 3 ∷ 4 ∷ []) []))
   example-RefusedFor = search rules
 
-  pub example-ClonesRefused : ClonesRefused (record { is_clone = C; is_infallible = I }) 4 (5 ∷ []) (tiny_view (inline (1 ∷ 2 ∷ 3 ∷ 4 ∷ []) [])) (tiny_view (inline (1 ∷ 2 ∷ 3 ∷ 4 ∷ []) []))
+  pub example-ClonesRefused : ClonesRefused (record { is_clone = C; is_infallible = I }) (5 ∷ []) (tiny_view (inline (1 ∷ 2 ∷ 3 ∷ 4 ∷ []) [])) (tiny_view (inline (1 ∷ 2 ∷ 3 ∷ 4 ∷ []) []))
   example-ClonesRefused = search rules
 
-  pub example-IsTinyClone : IsTinyClone C 4 (tiny_view (inline (1 ∷ []) (0 ∷ 0 ∷ 0 ∷ []))) (tiny_view (inline (1 ∷ []) (0 ∷ 0 ∷ 0 ∷ [])))
+  pub example-IsTinyClone : IsTinyClone C (tiny_view (inline (1 ∷ []) (0 ∷ 0 ∷ 0 ∷ []))) (tiny_view (inline (1 ∷ []) (0 ∷ 0 ∷ 0 ∷ [])))
   example-IsTinyClone = record {
     items = (refl, tt);
     len = refl;

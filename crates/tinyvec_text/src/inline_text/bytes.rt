@@ -41,7 +41,7 @@ pub fn split_bytes<const N: usize>(
     at: usize,
 ) -> Result<TinyVec<[u8; N]>, AllocError>
     requires { at ≤ tiny_len list.old }
-    ensures becomes { Becomes (λ b. b ≡ 0) N (tiny_view list.old) (tiny_view list.new)
+    ensures becomes { Becomes (λ b. b ≡ 0) (tiny_view list.old) (tiny_view list.new)
         (if is_ok result then take at (tiny_items list.old) else tiny_items list.old) }
     ensures tail { IfOk result (λ v. IsTail (λ b. b ≡ 0) N at (tiny_view list.old) (tiny_view v)) }
     ensures succeeds { IsInline list.old → IsOk result }
@@ -66,7 +66,7 @@ pub fn replace_bytes<const N: usize>(
     requires start_le_end { start ≤ end }
     requires in_list { end ≤ tiny_len list.old }
     requires room { tiny_len list.old - (end - start) + length bytes.now ≤ tiny_capacity list.old }
-    ensures { Becomes (λ b. b ≡ 0) N (tiny_view list.old) (tiny_view list.new)
+    ensures { Becomes (λ b. b ≡ 0) (tiny_view list.old) (tiny_view list.new)
         (take start (tiny_items list.old) ++ bytes.now ++ drop end (tiny_items list.old)) }
 {
     let gap = end - start;
@@ -85,7 +85,7 @@ pub fn replace_bytes<const N: usize>(
 pub fn remove_bytes<const N: usize>(list: &mut TinyVec<[u8; N]>, start: usize, end: usize)
     requires start_le_end { start ≤ end }
     requires in_list { end ≤ tiny_len list.old }
-    ensures { Becomes (λ b. b ≡ 0) N (tiny_view list.old) (tiny_view list.new)
+    ensures { Becomes (λ b. b ≡ 0) (tiny_view list.old) (tiny_view list.new)
         (take start (tiny_items list.old) ++ drop end (tiny_items list.old)) }
 {
     let left = list.len() - (end - start);
@@ -98,7 +98,7 @@ pub fn remove_bytes<const N: usize>(list: &mut TinyVec<[u8; N]>, start: usize, e
 fn insert_bytes<const N: usize>(list: &mut TinyVec<[u8; N]>, index: usize, bytes: &[u8])
     requires in_list { index ≤ tiny_len list.old }
     requires room { tiny_len list.old + length bytes.now ≤ tiny_capacity list.old }
-    ensures { Becomes (λ b. b ≡ 0) N (tiny_view list.old) (tiny_view list.new)
+    ensures { Becomes (λ b. b ≡ 0) (tiny_view list.old) (tiny_view list.new)
         (take index (tiny_items list.old) ++ bytes.now ++ drop index (tiny_items list.old)) }
 {
     match list {
@@ -117,7 +117,7 @@ pub fn put_bytes<const N: usize>(
     requires { index ≤ tiny_len list.old }
     ensures items { tiny_items list.new ≡ (if is_ok result
         then take index (tiny_items list.old) ++ bytes.now ++ drop index (tiny_items list.old) else tiny_items list.old) }
-    ensures room { MakesRoom (is_inline list.old) N (tiny_len list.old + length bytes.now)
+    ensures room { MakesRoom (is_inline list.old) (tiny_len list.old + length bytes.now)
         (tiny_view list.old) (tiny_view list.new) result }
     ensures inline_capacity { IsInline list.old → tiny_capacity list.old ≡ N }
 {
@@ -146,7 +146,7 @@ pub fn put_byte<const N: usize>(
     requires { index ≤ tiny_len list.old }
     ensures items { tiny_items list.new ≡ (if is_ok result
         then take index (tiny_items list.old) ++ byte ∷ [] ++ drop index (tiny_items list.old) else tiny_items list.old) }
-    ensures room { MakesRoom (is_inline list.old) N (tiny_len list.old + 1)
+    ensures room { MakesRoom (is_inline list.old) (tiny_len list.old + 1)
         (tiny_view list.old) (tiny_view list.new) result }
     ensures inline_capacity { IsInline list.old → tiny_capacity list.old ≡ N }
 {
@@ -171,7 +171,7 @@ fn put_byte_slow<const N: usize>(
     requires { index ≤ tiny_len list.old }
     ensures items { tiny_items list.new ≡ (if is_ok result
         then take index (tiny_items list.old) ++ byte ∷ [] ++ drop index (tiny_items list.old) else tiny_items list.old) }
-    ensures room { MakesRoom (is_inline list.old) N (tiny_len list.old + 1)
+    ensures room { MakesRoom (is_inline list.old) (tiny_len list.old + 1)
         (tiny_view list.old) (tiny_view list.new) result }
     ensures inline_capacity { IsInline list.old → tiny_capacity list.old ≡ N }
 {
@@ -277,7 +277,7 @@ pub fn push_bytes<const N: usize>(
 ) -> Result<(), AllocError>
     ensures items { tiny_items list.new
         ≡ (if is_ok result then tiny_items list.old ++ bytes.now else tiny_items list.old) }
-    ensures room { MakesRoom (is_inline list.old) N (tiny_len list.old + length bytes.now)
+    ensures room { MakesRoom (is_inline list.old) (tiny_len list.old + length bytes.now)
         (tiny_view list.old) (tiny_view list.new) result }
     ensures inline_capacity { IsInline list.old → tiny_capacity list.old ≡ N }
 {
@@ -300,7 +300,7 @@ pub fn push_bytes<const N: usize>(
 #[inline(always)]
 pub fn append_bytes<const N: usize>(list: &mut TinyVec<[u8; N]>, bytes: &[u8])
     requires { tiny_len list.old + length bytes.now ≤ tiny_capacity list.old }
-    ensures { Becomes (λ b. b ≡ 0) N (tiny_view list.old) (tiny_view list.new)
+    ensures { Becomes (λ b. b ≡ 0) (tiny_view list.old) (tiny_view list.new)
         (tiny_items list.old ++ bytes.now) }
 {
     match list {
@@ -315,7 +315,7 @@ pub fn append_bytes<const N: usize>(list: &mut TinyVec<[u8; N]>, bytes: &[u8])
 fn push_slow<const N: usize>(list: &mut TinyVec<[u8; N]>, bytes: &[u8]) -> Result<(), AllocError>
     ensures items { tiny_items list.new
         ≡ (if is_ok result then tiny_items list.old ++ bytes.now else tiny_items list.old) }
-    ensures room { MakesRoom (is_inline list.old) N (tiny_len list.old + length bytes.now)
+    ensures room { MakesRoom (is_inline list.old) (tiny_len list.old + length bytes.now)
         (tiny_view list.old) (tiny_view list.new) result }
     ensures inline_capacity { IsInline list.old → tiny_capacity list.old ≡ N }
 {
@@ -411,7 +411,7 @@ fn write_ends<const W: usize>(to: &mut [u8], bytes: &[u8])
 fn append_on_heap<const N: usize>(list: &mut TinyVec<[u8; N]>, bytes: &[u8])
     requires place { is_inline list.old ≡ false }
     requires room { tiny_len list.old + length bytes.now ≤ tiny_capacity list.old }
-    ensures { Becomes (λ b. b ≡ 0) N (tiny_view list.old) (tiny_view list.new)
+    ensures { Becomes (λ b. b ≡ 0) (tiny_view list.old) (tiny_view list.new)
         (tiny_items list.old ++ bytes.now) }
 {
     let TinyVec::Heap(heap) = list else {

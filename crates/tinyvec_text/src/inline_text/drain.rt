@@ -50,7 +50,7 @@ impl<const N: usize> InlineText<N> {
             ≡ before self.old.bytes (R.start_bound range) ++ after self.old.bytes (R.end_bound range)) }
         ensures text { OnOk result (text_chars self.new ≡ chars (before self.old.bytes (R.start_bound range))
             ++ chars (after self.old.bytes (R.end_bound range))) }
-        ensures frame { TextStaysInPlace N self.old self.new }
+        ensures frame { TextStaysInPlace self.old self.new }
         ensures succeeds { length (removed self.old.bytes (R.start_bound range) (R.end_bound range)) ≤ N → IsOk result }
         ensures refused { OnErr result (self.new ≡ self.old) }
     {

@@ -38,7 +38,7 @@ impl<const N: usize> InlineText<N> {
     #[inline(always)]
     pub fn push_str_reserved(&mut self, string: &str)
         requires { text_len self.old + length string.now ≤ capacity_in self.old.place }
-        ensures { TextBecomes N self.old self.new
+        ensures { TextBecomes self.old self.new
             (self.old.bytes ++ string.now) (text_chars self.old ++ chars string.now) }
     {
         append_bytes(&mut self.list, string.as_bytes());
@@ -48,7 +48,7 @@ impl<const N: usize> InlineText<N> {
     #[inline(always)]
     pub fn push_reserved(&mut self, ch: char)
         requires { text_len self.old + length (encode_utf8 ch) ≤ capacity_in self.old.place }
-        ensures becomes { TextBecomes N self.old self.new
+        ensures becomes { TextBecomes self.old self.new
             (self.old.bytes ++ encode_utf8 ch) (text_chars self.old ++ ch ∷ []) }
         ensures ascii { ch < 128 → self.new.bytes ≡ self.old.bytes ++ ch ∷ [] }
     {
@@ -65,7 +65,7 @@ impl<const N: usize> InlineText<N> {
     pub fn push_str(&mut self, string: &str) -> Result<(), AllocError>
         ensures bytes { self.new.bytes ≡ (if is_ok result then self.old.bytes ++ string.now else self.old.bytes) }
         ensures text { OnOk result (text_chars self.new ≡ text_chars self.old ++ chars string.now) }
-        ensures room { MakesRoom (lies_inline self.old.place) N (text_len self.old + length string.now)
+        ensures room { MakesRoom (lies_inline self.old.place) (text_len self.old + length string.now)
             (text_view self.old) (text_view self.new) result }
         ensures inline_capacity { IsTrue (lies_inline self.old.place) → capacity_in self.old.place ≡ N }
     {
@@ -80,7 +80,7 @@ impl<const N: usize> InlineText<N> {
             ≡ (if is_ok result then self.old.bytes ++ encode_utf8 ch else self.old.bytes) }
         ensures ascii { ch < 128 → OnOk result (self.new.bytes ≡ self.old.bytes ++ ch ∷ []) }
         ensures text { OnOk result (text_chars self.new ≡ text_chars self.old ++ ch ∷ []) }
-        ensures room { MakesRoom (lies_inline self.old.place && nat_le 128 ch) N
+        ensures room { MakesRoom (lies_inline self.old.place && nat_le 128 ch)
             (text_len self.old + length (encode_utf8 ch)) (text_view self.old) (text_view self.new) result }
         ensures inline_capacity { IsTrue (lies_inline self.old.place) → capacity_in self.old.place ≡ N }
     {
@@ -100,7 +100,7 @@ impl<const N: usize> InlineText<N> {
             ≡ (if is_ok result then self.old.bytes ++ encode_utf8 ch else self.old.bytes) }
         ensures ascii { ch < 128 → OnOk result (self.new.bytes ≡ self.old.bytes ++ ch ∷ []) }
         ensures text { OnOk result (text_chars self.new ≡ text_chars self.old ++ ch ∷ []) }
-        ensures room { MakesRoom (lies_inline self.old.place && nat_le 128 ch) N
+        ensures room { MakesRoom (lies_inline self.old.place && nat_le 128 ch)
             (text_len self.old + length (encode_utf8 ch)) (text_view self.old) (text_view self.new) result }
         ensures inline_capacity { IsTrue (lies_inline self.old.place) → capacity_in self.old.place ≡ N }
     {
@@ -118,7 +118,7 @@ impl<const N: usize> InlineText<N> {
         ensures bytes { self.new.bytes
             ≡ (if is_ok result then self.old.bytes ++ encode_utf8 c else self.old.bytes) }
         ensures text { OnOk result (text_chars self.new ≡ text_chars self.old ++ c ∷ []) }
-        ensures room { MakesRoom (lies_inline self.old.place && nat_le 128 c) N
+        ensures room { MakesRoom (lies_inline self.old.place && nat_le 128 c)
             (text_len self.old + length (encode_utf8 c)) (text_view self.old) (text_view self.new) result }
         ensures inline_capacity { IsTrue (lies_inline self.old.place) → capacity_in self.old.place ≡ N }
     {
@@ -142,7 +142,7 @@ impl<const N: usize> InlineText<N> {
         ensures bytes { self.new.bytes
             ≡ (if is_ok result then self.old.bytes ++ encode_utf8 c else self.old.bytes) }
         ensures text { OnOk result (text_chars self.new ≡ text_chars self.old ++ c ∷ []) }
-        ensures room { MakesRoom (lies_inline self.old.place) N (text_len self.old + length (encode_utf8 c))
+        ensures room { MakesRoom (lies_inline self.old.place) (text_len self.old + length (encode_utf8 c))
             (text_view self.old) (text_view self.new) result }
         ensures inline_capacity { IsTrue (lies_inline self.old.place) → capacity_in self.old.place ≡ N }
     {
@@ -200,14 +200,14 @@ impl<const N: usize> InlineText<N> {
     /// Keeps the first `new_len` bytes, which end at a character. Does not allocate, and the text stays in its place.
     pub fn truncate(&mut self, new_len: usize)
         requires { IsBoundary (text_chars self.old) new_len }
-        ensures { TextKeepsFront N new_len self.old self.new }
+        ensures { TextKeepsFront new_len self.old self.new }
     {
         self.list.truncate(new_len);
     }
 
     /// Empties the text. Does not allocate, and the text stays in its place.
     pub fn clear(&mut self)
-        ensures { TextBecomes N self.old self.new [] [] }
+        ensures { TextBecomes self.old self.new [] [] }
     {
         self.list.clear();
     }
@@ -219,7 +219,7 @@ impl<const N: usize> InlineText<N> {
             ≡ (if is_ok result then take index self.old.bytes ++ encode_utf8 ch ++ drop index self.old.bytes else self.old.bytes) }
         ensures text { OnOk result (text_chars self.new
             ≡ chars (take index self.old.bytes) ++ ch ∷ [] ++ chars (drop index self.old.bytes)) }
-        ensures room { MakesRoom (lies_inline self.old.place) N (text_len self.old + length (encode_utf8 ch))
+        ensures room { MakesRoom (lies_inline self.old.place) (text_len self.old + length (encode_utf8 ch))
             (text_view self.old) (text_view self.new) result }
         ensures inline_capacity { IsTrue (lies_inline self.old.place) → capacity_in self.old.place ≡ N }
     {
@@ -238,7 +238,7 @@ impl<const N: usize> InlineText<N> {
             ≡ (if is_ok result then take index self.old.bytes ++ encode_utf8 ch ++ drop index self.old.bytes else self.old.bytes) }
         ensures text { OnOk result (text_chars self.new
             ≡ chars (take index self.old.bytes) ++ ch ∷ [] ++ chars (drop index self.old.bytes)) }
-        ensures room { MakesRoom (lies_inline self.old.place) N (text_len self.old + length (encode_utf8 ch))
+        ensures room { MakesRoom (lies_inline self.old.place) (text_len self.old + length (encode_utf8 ch))
             (text_view self.old) (text_view self.new) result }
         ensures inline_capacity { IsTrue (lies_inline self.old.place) → capacity_in self.old.place ≡ N }
     {
@@ -255,7 +255,7 @@ impl<const N: usize> InlineText<N> {
             ≡ (if is_ok result then take index self.old.bytes ++ encode_utf8 ch ++ drop index self.old.bytes else self.old.bytes) }
         ensures text { OnOk result (text_chars self.new
             ≡ chars (take index self.old.bytes) ++ ch ∷ [] ++ chars (drop index self.old.bytes)) }
-        ensures room { MakesRoom (lies_inline self.old.place) N (text_len self.old + length (encode_utf8 ch))
+        ensures room { MakesRoom (lies_inline self.old.place) (text_len self.old + length (encode_utf8 ch))
             (text_view self.old) (text_view self.new) result }
         ensures inline_capacity { IsTrue (lies_inline self.old.place) → capacity_in self.old.place ≡ N }
     {
@@ -272,7 +272,7 @@ impl<const N: usize> InlineText<N> {
             ≡ (if is_ok result then take index self.old.bytes ++ string.now ++ drop index self.old.bytes else self.old.bytes) }
         ensures text { OnOk result (text_chars self.new
             ≡ chars (take index self.old.bytes) ++ chars string.now ++ chars (drop index self.old.bytes)) }
-        ensures room { MakesRoom (lies_inline self.old.place) N (text_len self.old + length string.now)
+        ensures room { MakesRoom (lies_inline self.old.place) (text_len self.old + length string.now)
             (text_view self.old) (text_view self.new) result }
         ensures inline_capacity { IsTrue (lies_inline self.old.place) → capacity_in self.old.place ≡ N }
     {
@@ -295,7 +295,7 @@ impl<const N: usize> InlineText<N> {
             else self.old.bytes) }
         ensures text { OnOk result (text_chars self.new ≡ chars (before self.old.bytes (R.start_bound range))
             ++ chars replace_with.now ++ chars (after self.old.bytes (R.end_bound range))) }
-        ensures room { MakesRoom (lies_inline self.old.place) N (text_len self.old
+        ensures room { MakesRoom (lies_inline self.old.place) (text_len self.old
             - (range_end (R.end_bound range) (text_len self.old) - range_start (R.start_bound range)) + length replace_with.now)
             (text_view self.old) (text_view self.new) result }
         ensures inline_capacity { IsTrue (lies_inline self.old.place) → capacity_in self.old.place ≡ N }
@@ -318,7 +318,7 @@ impl<const N: usize> InlineText<N> {
             then self.old.bytes ++ removed self.old.bytes (R.start_bound range) (R.end_bound range) else self.old.bytes) }
         ensures text { OnOk result (text_chars self.new
             ≡ text_chars self.old ++ chars (removed self.old.bytes (R.start_bound range) (R.end_bound range))) }
-        ensures room { MakesRoom (lies_inline self.old.place) N
+        ensures room { MakesRoom (lies_inline self.old.place)
             (text_len self.old + length (removed self.old.bytes (R.start_bound range) (R.end_bound range)))
             (text_view self.old) (text_view self.new) result }
         ensures inline_capacity { IsTrue (lies_inline self.old.place) → capacity_in self.old.place ≡ N }
@@ -335,7 +335,7 @@ impl<const N: usize> InlineText<N> {
             × (self.new.bytes ≡ take index self.old.bytes ++ rest) }
         ensures text { (rest : List ℕ) × (text_chars self.old ≡ chars (take index self.old.bytes) ++ result ∷ rest)
             × (text_chars self.new ≡ chars (take index self.old.bytes) ++ rest) }
-        ensures frame { TextStaysInPlace N self.old self.new }
+        ensures frame { TextStaysInPlace self.old self.new }
     {
         let (c, width) = first_char(&self.list.as_slice()[index..]);
         remove_bytes(&mut self.list, index, index + width);
@@ -349,7 +349,7 @@ impl<const N: usize> InlineText<N> {
         ensures bytes { OnOk result (self.new.bytes ≡ take at self.old.bytes) }
         ensures tail { IfOk result (IsTextTail N at self.old) }
         ensures text { IfOk result (λ t. text_chars self.old ≡ text_chars self.new ++ text_chars t) }
-        ensures frame { TextStaysInPlace N self.old self.new }
+        ensures frame { TextStaysInPlace self.old self.new }
         ensures succeeds { IsTrue (lies_inline self.old.place) → IsOk result }
         ensures succeeds_at_the_end { at ≡ text_len self.old → IsOk result }
         ensures refused { OnErr result (self.new ≡ self.old) }
@@ -365,7 +365,7 @@ impl<const N: usize> InlineText<N> {
         ensures bytes { IfSome result (λ c. self.old.bytes ≡ self.new.bytes ++ encode_utf8 c) }
         ensures text { IfSome result (λ c. text_chars self.old ≡ text_chars self.new ++ c ∷ []) }
         ensures none { IfNone result (self.new ≡ self.old) }
-        ensures frame { TextStaysInPlace N self.old self.new }
+        ensures frame { TextStaysInPlace self.old self.new }
     {
         let Some(last) = self.list.pop() else {
             return None;

@@ -13,13 +13,13 @@ use std::alloc::{AllocError, Global};
 impl<const N: usize> Extend<char> for InlineText<N> {
     // As pushes one after another leave it, also the capacity.
     ghost extend_gives = { λ t cs u. (u.bytes ≡ t.bytes ++ encode_utf8_all cs)
-        × (u.place ≡ place_after_chars N t cs) };
+        × (u.place ≡ place_after_chars t cs) };
 
     fn extend<U: IntoIterator<Item = char>>(&mut self, iter: U) -> Result<(), AllocError>
         requires { (it : U.IntoIter) → U.into_iter_gives iter it
             → U.IntoIter.can_next it × IsFinite (U.IntoIter.remaining it) × HoldsAlong U.IntoIter.next_gives it (λ _. ⊤) }
         ensures ran { ExtendsWithItems U.into_iter_gives U.IntoIter.next_gives
-            (λ t cs u. (u.bytes ≡ t.bytes ++ encode_utf8_all cs) × (u.place ≡ place_after_chars N t cs))
+            (λ t cs u. (u.bytes ≡ t.bytes ++ encode_utf8_all cs) × (u.place ≡ place_after_chars t cs))
             iter self.old self.new result }
         ensures grows { TextExtends N self.old self.new }
 
@@ -46,14 +46,14 @@ impl<const N: usize> Extend<char> for InlineText<N> {
 impl<'a, const N: usize> Extend<&'a str> for InlineText<N> {
     // As pushes one after another leave it, also the capacity.
     ghost extend_gives = { λ t xs u. (u.bytes ≡ t.bytes ++ flat_map (λ x. x.now) xs)
-        × (u.place ≡ place_after_texts (λ x. x.now) N t xs) };
+        × (u.place ≡ place_after_texts (λ x. x.now) t xs) };
 
     fn extend<U: IntoIterator<Item = &'a str>>(&mut self, iter: U) -> Result<(), AllocError>
         requires { (it : U.IntoIter) → U.into_iter_gives iter it
             → U.IntoIter.can_next it × IsFinite (U.IntoIter.remaining it) × HoldsAlong U.IntoIter.next_gives it (λ _. ⊤) }
         ensures ran { ExtendsWithItems U.into_iter_gives U.IntoIter.next_gives
             (λ t xs u. (u.bytes ≡ t.bytes ++ flat_map (λ x. x.now) xs)
-            × (u.place ≡ place_after_texts (λ x. x.now) N t xs)) iter self.old self.new result }
+            × (u.place ≡ place_after_texts (λ x. x.now) t xs)) iter self.old self.new result }
         ensures grows { TextExtends N self.old self.new }
 
         // It fails only at a text that finds no room.
@@ -80,7 +80,7 @@ impl<const N: usize> FromIterator<char> for InlineText<N> {
     type Alloc = Global;
 
     ghost from_iter_gives = { λ cs t. (t.bytes ≡ encode_utf8_all cs)
-        × (t.place ≡ place_after_chars N (empty_text N) cs) × TextCollects N t };
+        × (t.place ≡ place_after_chars (empty_text N) cs) × TextCollects N t };
 
     fn from_iter<U: IntoIterator<Item = char>>(
         alloc: Global,
@@ -90,7 +90,7 @@ impl<const N: usize> FromIterator<char> for InlineText<N> {
             → U.IntoIter.can_next it × IsFinite (U.IntoIter.remaining it) × HoldsAlong U.IntoIter.next_gives it (λ _. ⊤) }
         ensures ran { IfOk result (λ t. (it : U.IntoIter) × (xs : List ℕ) × U.into_iter_gives iter it
             × DrainsIf U.IntoIter.next_gives ⊤ it xs × ((t.bytes ≡ encode_utf8_all xs)
-            × (t.place ≡ place_after_chars N (empty_text N) xs) × TextCollects N t)) }
+            × (t.place ≡ place_after_chars (empty_text N) xs) × TextCollects N t)) }
         ensures collects { IfOk result (TextCollects N) }
 
         // It fails only at a character that neither the array nor the room on the heap has a place for.
@@ -113,7 +113,7 @@ impl<'a, const N: usize> FromIterator<&'a str> for InlineText<N> {
     type Alloc = Global;
 
     ghost from_iter_gives = { λ xs t. (t.bytes ≡ flat_map (λ x. x.now) xs)
-        × (t.place ≡ place_after_texts (λ x. x.now) N (empty_text N) xs) × TextCollects N t };
+        × (t.place ≡ place_after_texts (λ x. x.now) (empty_text N) xs) × TextCollects N t };
 
     fn from_iter<U: IntoIterator<Item = &'a str>>(
         alloc: Global,
@@ -123,7 +123,7 @@ impl<'a, const N: usize> FromIterator<&'a str> for InlineText<N> {
             → U.IntoIter.can_next it × IsFinite (U.IntoIter.remaining it) × HoldsAlong U.IntoIter.next_gives it (λ _. ⊤) }
         ensures ran { IfOk result (λ t. (it : U.IntoIter) × (xs : _) × U.into_iter_gives iter it
             × DrainsIf U.IntoIter.next_gives ⊤ it xs × ((t.bytes ≡ flat_map (λ x. x.now) xs)
-            × (t.place ≡ place_after_texts (λ x. x.now) N (empty_text N) xs) × TextCollects N t)) }
+            × (t.place ≡ place_after_texts (λ x. x.now) (empty_text N) xs) × TextCollects N t)) }
         ensures collects { IfOk result (TextCollects N) }
 
         // It fails only at a text that neither the array nor the room on the heap has a place for.

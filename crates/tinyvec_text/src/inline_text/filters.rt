@@ -12,7 +12,7 @@ impl<const N: usize> InlineText<N> {
     pub fn retain<F: FnMut(char) -> bool>(&mut self, mut f: F)
         requires { F.IsAlwaysCallable f }
         ensures filtered { RetainsChars F.FnMut f self.old.bytes self.new.bytes }
-        ensures frame { TextStaysInPlace N self.old self.new }
+        ensures frame { TextStaysInPlace self.old self.new }
     {
         let kept = move_kept_to_front(self.list.as_mut_slice(), &mut f);
         self.list.truncate(kept);

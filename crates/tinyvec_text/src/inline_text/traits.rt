@@ -145,7 +145,7 @@ impl<const N: usize> fmt::Write for InlineText<N> {
     fn write_str(&mut self, s: &str) -> fmt::Result
         ensures ok { IsOk result → self.new.bytes ≡ self.old.bytes ++ s.now }
         ensures text { OnOk result (text_chars self.new ≡ text_chars self.old ++ chars s.now) }
-        ensures room { MakesRoom (lies_inline self.old.place) N (text_len self.old + length s.now)
+        ensures room { MakesRoom (lies_inline self.old.place) (text_len self.old + length s.now)
             (text_view self.old) (text_view self.new) result }
         ensures inline_capacity { IsTrue (lies_inline self.old.place) → capacity_in self.old.place ≡ N }
     {

@@ -11,7 +11,6 @@ returns g c =
     let new = c.drop.new.self.0 in
     let d = c.drain.result in
     let D = g.A.Item.Default.is_default in
-    let slots = g.A.Array.CAPACITY in
-    let left : Becomes D slots (tiny_view_of g.A.Slots old) (tiny_view_of g.A.Slots new) (before (tiny_items_of g.A.Slots old) (g.R.RangeBounds.start_bound c.args.range) ++ after (tiny_items_of g.A.Slots old) (g.R.RangeBounds.end_bound c.args.range)) =
-    subst (Becomes D slots (tiny_view_of g.A.Slots old) (tiny_view_of g.A.Slots new)) c.drain.ensures.kept (tiny_drained g.A.Slots D slots old d d new c.drain.ensures.frame (DrainKeeps-refl g.A.Slots d) c.drop.ensures) in
+    let left : Becomes D (tiny_view_of g.A.Slots old) (tiny_view_of g.A.Slots new) (before (tiny_items_of g.A.Slots old) (g.R.RangeBounds.start_bound c.args.range) ++ after (tiny_items_of g.A.Slots old) (g.R.RangeBounds.end_bound c.args.range)) =
+    subst (Becomes D (tiny_view_of g.A.Slots old) (tiny_view_of g.A.Slots new)) c.drain.ensures.kept (tiny_drained g.A.Slots D old d d new c.drain.ensures.frame (DrainKeeps-refl g.A.Slots d) c.drop.ensures) in
     search rules

@@ -25,7 +25,7 @@ returns-clause-room g c =
     let long = ap length c.replace_reserved.ensures.items
     ∙ length-replaced _ _ c.args.replacement.now (tiny_items_of g.A.Slots c.reserve.new.self) order (omega (arith, end, inside, same)) in
     let more = c.saturating_sub-more.ensures in
-    replaced_room _ _ _ _ _ (omega (arith, c.len.ensures.fits, c.len.ensures.value)) (omega (arith, long, same, more, end, inside)) (λ some. omega (arith, long, same, more, end, inside, some))
+    replaced_room _ _ _ _ (omega (arith, c.len.ensures.fits, c.len.ensures.value)) (omega (arith, long, same, more, end, inside)) (λ some. omega (arith, long, same, more, end, inside, some))
     _ g.A.Item.Default.is_default _ _ (λ i. ap (tiny_view_of g.A.Slots) (c.in_ok-reserve.ensures.stays i)) c.in_ok-reserve.ensures.room c.replace_reserved.ensures
 
 pub returns-clause-capacity : goal.returns-clause-capacity

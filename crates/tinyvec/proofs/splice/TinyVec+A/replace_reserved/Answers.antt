@@ -13,5 +13,5 @@ returns g c =
     let is = replaced _ _ _ new (tiny_items_of g.A.Slots c.args.self.now) _ _ c.requires.start_le_end c.requires.in_list c.requires.room
     (c.splice_all-all_fit.ensures.known new (λ it h. copied_yields new it (search rules))) in
     let long = length-replaced _ _ new (tiny_items_of g.A.Slots c.args.self.now) c.requires.start_le_end c.requires.in_list in
-    subst (Becomes g.A.Item.Default.is_default g.A.Array.CAPACITY (tiny_view_of g.A.Slots c.args.self.now) (tiny_view_of g.A.Slots c.splice_all-all_fit.new.self)) is
-    (grows_in_room _ _ _ _ (omega (arith, ap length is, long, c.requires.room)) c.splice_all-all_fit.ensures.grows)
+    subst (Becomes g.A.Item.Default.is_default (tiny_view_of g.A.Slots c.args.self.now) (tiny_view_of g.A.Slots c.splice_all-all_fit.new.self)) is
+    (grows_in_room _ _ _ (omega (arith, ap length is, long, c.requires.room)) c.splice_all-all_fit.ensures.grows)

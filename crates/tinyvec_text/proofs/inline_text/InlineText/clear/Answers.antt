@@ -8,4 +8,4 @@ returns g c = record { bytes = search rules; text = ap chars c.clear.ensures.ite
 
 pub invariant_of-self : goal.invariant_of-self
 invariant_of-self g c =
-    text_stays g.row.N c.self.inside.list c.clear.new.self _ c.clear.ensures c.self.invariant IsUtf8-nil
+    text_stays c.self.inside.list c.clear.new.self _ c.clear.ensures c.self.invariant IsUtf8-nil

@@ -39,7 +39,7 @@ invariant_of-self g c =
     let starts = c.resolve_range-part.ensures.start in
     let ends = c.resolve_range-part.ensures.end ∙ ap (range_end end) c.len.ensures.value in
     let parts = IsUtf8-three_parts bs (text_utf8 list c.self.invariant) _ _ cuts.order cuts.first cuts.last in
-    text_stays g.row.N list c.remove_bytes.new.list _ c.remove_bytes.ensures c.self.invariant
+    text_stays list c.remove_bytes.new.list _ c.remove_bytes.ensures c.self.invariant
     (subst IsUtf8 (sym (λ i. take (starts i) bs ++ drop (ends i) bs)) (IsUtf8-append _ _ parts.0 parts.2))
 
 pub returns-clause-text : goal.returns-clause-text

@@ -19,14 +19,14 @@ extend_from_within-requires-clause-in_list g c =
 
 pub invariant_of-self : goal.invariant_of-self
 invariant_of-self g c =
-    let refused = no_room g.row.N _ _ _ c.in_err-extend_from_within.ensures.refused (λ p. p.1.1 0 tt) in
+    let refused = no_room _ _ _ c.in_err-extend_from_within.ensures.refused (λ p. p.1.1 0 tt) in
     text_same c.self.inside.list c.extend_from_within.new.self refused.1 c.self.invariant
 
 pub returns-in_err-extend_from_within-clause-room : goal.returns-in_err-extend_from_within-clause-room
 returns-in_err-extend_from_within-clause-room g c =
     let list = c.self.inside.list in
     let told = c.in_err-extend_from_within.ensures in
-    let refused = no_room g.row.N _ _ _ told.refused (λ p. p.1.1 0 tt) in
+    let refused = no_room _ _ _ told.refused (λ p. p.1.1 0 tt) in
     let kept : Unchanged (text_view (text_of list)) (text_view (text_of c.extend_from_within.new.self)) =
     record { items = refused.1.items; spare = refl; place = refused.1.place; capacity = refused.1.capacity } in
     rw (← c.self.view_is) (record {

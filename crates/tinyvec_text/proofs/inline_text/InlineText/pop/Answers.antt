@@ -11,7 +11,7 @@ use Rattle.tinyvec_text.proofs.inline_text.InlineText.pop.Goals as goal
 pub invariant_of-self : goal.invariant_of-self
 invariant_of-self g c =
     let list = c.self.inside.list in
-    text_stays g.row.N list c.pop.new.self _ c.pop.ensures.becomes c.self.invariant
+    text_stays list c.pop.new.self _ c.pop.ensures.becomes c.self.invariant
     (IsUtf8-take (tiny_items list) _ (text_utf8 list c.self.invariant) (search rules))
 
 pub invariant_of-self-then-last-lt128 : goal.invariant_of-self-then-last-lt128
@@ -19,7 +19,7 @@ invariant_of-self-then-last-lt128 g c =
     let list = c.self.inside.list in
     let made = c.pop.ensures.becomes in
     let front = popped_ascii _ c.in-Some.last c.if-last-lt128.true (subst IsUtf8 c.in-Some.ensures.some (text_utf8 list c.self.invariant)) in
-    text_stays g.row.N list c.pop.new.self _ made c.self.invariant (subst IsUtf8 made.items front)
+    text_stays list c.pop.new.self _ made c.self.invariant (subst IsUtf8 made.items front)
 
 pub returns-then-last-lt128-clause-text : goal.returns-then-last-lt128-clause-text
 returns-then-last-lt128-clause-text g c =
@@ -38,7 +38,7 @@ pop_wide-requires g c =
 
 pub invariant_of-self-2 : goal.invariant_of-self-2
 invariant_of-self-2 g c =
-    (∣ c.pop_wide.ensures.front ∣₁, c.pop_wide.ensures.spare (zero_becomes g.row.N c.self.inside.list c.pop.new.self _ c.pop.ensures.becomes c.self.invariant.1))
+    (∣ c.pop_wide.ensures.front ∣₁, c.pop_wide.ensures.spare (zero_becomes c.self.inside.list c.pop.new.self _ c.pop.ensures.becomes c.self.invariant.1))
 
 pub returns-clause-text : goal.returns-clause-text
 returns-clause-text g c =

@@ -10,7 +10,7 @@ use Rattle.tinyvec_text.proofs.inline_text.InlineText.push_reserved.Goals as goa
 pub invariant_of-self : goal.invariant_of-self
 invariant_of-self g c =
     let ascii = IsUtf8-from_ascii (c.args.ch ∷ []) (search rules) in
-    text_stays g.row.N c.self.inside.list c.push_reserved.new.self _ c.push_reserved.ensures c.self.invariant
+    text_stays c.self.inside.list c.push_reserved.new.self _ c.push_reserved.ensures c.self.invariant
     (IsUtf8-append _ _ (text_utf8 c.self.inside.list c.self.invariant) ascii)
 
 pub returns-then-is_ascii-clause-becomes : goal.returns-then-is_ascii-clause-becomes

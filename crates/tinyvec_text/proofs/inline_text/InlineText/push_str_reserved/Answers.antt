@@ -8,7 +8,7 @@ use Rattle.tinyvec_text.proofs.inline_text.InlineText.push_str_reserved.Goals as
 pub invariant_of-self : goal.invariant_of-self
 invariant_of-self g c =
     let list = c.self.inside.list in
-    text_stays g.row.N list c.append_bytes.new.list _ c.append_bytes.ensures c.self.invariant
+    text_stays list c.append_bytes.new.list _ c.append_bytes.ensures c.self.invariant
     (IsUtf8-append _ _ (text_utf8 list c.self.invariant) c.as_bytes.ensures.utf8)
 
 pub returns : goal.returns

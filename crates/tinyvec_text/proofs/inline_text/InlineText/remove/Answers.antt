@@ -28,7 +28,7 @@ invariant_of-self g c =
     let tail : take (length sl - i) (drop i sl) ≡ drop i bs = take_all _ _ (le_of_eq (length-drop i sl)) ∙ ap (drop i) c.as_slice.ensures in
     let own : take n (drop i bs) ≡ encode_utf8 x = subst (λ xs. take n xs ≡ encode_utf8 x) tail c.first_char-c.ensures.encoded in
     let rest : IsUtf8 (drop n (drop i bs)) = subst (λ xs. IsUtf8 (drop n xs)) tail c.first_char-c.ensures.rest in
-    text_stays g.row.N list c.remove_bytes.new.list _ c.remove_bytes.ensures c.self.invariant (utf8_gap bs utf8 i cut n x own rest)
+    text_stays list c.remove_bytes.new.list _ c.remove_bytes.ensures c.self.invariant (utf8_gap bs utf8 i cut n x own rest)
 
 pub returns-clause-text : goal.returns-clause-text
 returns-clause-text g c =

@@ -45,7 +45,7 @@ invariant_of-self-2 g c =
     λ i. take (starts i) (same i) ++ put ++ drop (ends i) (same i) in
     let told = c.in_ok-reserve.ensures in
     let kept = text_kept list mid (λ i. (told.room.place.0 i).0) (used_rule (λ b. b ≡ 0) (tiny_view list) (tiny_view mid) (omega (arith, ap length same)) told.room.spare) c.self.invariant (subst IsUtf8 (sym same) utf8) in
-    text_stays g.row.N mid c.replace_bytes.new.list _ c.replace_bytes.ensures kept
+    text_stays mid c.replace_bytes.new.list _ c.replace_bytes.ensures kept
     (subst IsUtf8 (sym whole) (utf8_put bs utf8 _ _ cuts.first cuts.last put c.as_bytes-bytes.ensures.utf8))
 
 pub returns-clause-text : goal.returns-clause-text
@@ -89,7 +89,7 @@ returns-clause-room g c =
     let inside = cuts.last.0 in
     let order = cuts.order in
     let long = size ∙ ap (λ l. length bs - (range_end end (length bs) - a) + length l) c.as_bytes-bytes.ensures.value in
-    rw (← c.self.view_is, ← long) (text_room _ g.row.N _ list c.replace_bytes.new.list _
-    (replaced_room g.row.N c.saturating_sub-more.result (tiny_view list) (tiny_view mid) (tiny_view c.replace_bytes.new.list) (omega (arith, c.len.ensures.fits, c.len.ensures.value))
+    rw (← c.self.view_is, ← long) (text_room _ _ list c.replace_bytes.new.list _
+    (replaced_room c.saturating_sub-more.result (tiny_view list) (tiny_view mid) (tiny_view c.replace_bytes.new.list) (omega (arith, c.len.ensures.fits, c.len.ensures.value))
     (omega (arith, size, more, starts, ends, order, inside)) (λ some. omega (arith, size, more, starts, ends, order, inside, some))
     _ (λ b. b ≡ 0) _ _ (λ i. ap tiny_view (c.in_ok-reserve.ensures.stays i)) c.in_ok-reserve.ensures.room c.replace_bytes.ensures))

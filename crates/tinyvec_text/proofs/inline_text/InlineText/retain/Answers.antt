@@ -12,4 +12,4 @@ invariant_of-self g c =
     let bytes = kept.new.bytes in
     let long = kept.auto.bytes ∙ ap length c.as_mut_slice.ensures.value in
     let made = overwritten g.row.N list bytes long c.truncate.new.self (take kept.result) c.truncate.ensures in
-    text_stays g.row.N list c.truncate.new.self _ made c.self.invariant kept.ensures.utf8
+    text_stays list c.truncate.new.self _ made c.self.invariant kept.ensures.utf8

@@ -25,7 +25,7 @@ invariant_of-self-2 g c =
     let list = c.self.inside.list in
     let cut = text_cut list c.args.self.now c.self.view_is c.self.invariant c.args.at c.requires in
     let front = (IsUtf8-take-drop (tiny_items list) (text_utf8 list c.self.invariant) c.args.at cut).0 in
-    text_stays g.row.N list c.split_bytes.new.list _ c.in_ok-list.ensures.becomes c.self.invariant front
+    text_stays list c.split_bytes.new.list _ c.in_ok-list.ensures.becomes c.self.invariant front
 
 pub returns-clause-text : goal.returns-clause-text
 returns-clause-text g c =

@@ -11,7 +11,7 @@ invariant_of-self g c =
     let list = c.self.inside.list in
     let cut = text_cut list c.args.self.now c.self.view_is c.self.invariant c.args.new_len c.requires in
     let front = (IsUtf8-take-drop (tiny_items list) (text_utf8 list c.self.invariant) c.args.new_len cut).0 in
-    text_stays g.row.N c.self.inside.list c.truncate.new.self _ c.truncate.ensures c.self.invariant front
+    text_stays c.self.inside.list c.truncate.new.self _ c.truncate.ensures c.self.invariant front
 
 pub returns : goal.returns
 returns g c =

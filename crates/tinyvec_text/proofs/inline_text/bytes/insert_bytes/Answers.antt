@@ -12,5 +12,5 @@ returns-in-Inline g c =
     let xs = c.args.bytes.now in
     let i = c.args.index in
     let inside : i ≤ items_len v = search rules in
-    rw c.in-Inline.is (inline_becomes (λ b. b ≡ 0) g.row.N (view v) (view c.insert_inline.new.v) _ put.items
+    rw c.in-Inline.is (inline_becomes (λ b. b ≡ 0) (view v) (view c.insert_inline.new.v) _ put.items
     (slots_used (λ b. b ≡ 0) (view v) (view c.insert_inline.new.v) (length xs) (omega (arith, ap length put.items, length-replaced i i xs (items v) (le_refl i) inside)) put.spare) c.insert_inline.ensures.slot_count)

@@ -16,4 +16,4 @@ returns g c =
     let is : take (c.len.result - gap) ws ≡ take c.args.start (tiny_items old) ++ drop c.args.end (tiny_items old) =
     (λ i. take (left i) ws) ∙ c.move_down.ensures ∙ (λ i. take c.args.start (same i) ++ drop c.args.end (same i)) in
     let made = overwritten g.row.N old ws long c.truncate.new.self (take (c.len.result - gap)) c.truncate.ensures in
-    subst (Becomes (λ b. b ≡ 0) g.row.N (tiny_view old) (tiny_view c.truncate.new.self)) is made
+    subst (Becomes (λ b. b ≡ 0) (tiny_view old) (tiny_view c.truncate.new.self)) is made

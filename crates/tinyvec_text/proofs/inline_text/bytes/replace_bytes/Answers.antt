@@ -26,7 +26,7 @@ returns-then-bytes-gap g c =
     let front = take-put_mid a (n - a) seen own n (omega (arith, count)) inside ∙ (λ i. take a (same i) ++ c.copy_from_slice.ensures.after i) in
     let back = drop-put_mid a (n - a) seen own e (omega (arith, few, order)) inside count ∙ ap (drop e) same in
     let made = overwritten g.row.N old ws long c.remove_bytes.new.list (λ l. take n l ++ drop e l) c.remove_bytes.ensures in
-    subst (Becomes (λ b. b ≡ 0) g.row.N (tiny_view old) (tiny_view c.remove_bytes.new.list)) (λ i. front i ++ back i) made
+    subst (Becomes (λ b. b ≡ 0) (tiny_view old) (tiny_view c.remove_bytes.new.list)) (λ i. front i ++ back i) made
 
 pub returns : goal.returns
 returns g c =
@@ -51,4 +51,4 @@ returns g c =
     let is = (λ i. front i ++ more ++ back i)
     ∙ ap (λ l. l ++ drop e (tiny_items old)) (append_assoc (take a (tiny_items old)) first more ∙ ap (λ l. take a (tiny_items old) ++ l) joined) in
     let made = overwritten g.row.N old ws long c.insert_bytes.new.list (λ l. take e l ++ more ++ drop e l) c.insert_bytes.ensures in
-    subst (Becomes (λ b. b ≡ 0) g.row.N (tiny_view old) (tiny_view c.insert_bytes.new.list)) is made
+    subst (Becomes (λ b. b ≡ 0) (tiny_view old) (tiny_view c.insert_bytes.new.list)) is made

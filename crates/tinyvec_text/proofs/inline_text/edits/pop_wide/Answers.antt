@@ -24,7 +24,7 @@ returns-then-third-ge192-clause-front g c =
     (subst (λ l. IsUtf8 (l ++ x ∷ [])) c.in-Some.ensures.some c.requires.utf8)).front
 
 pub returns-then-third-ge192-clause-spare : goal.returns-then-third-ge192-clause-spare
-returns-then-third-ge192-clause-spare g c = zero_becomes g.row.N c.args.list.now c.pop.new.self _ c.pop.ensures.becomes
+returns-then-third-ge192-clause-spare g c = zero_becomes c.args.list.now c.pop.new.self _ c.pop.ensures.becomes
 
 pub unreachable-requires-in_default-pop : goal.unreachable-requires-in_default-pop
 unreachable-requires-in_default-pop g c =
@@ -64,8 +64,8 @@ returns-then-second-ge192-clause-front g c =
 
 pub returns-then-second-ge192-clause-spare : goal.returns-then-second-ge192-clause-spare
 returns-then-second-ge192-clause-spare g c = λ zero.
-    zero_becomes g.row.N c.pop.new.self c.pop-2.new.self _ c.pop-2.ensures.becomes
-    (zero_becomes g.row.N c.args.list.now c.pop.new.self _ c.pop.ensures.becomes zero)
+    zero_becomes c.pop.new.self c.pop-2.new.self _ c.pop-2.ensures.becomes
+    (zero_becomes c.args.list.now c.pop.new.self _ c.pop.ensures.becomes zero)
 
 pub unreachable-requires-in_default-pop-2 : goal.unreachable-requires-in_default-pop-2
 unreachable-requires-in_default-pop-2 g c =
@@ -115,6 +115,6 @@ returns-clause-front g c =
 
 pub returns-clause-spare : goal.returns-clause-spare
 returns-clause-spare g c = λ zero.
-    zero_becomes g.row.N c.pop-2.new.self c.pop-3.new.self _ c.pop-3.ensures.becomes
-    (zero_becomes g.row.N c.pop.new.self c.pop-2.new.self _ c.pop-2.ensures.becomes
-    (zero_becomes g.row.N c.args.list.now c.pop.new.self _ c.pop.ensures.becomes zero))
+    zero_becomes c.pop-2.new.self c.pop-3.new.self _ c.pop-3.ensures.becomes
+    (zero_becomes c.pop.new.self c.pop-2.new.self _ c.pop-2.ensures.becomes
+    (zero_becomes c.args.list.now c.pop.new.self _ c.pop.ensures.becomes zero))

@@ -18,5 +18,5 @@ returns-in-Inline-self g c =
     let empty : items_of G new ≡ [] = ap (λ u. items u) c.set_len.ensures.value in
     let behind : spare_of G new ≡ gone.spare.0 ++ spare_of G v =
     ap (λ u. spare u) c.set_len.ensures.value ∙ same ∙ slots-parts G w ∙ ap (λ l. l ++ spare_of G w) gone.items ∙ gone.spare.2 in
-    rw c.in-Inline.is (inline_becomes D g.A.Array.CAPACITY (view_of G v) (view_of G new) [] empty
+    rw c.in-Inline.is (inline_becomes D (view_of G v) (view_of G new) [] empty
     (slots_freed D (view_of G v) (view_of G new) (len_of G v) (omega (arith, ap length empty)) (gone.spare.0, gone.spare.1, behind)) (c.set_len.ensures.lender.slot_count ∙ ap length same ∙ gone.lender.slot_count))

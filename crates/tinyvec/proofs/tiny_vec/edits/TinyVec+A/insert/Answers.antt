@@ -48,4 +48,4 @@ pub returns-then-is_err : goal.returns-then-is_err
 returns-then-is_err g c =
     let same : c.in_default.self ≡ c.args.self.now = search rules in
     let grown = rw same at c.grow_one.ensures in
-    search (rules, grown, grown.inline_capacity, not_taken, was_full g.A.Slots _ _ _ _ c.if-is_err.ensures.value grown.items grown.room)
+    search (rules, grown, grown.inline_capacity, not_taken, was_full g.A.Slots _ _ _ c.if-is_err.ensures.value grown.items grown.room)

@@ -21,7 +21,7 @@ returns g c =
         refl,
         λ w _. (
           tiny_items-with_item g.A.Slots new i w inside ∙ ap (λ l. set l i w) put.items ∙ set_at (take i xs) x (drop i xs) w i (length-take-le i xs in_list),
-          room_then_framed false g.A.Array.CAPACITY (tiny_len_of g.A.Slots old + 1) (tiny_view_of g.A.Slots old) _ (tiny_view_of g.A.Slots new) tt c.index_mut.result put.room (tiny_framed-with_item g.A.Slots new i w inside),
+          room_then_framed false (tiny_len_of g.A.Slots old + 1) (tiny_view_of g.A.Slots old) _ (tiny_view_of g.A.Slots new) tt c.index_mut.result put.room (tiny_framed-with_item g.A.Slots new i w inside),
         ),
         tt,
       ),

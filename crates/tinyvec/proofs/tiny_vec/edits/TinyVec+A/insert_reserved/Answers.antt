@@ -12,5 +12,5 @@ returns-in-Inline g c =
     let new = c.insert.new.self in
     let put = c.insert.ensures in
     let in_list : c.args.index ≤ len_of G v = rw c.in-Inline.is at c.requires.in_list in
-    rw c.in-Inline.is (inline_becomes D g.A.Array.CAPACITY (view_of G v) (view_of G new) _ put.items
+    rw c.in-Inline.is (inline_becomes D (view_of G v) (view_of G new) _ put.items
     (slots_inserted D (view_of G v) (view_of G new) c.args.index c.args.element in_list put.items put.spare) put.lender.slot_count)

@@ -10,5 +10,5 @@ returns-in-Inline g c =
     let v = c.in-Inline.v in
     let new = c.push.new.self in
     let put = c.push.ensures in
-    rw c.in-Inline.is (inline_becomes D g.A.Array.CAPACITY (view_of G v) (view_of G new) _ put.items
+    rw c.in-Inline.is (inline_becomes D (view_of G v) (view_of G new) _ put.items
     (slots_pushed D (view_of G v) (view_of G new) c.args.value put.items put.spare) put.lender.slot_count)

@@ -17,7 +17,7 @@ returns-in-Inline-clause-becomes g c =
     let new = c.split_off.new.self in
     let cut = c.split_off.ensures.becomes in
     let in_list : c.args.at ≤ len_of G v = rw c.in-Inline.is at c.requires in
-    rw c.in-Inline.is (inline_becomes D g.A.Array.CAPACITY (view_of G v) (view_of G new) _ cut.items
+    rw c.in-Inline.is (inline_becomes D (view_of G v) (view_of G new) _ cut.items
     (slots_freed D (view_of G v) (view_of G new) (len_of G v - c.args.at) (omega (arith, ap length cut.items, length-take c.args.at (items_of G v), in_list)) cut.spare)
     cut.lender.slot_count)
 

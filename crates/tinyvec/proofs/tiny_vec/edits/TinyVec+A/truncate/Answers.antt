@@ -11,6 +11,6 @@ returns-in-Inline g c =
     let cut = c.truncate.ensures in
     let D = g.A.Item.Default.is_default in
     let n = c.args.new_len in
-    rw c.in-Inline.is (inline_becomes D g.A.Array.CAPACITY (view_of g.A.Slots v) (view_of g.A.Slots new) _ cut.items
+    rw c.in-Inline.is (inline_becomes D (view_of g.A.Slots v) (view_of g.A.Slots new) _ cut.items
     (slots_freed D (view_of g.A.Slots v) (view_of g.A.Slots new) (len_of g.A.Slots v - n) (omega (arith, ap length cut.items, length-take n (items_of g.A.Slots v))) cut.spare)
     cut.lender.slot_count)

@@ -7,4 +7,4 @@ use Rattle.tinyvec.proofs.tiny_vec.extending.TinyVec+A.append.Goals as goal
 pub returns-in_err-reserve-clause-other : goal.returns-in_err-reserve-clause-other
 returns-in_err-reserve-clause-other g c =
     let is = (err_from_is_err_and c.from_residual.result c.from_residual.ensures.1).1 in
-    rw is (stays_same g.A.Item.Default.is_default g.A.Array.CAPACITY (tiny_view_of g.A.Slots c.args.other.now) (omega (arith, c.len.ensures.fits, c.len.ensures.value)))
+    rw is (stays_same g.A.Item.Default.is_default (tiny_view_of g.A.Slots c.args.other.now) (omega (arith, c.len.ensures.fits, c.len.ensures.value)))

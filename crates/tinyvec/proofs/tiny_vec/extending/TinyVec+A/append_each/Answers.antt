@@ -21,7 +21,7 @@ loop-i-preserved g c =
     let taken = c.take.ensures.value ∙ sym c.index-from-i.is in record {
       items = put.items ∙ ap (λ l. l ++ c.take.result ∷ []) inv.items ∙ append_assoc _ (take i first) _
           ∙ ap (λ l. tiny_items_of g.A.Slots c.args.self.now ++ l) (ap (λ y. take i first ++ y ∷ []) taken ∙ sym (one_taken at.from first i c.index-from-i.result within inv.untaken c.index-from-i.is));
-      spare = spare_used g.A.Slots D g.A.Array.CAPACITY at.self c.push_reserved.new.self _ 1 (length_push (tiny_items_of g.A.Slots at.self) c.take.result) put ∙ ap (drop 1) inv.spare ∙ drop-drop 1 i _;
+      spare = spare_used g.A.Slots D at.self c.push_reserved.new.self _ 1 (length_push (tiny_items_of g.A.Slots at.self) c.take.result) put ∙ ap (drop 1) inv.spare ∙ drop-drop 1 i _;
       place = put.place ∙ inv.place;
       capacity = put.capacity ∙ inv.capacity;
       slots = length-set at.from i d ∙ inv.slots;
@@ -35,9 +35,9 @@ returns-clause-becomes g c =
     let first = c.args.from.now in
     let long = ap length inv.items ∙ length-append (tiny_items_of g.A.Slots c.args.self.now) (take c.loop-i.i first) in
     let all : c.loop-i.i ≡ length first = omega (arith, inv.slots) in
-    subst (Becomes g.A.Item.Default.is_default g.A.Array.CAPACITY (tiny_view_of g.A.Slots c.args.self.now) (tiny_view_of g.A.Slots c.loop-i.self))
+    subst (Becomes g.A.Item.Default.is_default (tiny_view_of g.A.Slots c.args.self.now) (tiny_view_of g.A.Slots c.loop-i.self))
     (inv.items ∙ ap (λ l. tiny_items_of g.A.Slots c.args.self.now ++ l) (take_all c.loop-i.i first (omega (arith, all))))
-    (taken_stays _ _ _ _ c.loop-i.i (omega (arith, long, length-take-le c.loop-i.i first (omega (arith, all)))) (omega (arith, all, c.requires)) inv.spare inv.place inv.capacity)
+    (taken_stays _ _ _ c.loop-i.i (omega (arith, long, length-take-le c.loop-i.i first (omega (arith, all)))) (omega (arith, all, c.requires)) inv.spare inv.place inv.capacity)
 
 pub returns-clause-left : goal.returns-clause-left
 returns-clause-left g c =

@@ -10,4 +10,4 @@ returns-clause-other g c =
     let old = c.args.other.now in
     let left = c.append_slots.new.from in
     let frame = tiny_framed-with g.A.Slots old left (c.append_slots.ensures.left.0 ∙ ap length c.as_mut_slice.ensures.value) in
-    frame_becomes g.A.Item.Default.is_default g.A.Array.CAPACITY (tiny_view_of g.A.Slots old) (tiny_view_of g.A.Slots (tiny_with_items g.A.Slots old left)) (tiny_view_of g.A.Slots c.clear.new.self) [] frame c.clear.ensures
+    frame_becomes g.A.Item.Default.is_default (tiny_view_of g.A.Slots old) (tiny_view_of g.A.Slots (tiny_with_items g.A.Slots old left)) (tiny_view_of g.A.Slots c.clear.new.self) [] frame c.clear.ensures

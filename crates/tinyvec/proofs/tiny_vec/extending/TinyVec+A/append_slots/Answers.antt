@@ -10,4 +10,4 @@ append_to_heap-requires g c =
 pub returns-in-Heap-clause-becomes : goal.returns-in-Heap-clause-becomes
 returns-in-Heap-clause-becomes g c =
     let put = c.append_to_heap.ensures.becomes in
-    rw c.in-Heap.is (heap_becomes g.A.Item.Default.is_default g.A.Array.CAPACITY c.in-Heap.v c.append_to_heap.new.heap _ put.items put.capacity)
+    rw c.in-Heap.is (heap_becomes g.A.Item.Default.is_default c.in-Heap.v c.append_to_heap.new.heap _ put.items put.capacity)

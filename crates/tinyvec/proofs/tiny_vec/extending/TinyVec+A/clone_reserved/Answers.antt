@@ -23,8 +23,8 @@ push_clones_within-requires g c =
 
 pub returns-in-Inline : goal.returns-in-Inline
 returns-in-Inline g c =
-    rw c.in-Inline.is (inline_clones g.A.Item.Clone _ _ _ (view_of g.A.Slots c.in-Inline.v) (view_of g.A.Slots c.extend_from_within.new.self)
+    rw c.in-Inline.is (inline_clones g.A.Item.Clone _ _ (view_of g.A.Slots c.in-Inline.v) (view_of g.A.Slots c.extend_from_within.new.self)
     c.extend_from_within.ensures.clones c.extend_from_within.ensures.lender.slot_count)
 
 pub returns-in-Heap : goal.returns-in-Heap
-returns-in-Heap g c = rw c.in-Heap.is (heap_clones g.A.Item.Clone _ _ _ c.in-Heap.v c.push_clones_within.new.heap c.push_clones_within.ensures)
+returns-in-Heap g c = rw c.in-Heap.is (heap_clones g.A.Item.Clone _ _ c.in-Heap.v c.push_clones_within.new.heap c.push_clones_within.ensures)

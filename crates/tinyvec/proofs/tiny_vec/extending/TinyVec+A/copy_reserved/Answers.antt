@@ -11,6 +11,6 @@ returns-in-Inline g c =
     let put = c.extend_from_slice_copy.ensures in
     let D = g.A.Item.Default.is_default in
     let more = c.args.other.now in
-    rw c.in-Inline.is (inline_becomes D g.A.Array.CAPACITY (view_of g.A.Slots v) (view_of g.A.Slots new) _ put.items
+    rw c.in-Inline.is (inline_becomes D (view_of g.A.Slots v) (view_of g.A.Slots new) _ put.items
     (slots_used D (view_of g.A.Slots v) (view_of g.A.Slots new) (length more) (ap length put.items ∙ length-append (items_of g.A.Slots v) more) put.spare)
     put.lender.slot_count)

@@ -15,7 +15,6 @@ returns-clause-items g c =
     let r = c.extend_runs.result in
     let made = c.extend_runs.ensures in
     let ran = made.fills.ran in
-    let slots = g.A.Array.CAPACITY in
     let old = c.args.self.now in
     let new = c.extend_runs.new.self in record {
       ran = (it, ran.0, gives, ran.1, ran.2);

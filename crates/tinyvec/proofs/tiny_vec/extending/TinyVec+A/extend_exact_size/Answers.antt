@@ -15,7 +15,7 @@ returns-clause-ran g c =
       it,
       c.into_iter-items.ensures.into_iter_gives,
       (ran.0, ran.1, few, ran.2 ∙ ap (λ l. l ++ ran.0) c.reserve.ensures.items),
-      made_room _ g.A.Item.Default.is_default _ _ (tiny_view_of G c.args.self.now) (tiny_view_of G c.fill_room.new.self) (tiny_view_of G c.reserve.new.self) c.reserve.result tt
+      made_room _ g.A.Item.Default.is_default _ (tiny_view_of G c.args.self.now) (tiny_view_of G c.fill_room.new.self) (tiny_view_of G c.reserve.new.self) c.reserve.result tt
           c.if-is_err.ensures.value (λ i. ap (tiny_view_of G) (c.reserve.ensures.stays i)) made c.in-Ok.ensures.frame,
     )
 

@@ -15,8 +15,8 @@ returns-in-Inline g c =
     let room : len_of g.A.Slots v + length c.args.other.now ≤ length (slots_of g.A.Slots v) =
     omega (arith, c.if-other-capacity.true, c.capacity.ensures, c.len.ensures.value) in
     rw c.in-Inline.is
-    (let made = extended_in_room g.A.Item.Clone _ _ _ _ _
-    (inline_clones g.A.Item.Clone _ _ _ (view_of g.A.Slots v) (view_of g.A.Slots c.extend_from_slice.new.self) c.extend_from_slice.ensures.clones c.extend_from_slice.ensures.lender.slot_count) room in
+    (let made = extended_in_room g.A.Item.Clone _ _ _ _
+    (inline_clones g.A.Item.Clone _ _ (view_of g.A.Slots v) (view_of g.A.Slots c.extend_from_slice.new.self) c.extend_from_slice.ensures.clones c.extend_from_slice.ensures.lender.slot_count) room in
     record { inline_capacity = λ _. g.met.A.Array.counted _ c.capacity.ensures.slot_count; clones = made.clones; room = made.room; capacity = made.capacity; same_room = made.same_room; fits = made.fits; succeeds = made.succeeds; refused = made.refused })
 
 pub push_many_clones-requires : goal.push_many_clones-requires
@@ -27,8 +27,8 @@ returns-in-Heap g c =
     let v = c.in-Heap.v in
     let room : length v.items + length c.args.other.now ≤ vec_capacity v = omega (arith, v.ok.0, v.ok.1) in
     rw c.in-Heap.is
-    (let made = extended_in_room g.A.Item.Clone _ _ _ _ _
-    (heap_clones g.A.Item.Clone _ _ _ v c.push_many_clones.new.heap c.push_many_clones.ensures) room in
+    (let made = extended_in_room g.A.Item.Clone _ _ _ _
+    (heap_clones g.A.Item.Clone _ _ v c.push_many_clones.new.heap c.push_many_clones.ensures) room in
     record { inline_capacity = λ i. absurd (false≢true i); clones = made.clones; room = made.room; capacity = made.capacity; same_room = made.same_room; fits = made.fits; succeeds = made.succeeds; refused = made.refused })
 
 -- a list that had no room is as it was before it grows
@@ -41,7 +41,7 @@ before g c = elim c.in_default.branch as (λ _. (c.in_default.self ≡ c.args.se
 pub returns-in_err-grow-in_default : goal.returns-in_err-grow-in_default
 returns-in_err-grow-in_default g c =
     let known = before g (goal.at.returns-in_err-grow-in_default g c).In_default in
-    let made = extended_refused g.A.Item.Clone _ _ _ (tiny_view_of g.A.Slots c.args.self.now) _ _ _ refl c.from_residual.ensures.0
+    let made = extended_refused g.A.Item.Clone _ _ (tiny_view_of g.A.Slots c.args.self.now) _ _ _ refl c.from_residual.ensures.0
     (rw known.0 at c.in_err-grow-in_default.ensures.room) in
     record { inline_capacity = known.1; clones = made.clones; room = made.room; capacity = made.capacity; same_room = made.same_room; fits = made.fits; succeeds = made.succeeds; refused = made.refused }
 
@@ -53,6 +53,6 @@ pub returns-in_ok-grow-in_default : goal.returns-in_ok-grow-in_default
 returns-in_ok-grow-in_default g c =
     let known = before g (goal.at.returns-in_ok-grow-in_default g c).In_default in
     let grown = c.in_ok-grow-in_default.ensures in
-    let made = extended_grown g.A.Item.Clone _ _ _ (tiny_view_of g.A.Slots c.args.self.now) _ _ _ _ refl
+    let made = extended_grown g.A.Item.Clone _ _ (tiny_view_of g.A.Slots c.args.self.now) _ _ _ _ refl
     (rw known.0 at grown.items) (λ i. ap (tiny_view_of g.A.Slots) ((rw known.0 at grown.stays) i)) (rw known.0 at grown.room) c.extend_reserved.ensures in
     record { inline_capacity = known.1; clones = made.clones; room = made.room; capacity = made.capacity; same_room = made.same_room; fits = made.fits; succeeds = made.succeeds; refused = made.refused }

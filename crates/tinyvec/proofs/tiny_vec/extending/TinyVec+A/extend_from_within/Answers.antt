@@ -32,7 +32,7 @@ module _ (g : _) (c : After-resolve_range-part g) where
 
 pub returns-in_err-reserve : goal.returns-in_err-reserve
 returns-in_err-reserve g c =
-    let made = extended_refused g.A.Item.Clone _ _ _ _ _ _ _ (sym (many g (goal.at.returns-in_err-reserve g c).After-resolve_range-part)) c.from_residual.ensures.0
+    let made = extended_refused g.A.Item.Clone _ _ _ _ _ _ (sym (many g (goal.at.returns-in_err-reserve g c).After-resolve_range-part)) c.from_residual.ensures.0
     c.in_err-reserve.ensures.room in
     record { clones = made.clones; room = made.room; capacity = made.capacity; same_room = made.same_room; fits = made.fits; succeeds = made.succeeds; refused = made.refused; inline_capacity = c.len.ensures.inline_capacity }
 
@@ -56,5 +56,5 @@ returns g c =
     let same : slice_range (tiny_items_of g.A.Slots c.reserve.new.self) cut.start cut.end
     ≡ removed (tiny_items_of g.A.Slots c.args.self.now) (g.R.RangeBounds.start_bound c.args.range) (g.R.RangeBounds.end_bound c.args.range) =
     ap (λ l. slice_range l cut.start cut.end) grown.items ∙ part g at in
-    let made = extended_grown g.A.Item.Clone _ _ _ _ _ _ _ _ (sym (many g at)) grown.items (λ i. ap (tiny_view_of g.A.Slots) (grown.stays i)) grown.room (rw same at c.clone_reserved.ensures) in
+    let made = extended_grown g.A.Item.Clone _ _ _ _ _ _ _ (sym (many g at)) grown.items (λ i. ap (tiny_view_of g.A.Slots) (grown.stays i)) grown.room (rw same at c.clone_reserved.ensures) in
     record { clones = made.clones; room = made.room; capacity = made.capacity; same_room = made.same_room; fits = made.fits; succeeds = made.succeeds; refused = made.refused; inline_capacity = c.len.ensures.inline_capacity }

@@ -16,8 +16,8 @@ push_many_clones-requires g c =
 
 pub returns-in-Inline : goal.returns-in-Inline
 returns-in-Inline g c =
-    rw c.in-Inline.is (inline_clones g.A.Item.Clone _ _ _ (view_of g.A.Slots c.in-Inline.v) (view_of g.A.Slots c.extend_from_slice.new.self)
+    rw c.in-Inline.is (inline_clones g.A.Item.Clone _ _ (view_of g.A.Slots c.in-Inline.v) (view_of g.A.Slots c.extend_from_slice.new.self)
     c.extend_from_slice.ensures.clones c.extend_from_slice.ensures.lender.slot_count)
 
 pub returns-in-Heap : goal.returns-in-Heap
-returns-in-Heap g c = rw c.in-Heap.is (heap_clones g.A.Item.Clone _ _ _ c.in-Heap.v c.push_many_clones.new.heap c.push_many_clones.ensures)
+returns-in-Heap g c = rw c.in-Heap.is (heap_clones g.A.Item.Clone _ _ c.in-Heap.v c.push_many_clones.new.heap c.push_many_clones.ensures)

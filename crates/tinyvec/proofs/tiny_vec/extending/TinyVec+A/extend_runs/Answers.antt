@@ -16,7 +16,6 @@ use Rattle.tinyvec.proofs.tiny_vec.extending.TinyVec+A.extend_runs.Goals as goal
 pub loop-item-init : goal.loop-item-init
 loop-item-init g c =
     let D = g.A.Item.Default.is_default in
-    let slots = g.A.Array.CAPACITY in
     let v = tiny_view_of g.A.Slots c.args.self.now in
     let fits : view_len v ≤ view_capacity v = tiny_fits g.A.Slots c.args.self.now in
     let none : Yields g.I.Iterator.next_gives c.args.iter [] c.args.iter = search rules in record {
@@ -25,7 +24,7 @@ loop-item-init g c =
       ran = ([], none, sym (append-nil v.items));
       no_longer = omega arith;
       longer = omega arith;
-      grows = stays_grows D slots v v (stays_same D slots v fits) fits;
+      grows = stays_grows D v v (stays_same D v fits) fits;
       inline_capacity = inl refl;
     }
 
@@ -49,12 +48,12 @@ returns-in-Ok-clause-fills g c =
     runs_on g.I.Iterator c.args.iter at.items _ _ (tiny_items_of g.A.Slots c.args.self.now) (tiny_items_of g.A.Slots at.self) _ placed.0 placed.1 placed.2 at.invariant.no_longer c.in-Ok.ensures.fills
 
 -- what a run leaves of place and room
-filled : (g : _) (c : After-fill_room g) → Grows g.A.Item.Default.is_default g.A.Array.CAPACITY (tiny_view_of g.A.Slots c.args.self.now) (tiny_view_of g.A.Slots c.fill_room.new.self)
+filled : (g : _) (c : After-fill_room g) → Grows g.A.Item.Default.is_default (tiny_view_of g.A.Slots c.args.self.now) (tiny_view_of g.A.Slots c.fill_room.new.self)
 filled g c =
     let at = c.loop-item in
     let run = c.fill_room.ensures in
     let longer = no_fewer (tiny_items_of g.A.Slots at.self) (tiny_items_of g.A.Slots c.fill_room.new.self) run.fills in
-    grows_stays g.A.Item.Default.is_default g.A.Array.CAPACITY (tiny_view_of g.A.Slots c.args.self.now) (tiny_view_of g.A.Slots at.self) (tiny_view_of g.A.Slots c.fill_room.new.self) at.invariant.longer longer at.invariant.grows run.frame
+    grows_stays g.A.Item.Default.is_default (tiny_view_of g.A.Slots c.args.self.now) (tiny_view_of g.A.Slots at.self) (tiny_view_of g.A.Slots c.fill_room.new.self) at.invariant.longer longer at.invariant.grows run.frame
 
 pub returns-in-Ok-clause-grows : goal.returns-in-Ok-clause-grows
 returns-in-Ok-clause-grows g c = filled g (goal.at.returns-in-Ok-clause-grows g c).After-fill_room
@@ -87,7 +86,7 @@ loop-item-preserved g c =
       );
       no_longer = omega (arith, run.goes_on.2, one);
       longer = omega (arith, long, one);
-      grows = grows_pushed g.A.Item.Default.is_default g.A.Array.CAPACITY (tiny_view_of g.A.Slots c.args.self.now) (tiny_view_of g.A.Slots mid) (tiny_view_of g.A.Slots new) _ long one run.full
+      grows = grows_pushed g.A.Item.Default.is_default (tiny_view_of g.A.Slots c.args.self.now) (tiny_view_of g.A.Slots mid) (tiny_view_of g.A.Slots new) _ long one run.full
           (filled g (goal.at.loop-item-preserved g c).After-fill_room) made.room;
       inline_capacity = inr (known g (goal.at.loop-item-preserved g c).After-fill_room);
     }
@@ -100,6 +99,6 @@ returns-in-Err-push-clause-fills g c =
 
 pub returns-in-Err-push-clause-grows : goal.returns-in-Err-push-clause-grows
 returns-in-Err-push-clause-grows g c =
-    subst (Grows g.A.Item.Default.is_default g.A.Array.CAPACITY (tiny_view_of g.A.Slots c.args.self.now))
+    subst (Grows g.A.Item.Default.is_default (tiny_view_of g.A.Slots c.args.self.now))
     (sym (view_unchanged (tiny_view_of g.A.Slots c.fill_room.new.self) (tiny_view_of g.A.Slots c.push.new.self) c.in-Err-push.ensures.room.refused))
     (filled g (goal.at.returns-in-Err-push-clause-grows g c).After-fill_room)

@@ -25,7 +25,7 @@ returns-in-Inline-clause-clones g c =
     let whole : take n (items_of G v) ≡ items_of G v = take_all n (items_of G v) (omega (arith, len)) in
     let more : n - len_of G v ≡ c.args.n = omega (arith, len) in
     let refused = rw more at put.refused in
-    rw c.in-Inline.is (inline_clones g.A.Item.Clone g.A.Array.CAPACITY (replicate c.args.n x) r (view_of G v) (view_of G new)
+    rw c.in-Inline.is (inline_clones g.A.Item.Clone (replicate c.args.n x) r (view_of G v) (view_of G new)
     (record {
       items = rw (whole, more) at put.items;
       len = on_ok_weaker r (λ h. omega (arith, h, len, length-replicate c.args.n x)) put.len;
@@ -45,9 +45,9 @@ returns-in-Inline-clause-clones g c =
 pub returns-in-Ok-clause-clones : goal.returns-in-Ok-clause-clones
 returns-in-Ok-clause-clones g c =
     let made = c.in-Ok.ensures in
-    rw c.in-Heap.is (heap_clones g.A.Item.Clone _ _ _ c.in-Heap.v c.push_clones_of.new.heap (record { items = made.items; kept = tt; refused = tt; capacity = made.capacity }))
+    rw c.in-Heap.is (heap_clones g.A.Item.Clone _ _ c.in-Heap.v c.push_clones_of.new.heap (record { items = made.items; kept = tt; refused = tt; capacity = made.capacity }))
 
 pub returns-in-Err-clause-clones : goal.returns-in-Err-clause-clones
 returns-in-Err-clause-clones g c =
     let made = c.in-Err.ensures in
-    rw c.in-Heap.is (heap_clones g.A.Item.Clone _ _ _ c.in-Heap.v c.push_clones_of.new.heap (record { items = tt; kept = made.kept; refused = made.refused; capacity = made.capacity }))
+    rw c.in-Heap.is (heap_clones g.A.Item.Clone _ _ c.in-Heap.v c.push_clones_of.new.heap (record { items = tt; kept = made.kept; refused = made.refused; capacity = made.capacity }))

@@ -13,9 +13,9 @@ returns-in-Inline-clause-frame g c =
     let new = c.fill_array.new.vec in
     let filled = c.fill_array.ensures in
     let more = no_fewer (items_of G v) (items_of G new) filled.fills in
-    rw c.in-Inline.is (inline_becomes D g.A.Array.CAPACITY (view_of G v) (view_of G new) _ refl
+    rw c.in-Inline.is (inline_becomes D (view_of G v) (view_of G new) _ refl
     (slots_used D (view_of G v) (view_of G new) (len_of G new - len_of G v) (omega (arith, more)) filled.grows.spare) filled.grows.lender.slot_count)
 
 pub returns-in-Heap-clause-frame : goal.returns-in-Heap-clause-frame
 returns-in-Heap-clause-frame g c =
-    rw c.in-Heap.is (heap_becomes g.A.Item.Default.is_default g.A.Array.CAPACITY c.in-Heap.v c.fill_heap.new.heap _ refl c.fill_heap.ensures.capacity)
+    rw c.in-Heap.is (heap_becomes g.A.Item.Default.is_default c.in-Heap.v c.fill_heap.new.heap _ refl c.fill_heap.ensures.capacity)

@@ -12,4 +12,4 @@ push_answers_on_heap-requires-clause-room g c = rw c.in-Heap.is at c.requires.ro
 
 pub returns-in-Heap-clause-frame : goal.returns-in-Heap-clause-frame
 returns-in-Heap-clause-frame g c =
-    rw c.in-Heap.is (heap_becomes g.A.Item.Default.is_default g.A.Array.CAPACITY c.in-Heap.v c.push_answers_on_heap.new.heap _ refl c.push_answers_on_heap.ensures.capacity)
+    rw c.in-Heap.is (heap_becomes g.A.Item.Default.is_default c.in-Heap.v c.push_answers_on_heap.new.heap _ refl c.push_answers_on_heap.ensures.capacity)

@@ -21,7 +21,7 @@ loop-self-preserved g c =
     let used : tiny_len_of g.A.Slots at.self - first + 1 ≡ tiny_len_of g.A.Slots c.push_reserved.new.self - first = omega (arith, grown, at.invariant.longer) in record {
       at_most_n = omega (arith, grown);
       longer = omega (arith, grown, at.invariant.longer);
-      spare = spare_used g.A.Slots g.A.Item.Default.is_default g.A.Array.CAPACITY at.self c.push_reserved.new.self _ 1 (length_push (tiny_items_of g.A.Slots at.self) y) put ∙ ap (drop 1) at.invariant.spare ∙ drop-drop 1 (tiny_len_of g.A.Slots at.self - first) (tiny_spare_of g.A.Slots c.args.self.now)
+      spare = spare_used g.A.Slots g.A.Item.Default.is_default at.self c.push_reserved.new.self _ 1 (length_push (tiny_items_of g.A.Slots at.self) y) put ∙ ap (drop 1) at.invariant.spare ∙ drop-drop 1 (tiny_len_of g.A.Slots at.self - first) (tiny_spare_of g.A.Slots c.args.self.now)
           ∙ ap (λ k. drop k (tiny_spare_of g.A.Slots c.args.self.now)) used;
       called = (
         run.0 ++ y ∷ [],
@@ -36,7 +36,7 @@ loop-self-preserved g c =
 pub returns-clause-frame : goal.returns-clause-frame
 returns-clause-frame g c =
     let inv = c.loop-self.invariant in
-    taken_stays _ _ _ _ (tiny_len_of g.A.Slots c.loop-self.self - tiny_len_of g.A.Slots c.args.self.now) (omega (arith, inv.longer)) (omega (arith, inv.longer, inv.at_most_n, c.requires.room)) inv.spare
+    taken_stays _ _ _ (tiny_len_of g.A.Slots c.loop-self.self - tiny_len_of g.A.Slots c.args.self.now) (omega (arith, inv.longer)) (omega (arith, inv.longer, inv.at_most_n, c.requires.room)) inv.spare
     inv.place inv.capacity
 
 pub returns-clause-items : goal.returns-clause-items

@@ -16,7 +16,6 @@ use Rattle.tinyvec.proofs.tiny_vec.extending.TinyVec+A.resize.Goals as goal
 pub returns : goal.returns
 returns g c =
     let C = g.A.Item.Clone.is_clone in
-    let slots = g.A.Array.CAPACITY in
     let old = c.args.self.now in
     let olds = tiny_items_of g.A.Slots old in
     let mid = c.reserve.new.self in
@@ -29,10 +28,10 @@ returns g c =
     let len = c.len-len.ensures.value in
     let longer = c.if-new_len-len.false in
     let missing : c.args.new_len - c.len-len.result ≡ n = omega (arith, len) in
-    let put = subst (λ k. ClonesInRoom g.A.Item.Clone slots (replicate k x) (tiny_view_of g.A.Slots mid) (tiny_view_of g.A.Slots new) r) missing c.fill_reserved.ensures.clones in
-    let made = extended_grown g.A.Item.Clone slots xs r (tiny_view_of g.A.Slots old) (tiny_view_of g.A.Slots new) (c.args.new_len - c.len-len.result) (tiny_view_of g.A.Slots mid) _ (omega (arith, missing, length-replicate n x)) c.in-Ok.ensures.items (λ i. ap (tiny_view_of g.A.Slots) (c.in-Ok.ensures.stays i)) c.in-Ok.ensures.room put in
+    let put = subst (λ k. ClonesInRoom g.A.Item.Clone (replicate k x) (tiny_view_of g.A.Slots mid) (tiny_view_of g.A.Slots new) r) missing c.fill_reserved.ensures.clones in
+    let made = extended_grown g.A.Item.Clone xs r (tiny_view_of g.A.Slots old) (tiny_view_of g.A.Slots new) (c.args.new_len - c.len-len.result) (tiny_view_of g.A.Slots mid) _ (omega (arith, missing, length-replicate n x)) c.in-Ok.ensures.items (λ i. ap (tiny_view_of g.A.Slots) (c.in-Ok.ensures.stays i)) c.in-Ok.ensures.room put in
     let need : tiny_len_of g.A.Slots old + length xs ≡ c.args.new_len = omega (arith, len, longer, length-replicate n x) in
-    let room = subst (λ k. OnOk r (MakesRoom (is_inline old) slots k (tiny_view_of g.A.Slots old) (tiny_view_of g.A.Slots new) r)) need made.room in
+    let room = subst (λ k. OnOk r (MakesRoom (is_inline old) k (tiny_view_of g.A.Slots old) (tiny_view_of g.A.Slots new) r)) need made.room in
     let most : c.args.new_len ≡ max c.args.new_len (tiny_len_of g.A.Slots old) = omega (arith, len, longer) in
     let front : olds ≡ take c.args.new_len olds = sym (take_all c.args.new_len olds (omega (arith, len, longer))) in
     let items = subst (λ l. OnOk r (AppendsClones C l news xs)) front made.clones.items in record {
@@ -44,11 +43,11 @@ returns g c =
       capacity = made.capacity;
       same_room = rw need at made.same_room;
       fits = made.fits;
-      place = on_ok_once _ r (on_ok_weaker r (λ h. subst (λ k. OnOk r (PlaceRule slots k (tiny_view_of g.A.Slots old) (tiny_view_of g.A.Slots new))) most h.place) room);
+      place = on_ok_once _ r (on_ok_weaker r (λ h. subst (λ k. OnOk r (PlaceRule k (tiny_view_of g.A.Slots old) (tiny_view_of g.A.Slots new))) most h.place) room);
       cuts = λ less. absurd (omega (arith, less, len, longer));
       succeeds = λ _ sure. put.succeeds (All-replicate g.A.Item.Clone.is_infallible n x sure);
       value_returned = c.fill_reserved.ensures.value_returned;
       kept = made.clones.kept;
       inline_capacity = c.len-len.ensures.inline_capacity;
-      refused = on_err_weaker r (copies_refused g.A.Item.Clone slots n (max c.args.new_len (tiny_len_of g.A.Slots old)) x (tiny_view_of g.A.Slots old) (tiny_view_of g.A.Slots new) (omega (arith, len, longer))) made.refused;
+      refused = on_err_weaker r (copies_refused g.A.Item.Clone n (max c.args.new_len (tiny_len_of g.A.Slots old)) x (tiny_view_of g.A.Slots old) (tiny_view_of g.A.Slots new) (omega (arith, len, longer))) made.refused;
     }

@@ -15,7 +15,7 @@ returns-then-n-len-clause-items g c =
 pub returns-then-n-len-clause-room : goal.returns-then-n-len-clause-room
 returns-then-n-len-clause-room g c =
     let many : tiny_len_of g.A.Slots c.args.self.now + (c.args.n - c.len-len.result) ≡ c.args.n = omega (arith, c.len-len.ensures.value) in
-    made_room _ g.A.Item.Default.is_default _ _ (tiny_view_of g.A.Slots c.args.self.now) (tiny_view_of g.A.Slots c.push_answers.new.self) (tiny_view_of g.A.Slots c.reserve.new.self) _ _ refl
+    made_room _ g.A.Item.Default.is_default _ (tiny_view_of g.A.Slots c.args.self.now) (tiny_view_of g.A.Slots c.push_answers.new.self) (tiny_view_of g.A.Slots c.reserve.new.self) _ _ refl
     (λ i. ap (tiny_view_of g.A.Slots) (c.in_ok-reserve.ensures.stays i)) (rw many at c.in_ok-reserve.ensures.room) c.push_answers.ensures.frame
 
 pub returns-in_err-reserve : goal.returns-in_err-reserve

@@ -8,6 +8,6 @@ invariant-loop-c g l = record {
   can : (goal.iterator-loop-c g).can_next l.rest;
   ends : (goal.iterator-loop-c g).is_finite l.rest;
   bytes : l.self.bytes ≡ l.initial.self.bytes ++ flat_map encode_utf8 l.yielded;
-  place : l.self.place ≡ place_after_chars g.row.N l.initial.self l.yielded;
+  place : l.self.place ≡ place_after_chars l.initial.self l.yielded;
   grows : TextExtends g.row.N l.initial.self l.self;
 }

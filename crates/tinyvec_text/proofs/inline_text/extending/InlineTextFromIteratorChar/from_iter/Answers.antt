@@ -9,7 +9,7 @@ pub returns-clause-ran : goal.returns-clause-ran
 returns-clause-ran g c =
     let ran = c.in_ok-extend.ensures.ran in
     let d = ran.4 in
-    (ran.0, ran.1, ran.2, (d.1.0, d.1.1, λ _. (d.0, d.1.2)), (ran.3.0 ∙ ap (λ bs. bs ++ encode_utf8_all ran.1) c.new-text.ensures.bytes, ran.3.1 ∙ of_empty (λ n p. place_after (λ place c. lies_inline place && nat_le 128 c) encode_utf8 g.row.N n p ran.1) c.new-text.result g.row.N c.new-text.ensures.bytes c.new-text.ensures.place c.new-text.ensures.capacity, collected g.row.N c.new-text.result c.extend.new.self c.new-text.ensures.place c.new-text.ensures.capacity c.in_ok-extend.ensures.grows))
+    (ran.0, ran.1, ran.2, (d.1.0, d.1.1, λ _. (d.0, d.1.2)), (ran.3.0 ∙ ap (λ bs. bs ++ encode_utf8_all ran.1) c.new-text.ensures.bytes, ran.3.1 ∙ of_empty (λ n p. place_after (λ place c. lies_inline place && nat_le 128 c) encode_utf8 n p ran.1) c.new-text.result g.row.N c.new-text.ensures.bytes c.new-text.ensures.place c.new-text.ensures.capacity, collected g.row.N c.new-text.result c.extend.new.self c.new-text.ensures.place c.new-text.ensures.capacity c.in_ok-extend.ensures.grows))
 
 pub returns-clause-collects : goal.returns-clause-collects
 returns-clause-collects g c =
