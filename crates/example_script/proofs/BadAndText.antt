@@ -45,7 +45,7 @@ says (cut index) is = differ 2 _ _ is.spelled refl
 
 added : (new : Text) (answer : Answer ℤ) → TextStep start.x (add (codes "hi")) answer new
     → (answer ≡ answers.Done) × (new.bytes ≡ codes "hi") × (lies_inline new.place ≡ true)
-added new answers.Done step = (refl, step.bytes_are, step.room.place.1 (refl, omega arith))
+added new answers.Done step = (refl, step.bytes_are, step.room.gets.place.1 (refl, omega arith))
 added new answers.Memory step = absurd (let small = step.0 in omega arith)
 added new answer step = absurd step
 

@@ -12,13 +12,13 @@ use Rattle.tinyvec_slots.specs.Slots.{Slots, items}
 use Rattle.tinyvec_slots.specs.Clones.{ClonesOver, AddsClones, AppendsAllOrNone}
 use Rattle.tinyvec_slots.proofs.CloneLemmas.{on_err}
 use Rattle.tinyvec.specs.View.{TinyView, view_len, view_inline, ViewInline, view_capacity}
-use Rattle.tinyvec.specs.Room.{KeepsRoom, MakesRoom}
-use Rattle.tinyvec.specs.Refused.{RoomGranted, RefusedFor, ClonesBehind, ClonesInRoom, ClonesRefused}
+use Rattle.tinyvec.specs.Room.{KeepsRoom, GetsRoom, MakesRoom}
+use Rattle.tinyvec.specs.Refused.{RefusedFor, ClonesBehind, ClonesInRoom, ClonesRefused}
 use Rattle.tinyvec.specs.OnHeap.{PushesClones}
 use Rattle.tinyvec.proofs.TinyLemmas.{array_view, heap_view, used_up, on_ok_two, never_ok}
-use Rattle.tinyvec.proofs.FrameLemmas.{granted_no_less, room_granted}
+use Rattle.tinyvec.proofs.FrameLemmas.{keeps_granted, gets_granted}
 use Rattle.tinyvec.proofs.CloneLemmas.{appends_len, chosen, none_refused}
-use Rattle.tinyvec.proofs.RefusedLemmas.{granted_before, granted_then, spare_kept}
+use Rattle.tinyvec.proofs.RefusedLemmas.{RoomGranted, granted_before, granted_then, spare_kept}
 
 all_or_none : {T X E : Type 0} (C : T → T → Type 0) (xs : List T) (r : Result X E) (old new : List T) → OnOk r (AppendsClones C old new xs) → OnErr r (new ≡ old)
     → AppendsAllOrNone C xs r old new
@@ -33,10 +33,8 @@ module _ {T X E : Type 0} (g : Clone.Ghosts T) (xs : List T) (r : Result X E) wh
   -- what `extend_from_slice` and `extend_from_within` ensure
   pub record Extended (old new : TinyView T) : Type 0 where
     pub clones : AppendsAllOrNone g.is_clone xs r old.items new.items
-    pub room : OnOk r (MakesRoom (view_inline old) (view_len old + length xs) old new r)
-    pub capacity : view_capacity old ≤ view_capacity new
-    pub same_room : KeepsRoom (view_len old + length xs) old new
-    pub fits : view_len new ≤ view_capacity new
+    pub room : OnOk r (GetsRoom (view_inline old) (view_len old + length xs) old new)
+    pub keeps : KeepsRoom (view_len old + length xs) old new
     pub succeeds : view_len old + length xs ≤ view_capacity old → All g.is_infallible xs → IsOk r
     pub refused : OnErr r (ClonesRefused g xs old new)
 
@@ -74,13 +72,11 @@ module _ {T X E : Type 0} (g : Clone.Ghosts T) (xs : List T) (r : Result X E) wh
         let kept = spare_kept old mid new stays made.place in record {
           clones = all_or_none g.is_clone xs r old.items new.items
               (on_ok_weaker r (subst (λ l. AppendsClones g.is_clone l new.items xs) items) made.items) (on_err_weaker r (λ h. h ∙ items) made.kept);
-          room = room_granted _ _ old new r granted made.fits (on_ok_two r made.items made.spare (λ h spare.
+          room = on_ok_two r made.items made.spare (λ h spare. gets_granted _ _ old new granted (
               used_up old new (length xs) (appends_len g.is_clone mid.items new.items xs h ∙ ap (λ l. length l + length xs) items) (λ i. spare ∙ ap (drop (length xs)) (kept i))));
-          capacity = granted_no_less (view_inline old) (view_len old + length xs) old new granted;
-          same_room = granted.1;
-          fits = made.fits;
+          keeps = keeps_granted (view_inline old) (view_len old + length xs) old new granted made.fits;
           succeeds = λ _. made.succeeds;
-          refused = on_err_weaker r (λ h. inr (granted, (h.0, h.1, λ i. rw (kept i) at h.2 i))) made.refused;
+          refused = on_err_weaker r (λ h. inr (granted.0, granted.2, (h.0, h.1, λ i. rw (kept i) at h.2 i))) made.refused;
         }
 
     -- there was room
@@ -100,9 +96,7 @@ module _ {T X E : Type 0} (g : Clone.Ghosts T) (xs : List T) (r : Result X E) wh
   extended_refused old new n e many err grown = record {
     clones = all_or_none g.is_clone xs r old.items new.items (never_ok _ r err) (on_err r grown.refused.items);
     room = never_ok _ r err;
-    capacity = grown.capacity;
-    same_room = λ fits. grown.same_room (omega (arith, fits, many));
-    fits = grown.fits;
+    keeps = record { capacity = grown.keeps.capacity; same_room = λ fits. grown.keeps.same_room (omega (arith, fits, many)); fits = grown.keeps.fits };
     succeeds = λ fits _. absurd (false≢true (grown.succeeds (omega (arith, fits, many))));
     refused = on_err r (inl (omega (arith, grown.full, many), grown.refused));
   }
@@ -116,8 +110,8 @@ copies_refused g n need x old new is h =
     elim h [
       | inl none ↦ inl (omega (arith, all, none.0), none.1)
       | inr some ↦
-          let at = some.1 in
+          let at = some.2 in
           let lt : at.0 < n = omega (arith, at.1.0, length-replicate n x) in
           let refused : ¬ (g.is_infallible x) = λ sure. at.1.1 x (subst g.is_infallible (sym (get_or-replicate n at.0 x x lt)) sure) in
-          inr (rw all at some.0, (at.0, lt, refused, λ i. subst (λ l. ClonesOver g.is_clone l at.0 old.spare new.spare) (take-replicate at.0 n x (omega (arith, lt))) (at.2 i)))
+          inr (rw all at some.0, rw all at some.1, (at.0, lt, refused, λ i. subst (λ l. ClonesOver g.is_clone l at.0 old.spare new.spare) (take-replicate at.0 n x (omega (arith, lt))) (at.2 i)))
     ]

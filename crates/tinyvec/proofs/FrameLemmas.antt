@@ -17,10 +17,9 @@ use Rattle.tinyvec_array.specs.declared.slots.Slots as Storage
 use Rattle.tinyvec.specs.TinyVec.{tiny_view_of, tiny_items_of, tiny_len_of, tiny_spare_of, tiny_capacity_of, is_inline, IsInline}
 use Rattle.tinyvec.specs.declared.tiny_vec.TinyVec.{TinyVec}
 use Rattle.tinyvec.specs.declared.tiny_vec.TinyVec.TheVariants.{Inline, Heap}
-use Rattle.tinyvec.specs.Room.{Grows, MakesRoom}
-use Rattle.tinyvec.specs.Refused.{RoomGranted}
+use Rattle.tinyvec.specs.Room.{KeepsRoom, GetsRoom, Grows, MakesRoom}
 use Rattle.tinyvec.proofs.TinyLemmas.{array_view, heap_view, slots_taken, taken, used_up, used_rule, UsesSpare, slots_after_room, tiny_slots_then}
-use Rattle.tinyvec.proofs.RefusedLemmas.{granted_then, granted_before}
+use Rattle.tinyvec.proofs.RefusedLemmas.{RoomGranted, granted_then, granted_before}
 use Rattle.tinyvec_array.proofs.ViewLemmas.{parts_of}
 
 -- by the place rule, a list that had room stays where it is
@@ -88,15 +87,12 @@ module _ {T : Type 0} (D : T → Type 0) where
       let same = k.capacity in
       let before : ViewInline w → ViewInline v = λ i. sym k.place ∙ i in record {
         place = (
-          λ i. let both = h.place.0 (before i) in (both.0, omega (arith, k.fits, same, h.same_room both.1)),
+          λ i. let both = h.place.0 (before i) in (both.0, omega (arith, k.fits, same, h.keeps.same_room both.1)),
           λ both. k.place ∙ h.place.1 (both.0, omega (arith, both.1)),
         );
         slot_rule = tiny_slots_then D u v w before le more h.slot_rule k.slot_rule;
-        capacity = let c = h.capacity in omega arith;
-        same_room = λ fits. same ∙ h.same_room (omega arith);
-        grown = λ higher. let less = h.grown (omega (arith, same, higher)) in omega (arith, same, less, more);
-        doubled = rw same h.doubled;
-        fits = k.fits;
+        keeps = record { capacity = let c = h.keeps.capacity in omega arith; same_room = λ fits. same ∙ h.keeps.same_room (omega arith); fits = k.fits };
+        grown = λ higher. let less = h.grown (omega (arith, same, higher)) in (omega (arith, same, less.0, more), rw same less.1);
       }
 
   -- a list that grew and was full, and then took one more item
@@ -104,20 +100,25 @@ module _ {T : Type 0} (D : T → Type 0) where
       → Grows D u v → MakesRoom {E = E} false (view_len v + 1) v w (Ok x) → Grows D u w
   grows_pushed u v w x le one full h room = record {
     place = (
-      λ i. absurd (omega (arith, (room.place.0 i).1, full)),
-      λ both. absurd (omega (arith, both.1, one, full, h.same_room (omega (arith, both.1, one)))),
+      λ i. absurd (omega (arith, (room.gets.place.0 i).1, full)),
+      λ both. absurd (omega (arith, both.1, one, full, h.keeps.same_room (omega (arith, both.1, one)))),
     );
-    slot_rule = tiny_slots_then D u v w (λ i. (room.place.0 i).0) le (omega arith) h.slot_rule (used_rule D v w (omega arith) room.spare);
-    capacity = let first = h.capacity in let last = room.capacity in omega arith;
-    same_room = λ fits. let same = h.same_room (omega arith) in room.same_room (omega arith) ∙ same;
-    grown = λ _. let doubled : view_capacity w ≡ max (2 * view_capacity v) (view_len v + 1) = room.grown (omega arith) in omega (arith, doubled, full, one);
-    doubled = λ _. doubled_again (view_capacity u) (view_capacity v) (view_capacity w) (cases_lt _ _) h.capacity (room.grown (omega arith) ∙ ap (λ n. max (2 * view_capacity v) (n + 1)) full) h.doubled;
-    fits = room.fits;
+    slot_rule = tiny_slots_then D u v w (λ i. (room.gets.place.0 i).0) le (omega arith) h.slot_rule (used_rule D v w (omega arith) room.gets.spare);
+    keeps = record {
+      capacity = let first = h.keeps.capacity in let last = room.keeps.capacity in omega arith;
+      same_room = λ fits. let same = h.keeps.same_room (omega arith) in room.keeps.same_room (omega arith) ∙ same;
+      fits = room.keeps.fits;
+    };
+    grown = λ _.
+        let doubled : view_capacity w ≡ max (2 * view_capacity v) (view_len v + 1) = room.gets.grown (omega arith) in (
+          omega (arith, doubled, full, one),
+          doubled_again (view_capacity u) (view_capacity v) (view_capacity w) (cases_lt _ _) h.keeps.capacity (doubled ∙ ap (λ n. max (2 * view_capacity v) (n + 1)) full) (λ more. (h.grown more).1),
+        );
   }
 
   -- a list that grew, and fits the room that it had
   pub grows_in_room : (v w : TinyView T) → view_len w ≤ view_capacity v → Grows D v w → StaysInPlace D v w
-  grows_in_room v w le h = record { items = refl; place = same_side (view_inline v) (view_inline w) (view_len w ≤ view_capacity v) le h.place; slot_rule = h.slot_rule; capacity = h.same_room le; fits = h.fits }
+  grows_in_room v w le h = record { items = refl; place = same_side (view_inline v) (view_inline w) (view_len w ≤ view_capacity v) le h.place; slot_rule = h.slot_rule; capacity = h.keeps.same_room le; fits = h.keeps.fits }
 
 module _ {T : Type 0} (exact : Bool) (need : ℕ) (old new : TinyView T) where
   -- a call that was granted room leaves no smaller capacity
@@ -125,31 +126,24 @@ module _ {T : Type 0} (exact : Bool) (need : ℕ) (old new : TinyView T) where
   granted_no_less granted = no_less exact need (view_capacity old) (view_capacity new) (cases_lt (view_capacity old) need) granted.1 granted.2
 
   -- a call that was granted room, and leaves a list that fits it
-  pub room_granted : {X E : Type 0} (r : Result X E) → RoomGranted exact need old new → view_len new ≤ view_capacity new → OnOk r (UsesSpare old new)
-      → OnOk r (MakesRoom exact need old new r)
-  room_granted (Ok y) granted fits spare = record {
-    place = granted.0;
-    spare = spare;
-    capacity = granted_no_less granted;
-    same_room = granted.1;
-    grown = granted.2;
-    fits = fits;
-    succeeds = λ _. refl;
-    full = tt;
-    refused = tt;
-  }
-  room_granted (Err e) granted fits spare = tt
+  pub keeps_granted : RoomGranted exact need old new → view_len new ≤ view_capacity new → KeepsRoom need old new
+  keeps_granted granted fits = record { capacity = granted_no_less granted; same_room = granted.1; fits = fits }
+
+  -- and succeeded
+  pub gets_granted : RoomGranted exact need old new → UsesSpare old new → GetsRoom exact need old new
+  gets_granted granted spare = record { place = granted.0; spare = spare; grown = granted.2 }
+
+  pub room_granted : {X E : Type 0} (y : X) → RoomGranted exact need old new → view_len new ≤ view_capacity new → UsesSpare old new
+      → MakesRoom {E = E} exact need old new (Ok y)
+  room_granted y granted fits spare =
+      record { keeps = keeps_granted granted fits; gets = gets_granted granted spare; succeeds = λ _. refl; full = tt; refused = tt }
 
   -- room was refused
   pub room_not_made : {X E : Type 0} (r : Result X E) → IsErr r → view_capacity old < need → Unchanged old new → view_len new ≤ view_capacity new
       → MakesRoom exact need old new r
   room_not_made (Err e) err less h fits = record {
-    place = tt;
-    spare = used_up old new 0 (omega (arith, ap length h.items)) (λ _. h.spare);
-    capacity = omega (arith, h.capacity);
-    same_room = λ _. h.capacity;
-    grown = tt;
-    fits = fits;
+    keeps = record { capacity = omega (arith, h.capacity); same_room = λ _. h.capacity; fits = fits };
+    gets = tt;
     succeeds = λ room. absurd (omega (arith, room, less));
     full = less;
     refused = h;
@@ -160,21 +154,21 @@ module _ {T : Type 0} (exact : Bool) (need : ℕ) (old new : TinyView T) where
   pub room_then_framed : {X Y E F : Type 0} (mid : TinyView T) (x : X) (y : Y) → MakesRoom {E = F} exact need old mid (Ok x) → SameFrame mid new
       → MakesRoom {E = E} exact need old new (Ok y)
   room_then_framed mid x y made frame =
-      room_granted (Ok y) (granted_then exact need old new mid x frame.place frame.capacity made)
-      (omega (arith, made.fits, frame.len, frame.capacity))
-      (λ i j le. rw (frame.len, frame.spare) (made.spare i (sym frame.place ∙ j) (omega (arith, le, frame.len))))
+      room_granted y (granted_then exact need old new mid x frame.place frame.capacity made)
+      (omega (arith, made.keeps.fits, frame.len, frame.capacity))
+      (λ i j le. rw (frame.len, frame.spare) (made.gets.spare i (sym frame.place ∙ j) (omega (arith, le, frame.len))))
 
 -- what failed for one call failed for the call around it
 pub not_taken : {T X Y E F : Type 0} (exact : Bool) (need : ℕ) (old new : TinyView T) (r : Result X F) (e : E) → true ≡ is_err r
     → MakesRoom exact need old new r → MakesRoom {X = Y} exact need old new (Err e)
 not_taken exact need old new (Ok x) e err room = absurd (false≢true (sym err))
-not_taken exact need old new (Err f) e err room = room_not_made exact need old new (Err e) refl room.full room.refused room.fits
+not_taken exact need old new (Err f) e err room = room_not_made exact need old new (Err e) refl room.full room.refused room.keeps.fits
 
 -- a list that found no room for one more item was full
 pub was_full : {A T L X F : Type 0} (g : Storage.Ghosts A T L) (old new : TinyVec A T L) (r : Result X F) → true ≡ is_err r → tiny_items_of g new ≡ tiny_items_of g old
     → MakesRoom false (tiny_len_of g old + 1) (tiny_view_of g old) (tiny_view_of g new) r → tiny_len_of g old ≡ tiny_capacity_of g old
 was_full g old new (Ok x) err items room = absurd (false≢true (sym err))
-was_full g old new (Err f) err items room = omega (arith, room.full, room.fits, room.refused.capacity, ap length items)
+was_full g old new (Err f) err items room = omega (arith, room.full, room.keeps.fits, room.refused.capacity, ap length items)
 
 -- the spare slots that a list used up in its place, by as many items as it got longer
 pub spare_used : {A T L : Type 0} (g : Storage.Ghosts A T L) (D : T → Type 0) (v w : TinyVec A T L) (xs : List T) (k : ℕ) → length xs ≡ tiny_len_of g v + k
@@ -194,13 +188,13 @@ heap_becomes D v w xs is same = record { items = is; place = refl; slot_rule = �
 module _ {T : Type 0} (exact : Bool) (D : T → Type 0) (need : ℕ) (old new : TinyView T) where
   pub had_room : {X E : Type 0} {xs : List T} (y : X) → need ≤ view_capacity old → Becomes D old new xs → MakesRoom {E = E} exact need old new (Ok y)
   had_room y room put =
-      room_granted exact need old new (Ok y) (granted_before exact need old new put.place put.capacity room) put.fits (λ i j le. taken D old new le put.slot_rule i j)
+      room_granted exact need old new y (granted_before exact need old new put.place put.capacity room) put.fits (λ i j le. taken D old new le put.slot_rule i j)
 
   pub made_room : {X Y E F : Type 0} {xs : List T} (mid : TinyView T) (r : Result X F) (y : Y) → false ≡ is_err r → (ViewInline mid → mid ≡ old) → MakesRoom exact need old mid r
       → Becomes D mid new xs → MakesRoom {E = E} exact need old new (Ok y)
   made_room mid (Err e) y ok stays made put = absurd (false≢true ok)
   made_room mid (Ok x) y ok stays made put =
-      room_granted exact need old new (Ok y) (granted_then exact need old new mid x put.place put.capacity made) put.fits
+      room_granted exact need old new y (granted_then exact need old new mid x put.place put.capacity made) put.fits
       (λ i j le. taken D old new le (slots_after_room D old mid new stays put.place put.slot_rule) i j)
 
 -- a call that took one more item left the list xs, in room that was there or was made

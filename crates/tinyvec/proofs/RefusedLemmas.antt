@@ -7,9 +7,8 @@ use Rattle.tinyvec_slots.specs.Slots.{AreDefaults}
 use Rattle.std.specs.List.{AllZip}
 use Rattle.tinyvec_slots.specs.Clones.{RefusedAt, ClonesOver, ClonesInPart}
 use Rattle.std.proofs.lemmas.Slice.{between_is}
-use Rattle.tinyvec.specs.View.{TinyView, view_len, view_inline, ViewInline, view_capacity, TinySlotRule, SameFrame}
-use Rattle.tinyvec.specs.Room.{MakesRoom}
-use Rattle.tinyvec.specs.Refused.{RoomGranted}
+use Rattle.tinyvec.specs.View.{TinyView, view_len, view_inline, ViewInline, view_capacity, PlaceRule, TinySlotRule, SameFrame}
+use Rattle.tinyvec.specs.Room.{GrowsTo, MakesRoom}
 pub use Rattle.tinyvec.specs.FrameLaws.{place_kept}
 
 module _ {T : Type 0} (I : T → Type 0) (xs : List T) where
@@ -89,12 +88,17 @@ pub spare_kept : {T : Type 0} (old mid new : TinyView T) → (ViewInline mid →
     → ViewInline new → mid.spare ≡ old.spare
 spare_kept old mid new stays place i = ap (λ v. v.spare) (stays (subst IsTrue place i))
 
+-- a call that needs room for `need` items had it, or allocated it
+abbrev pub RoomGranted : {T : Type 0} → (exact : Bool) → ℕ → TinyView T → TinyView T → Type 0
+RoomGranted exact need old new =
+    PlaceRule need old new × (need ≤ view_capacity old → view_capacity new ≡ view_capacity old) × GrowsTo exact need old new
+
 module _ {T : Type 0} (exact : Bool) (need : ℕ) (old new : TinyView T) where
   -- a list that stayed where its room was granted, and kept that room
   pub granted_then : {X E : Type 0} (mid : TinyView T) (x : X) → view_inline new ≡ view_inline mid → view_capacity new ≡ view_capacity mid
       → MakesRoom {E = E} exact need old mid (Ok x) → RoomGranted exact need old new
   granted_then mid x stays same made =
-      ((λ i. made.place.0 (sym stays ∙ i), λ both. stays ∙ made.place.1 both), λ room. same ∙ made.same_room room, λ less. same ∙ made.grown less)
+      ((λ i. made.gets.place.0 (sym stays ∙ i), λ both. stays ∙ made.gets.place.1 both), λ room. same ∙ made.keeps.same_room room, λ less. same ∙ made.gets.grown less)
 
   -- there was room before
   pub granted_before : view_inline new ≡ view_inline old → view_capacity new ≡ view_capacity old → need ≤ view_capacity old → RoomGranted exact need old new

@@ -36,8 +36,8 @@ module _ {T : Type 0} (n : ℕ) (old mid new : TinyView T) (fits : view_len old 
       → (ViewInline mid → mid ≡ old) → MakesRoom {E = F} exactly (view_len old + n) old mid (Ok y) → Becomes D mid new xs
       → MakesRoom {E = E} exactly (view_len new) old new (Ok x)
   replaced_room exactly D x y kept made stays =
-      room_granted exactly (view_len new) old new (Ok x) (
-        replaced_place made.place stays.place,
-        λ le. stays.capacity ∙ made.same_room (as_many (view_capacity old) fits le),
-        λ less. stays.capacity ∙ subst (λ k. GrowsTo exactly k old mid) (sym (exact (omega (arith, less, long, fits)))) made.grown less,
+      room_granted exactly (view_len new) old new x (
+        replaced_place made.gets.place stays.place,
+        λ le. stays.capacity ∙ made.keeps.same_room (as_many (view_capacity old) fits le),
+        λ less. stays.capacity ∙ subst (λ k. GrowsTo exactly k old mid) (sym (exact (omega (arith, less, long, fits)))) made.gets.grown less,
       ) stays.fits (λ i j le. taken D old new le (slots_after_room D old mid new kept stays.place stays.slot_rule) i j)

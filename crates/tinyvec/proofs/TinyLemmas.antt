@@ -56,7 +56,7 @@ module _ {T : Type 0} (D : T → Type 0) (old new : Slots T) where
   pub slots_removed : (i : ℕ) → i < items_len old → items new ≡ remove (items old) i → Vacates D 1 old new → SlotRule D old new
   slots_removed i in_list is = slots_freed D old new 1 (sym (ap (λ l. length l + 1) is ∙ length-remove (items old) i in_list))
 
--- what `MakesRoom` says of spare slots
+-- what `GetsRoom` says of spare slots
 abbrev pub UsesSpare : {T : Type 0} → TinyView T → TinyView T → Type 0
 UsesSpare old new = ViewInline old → ViewInline new → view_len old ≤ view_len new → new.spare ≡ drop (view_len new - view_len old) old.spare
 
@@ -91,13 +91,12 @@ module _ {T : Type 0} (D : T → Type 0) where
       let n = view_len new - view_len old in record {
         items = refl;
         place = (λ i. rw first at (grows.place.0 i).1, λ le. grows.place.1 (made.place, rw first le));
-        inline_capacity = λ i. grows.same_room (grows.place.0 i).1 ∙ first;
+        inline_capacity = λ i. grows.keeps.same_room (grows.place.0 i).1 ∙ first;
         spare = λ i.
             let is = taken old new (omega (arith, zero)) grows.slot_rule made.place i in
             (ap length is ∙ length-drop n old.spare ∙ omega (arith, made.spare.0, zero), subst (All D) (sym is) (All-drop D n old.spare made.spare.1));
         grown = rw first at grows.grown;
-        doubled = rw first at grows.doubled;
-        fits = grows.fits;
+        fits = grows.keeps.fits;
       }
 
   -- the slot rule of a call that first made room
@@ -119,11 +118,6 @@ module _ {T : Type 0} (D : T → Type 0) where
     tiny_slots_only old new i j rule =
         let h = rule i j in
         h.2 ∙ ap (λ ds. ds ++ drop (view_len new - view_len old) old.spare) (defaults_are D c only (view_len old - view_len new) h.0 h.1)
-
--- what holds if the call succeeded, if it did
-pub on_ok_once : {T E : Type 0} (P : Type 0) (r : Result T E) → OnOk r (OnOk r P) → OnOk r P
-on_ok_once P (Ok x) p = p
-on_ok_once P (Err e) p = tt
 
 -- two facts of a call that succeeded
 pub on_ok_two : {T E P Q R : Type 0} (r : Result T E) → OnOk r P → OnOk r Q → (P → Q → R) → OnOk r R

@@ -4,17 +4,13 @@ use Rattle.std.specs.List.{AppendsClones}
 use Rattle.std.specs.declared.clone.Clone as Clone
 use Rattle.tinyvec_slots.specs.Clones.{RefusedAt, ClonesOver}
 use Rattle.tinyvec.specs.View.{TinyView, view_len, view_inline, view_capacity, ViewInline, PlaceRule, Unchanged}
-use Rattle.tinyvec.specs.Room.{KeepsRoom, GrowsTo}
-
--- A call that needs room for `need` items had it, or allocated it. `exact` says how it grew.
-abbrev pub RoomGranted : {T : Type 0} → (exact : Bool) → ℕ → TinyView T → TinyView T → Type 0
-RoomGranted exact need old new = PlaceRule need old new × KeepsRoom need old new × GrowsTo exact need old new
+use Rattle.tinyvec.specs.Room.{GrowsTo}
 
 -- A call that needs room for `need` items failed. Either there was no such room, the allocator refused it, and nothing
 -- changed. Or the room was granted, as when the call succeeds, and P says which clone failed then.
 abbrev pub RefusedFor : {T : Type 0} → ℕ → Type 0 → TinyView T → TinyView T → Type 0
 RefusedFor need P old new =
-    ((view_capacity old < need) × Unchanged old new) ⊎ (RoomGranted (view_inline old) need old new × P)
+    ((view_capacity old < need) × Unchanged old new) ⊎ (PlaceRule need old new × GrowsTo (view_inline old) need old new × P)
 
 -- if the list is inline, its first n spare slots hold clones of xs
 abbrev pub ClonesBehind : {T : Type 0} → (T → T → Type 0) → List T → ℕ → TinyView T → TinyView T → Type 0

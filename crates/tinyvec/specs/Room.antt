@@ -3,34 +3,36 @@ use Rattle.std.specs.Prelude.{◌≡◌, ℕ, ◌+◌, ◌-◌, ◌*◌, ◌^◌
 use Rattle.tinyvec_slots.specs.Slots.{AreDefaults}
 use Rattle.tinyvec.specs.View.{TinyView, view_len, view_inline, ViewInline, view_capacity, PlaceRule, TinySlotRule, Unchanged}
 
-module _ {T : Type 0} where
-  -- if there was room for `need` items, the capacity is as it was
-  abbrev pub KeepsRoom : ℕ → TinyView T → TinyView T → Type 0
-  KeepsRoom need old new = need ≤ view_capacity old → view_capacity new ≡ view_capacity old
+-- A capacity that grew from `old` to `new`, item by item, for `len` items: it is less than twice as many, and doubled some number of
+-- times, from one at least.
+abbrev pub GrowsInSteps : (old new len : ℕ) → Type 0
+GrowsInSteps old new len = old < new → (new < 2 * len) × ((k : ℕ) × (new ≡ 2 ^ k * max 1 old))
 
+module _ {T : Type 0} where
   -- if there was less room than `need`, the capacity became `need` if `exact` holds; else it doubled, or became `need` if that is more
   abbrev pub GrowsTo : (exact : Bool) → ℕ → TinyView T → TinyView T → Type 0
   GrowsTo exact need old new = view_capacity old < need
       → view_capacity new ≡ (if exact then need else max (2 * view_capacity old) need)
 
-  -- a capacity that grew item by item is less than twice the length
-  abbrev pub GrowsInSteps : TinyView T → TinyView T → Type 0
-  GrowsInSteps old new = view_capacity old < view_capacity new → view_capacity new < 2 * view_len new
+  -- Whatever the outcome of a call that needs room for `need` items, the capacity is no less, and as it was if there was that room.
+  pub record KeepsRoom (need : ℕ) (old new : TinyView T) : Type 0 where
+    pub capacity : view_capacity old ≤ view_capacity new
+    pub same_room : need ≤ view_capacity old → view_capacity new ≡ view_capacity old
+    pub fits : view_len new ≤ view_capacity new
 
-  -- a capacity that grew item by item doubled some number of times, from one at least: as many times as pushes double it
-  abbrev pub DoublesInSteps : TinyView T → TinyView T → Type 0
-  DoublesInSteps old new = view_capacity old < view_capacity new
-      → (k : ℕ) × (view_capacity new ≡ 2 ^ k * max 1 (view_capacity old))
+  -- Such a call succeeded: the list is inline exactly if it was and there was that room, else the capacity grew, as `exact` says.
+  pub record GetsRoom (exact : Bool) (need : ℕ) (old new : TinyView T) : Type 0 where
+    pub place : PlaceRule need old new
+    -- an inline list that got no shorter used up as many spare slots
+    pub spare : ViewInline old → ViewInline new → view_len old ≤ view_len new → new.spare ≡ drop (view_len new - view_len old) old.spare
+    pub grown : GrowsTo exact need old new
 
   -- a call that pushes item by item took `old` to `new`: the list moves only if it outgrows the array
   pub record Grows (D : T → Type 0) (old new : TinyView T) : Type 0 where
     pub place : PlaceRule (view_len new) old new
     pub slot_rule : TinySlotRule D old new
-    pub capacity : view_capacity old ≤ view_capacity new
-    pub same_room : KeepsRoom (view_len new) old new
-    pub grown : GrowsInSteps old new
-    pub doubled : DoublesInSteps old new
-    pub fits : view_len new ≤ view_capacity new
+    pub keeps : KeepsRoom (view_len new) old new
+    pub grown : GrowsInSteps (view_capacity old) (view_capacity new) (view_len new)
 
   -- `v` was made for n items. It is inline if they fit the array, and defaults follow the `used` items of its list. On the heap it
   -- has room for exactly n.
@@ -40,29 +42,21 @@ module _ {T : Type 0} where
     pub enough : n ≤ view_capacity v
     pub exact : view_capacity v ≡ max n slots
 
-  -- `v` is what collecting `xs` makes: inline if they fit the array, before defaults; on the heap its capacity doubled some number of
-  -- times, and is less than twice the length
+  -- `v` is what collecting `xs` makes: inline if they fit the array, before defaults; on the heap it grew item by item
   pub record Collects (D : T → Type 0) (slots : ℕ) (xs : List T) (v : TinyView T) : Type 0 where
     pub items : v.items ≡ xs
     pub place : ViewInline v ↔ (length xs ≤ slots)
     pub inline_capacity : ViewInline v → view_capacity v ≡ slots
     pub spare : ViewInline v → AreDefaults D (slots - length xs) v.spare
-    pub grown : slots < view_capacity v → view_capacity v < 2 * length xs
-    pub doubled : slots < view_capacity v → (k : ℕ) × (view_capacity v ≡ 2 ^ k * max 1 slots)
+    pub grown : GrowsInSteps slots (view_capacity v) (length xs)
     pub fits : length xs ≤ view_capacity v
 
 module _ {T X E : Type 0} where
-  -- A call that needs room for `need` items took `old` to `new`, with this result. The list is inline exactly if it was and the need is
-  -- within the slots. If there was that room, the capacity is unchanged, else it grew, as `exact` says.
+  -- A call that needs room for `need` items took `old` to `new`, with this result. It has that room, or allocates it. If there is
+  -- room it allocates nothing, and a failure changes nothing.
   pub record MakesRoom (exact : Bool) (need : ℕ) (old new : TinyView T) (result : Result X E) : Type 0 where
-    pub place : OnOk result (PlaceRule need old new)
-    -- an inline list that got no shorter used up as many spare slots
-    pub spare : ViewInline old → ViewInline new → view_len old ≤ view_len new → new.spare ≡ drop (view_len new - view_len old) old.spare
-    pub capacity : view_capacity old ≤ view_capacity new
-    pub same_room : KeepsRoom need old new
-    pub grown : OnOk result (GrowsTo exact need old new)
-    pub fits : view_len new ≤ view_capacity new
-    -- if there is room it allocates nothing, and a failure changes nothing
+    pub keeps : KeepsRoom need old new
+    pub gets : OnOk result (GetsRoom exact need old new)
     pub succeeds : need ≤ view_capacity old → IsOk result
     pub full : OnErr result (view_capacity old < need)
     pub refused : OnErr result (Unchanged old new)

@@ -45,22 +45,20 @@ module _ {T : Type 0} where
     frame_grows u v w x k h j = record {
       place = rw (j.place, j.len, sym k.place, sym k.capacity) h.place;
       slot_rule = tiny_slots_then_framed D u w x (tiny_slots_framed D u v w k h.slot_rule) j;
-      capacity = let c = h.capacity in let a = k.capacity in let b = j.capacity in omega arith;
-      same_room = λ fits. j.capacity ∙ h.same_room (let a = k.capacity in let b = j.len in omega arith) ∙ k.capacity;
-      doubled = rw (j.capacity, sym k.capacity) h.doubled;
-      grown = λ more. let a = k.capacity in let b = j.capacity in let c = j.len in let less = h.grown (omega (arith, a, b, more)) in omega (arith, b, c, less);
-      fits = let fits = h.fits in let b = j.capacity in let c = j.len in omega (arith, b, c, fits);
+      keeps = record {
+        capacity = let c = h.keeps.capacity in let a = k.capacity in let b = j.capacity in omega arith;
+        same_room = λ fits. j.capacity ∙ h.keeps.same_room (let a = k.capacity in let b = j.len in omega arith) ∙ k.capacity;
+        fits = let fits = h.keeps.fits in let b = j.capacity in let c = j.len in omega (arith, b, c, fits);
+      };
+      grown = rw (j.len, j.capacity, sym k.capacity) h.grown;
     }
 
     pub stays_grows : (v w : TinyView T) → StaysInPlace D v w → view_len w ≤ view_capacity w → Grows D v w
     stays_grows v w h fits = record {
       place = place_kept (view_len w) v w h.place (let c = h.capacity in omega arith);
       slot_rule = h.slot_rule;
-      capacity = let c = h.capacity in omega arith;
-      same_room = λ _. h.capacity;
+      keeps = record { capacity = let c = h.capacity in omega arith; same_room = λ _. h.capacity; fits = fits };
       grown = λ more. absurd (let c = h.capacity in omega (arith, c, more));
-      doubled = λ more. absurd (let c = h.capacity in omega (arith, c, more));
-      fits = fits;
     }
 
     pub stays : (slots : ℕ) (v w : TinyView T) → Grows D v w → view_len w ≤ view_capacity v

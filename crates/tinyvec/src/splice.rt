@@ -9,7 +9,7 @@ ghost use Rattle.tinyvec.specs.View.{TinySlotRule, StaysInPlace, Becomes, Unchan
 ghost use Rattle.tinyvec_slots.specs.Filling.{IntoIterYields, ShowsItems};
 ghost use Rattle.tinyvec_slots.specs.Replacing.{PutsBetween};
 ghost use Rattle.tinyvec_slots.specs.AnySplice.{SpliceBegins};
-ghost use Rattle.tinyvec.specs.Room.{KeepsRoom, Grows, MakesRoom};
+ghost use Rattle.tinyvec.specs.Room.{KeepsRoom, GetsRoom, Grows};
 ghost use Rattle.tinyvec.specs.Room.{items_moved};
 
 use crate::TinyVec;
@@ -120,14 +120,11 @@ impl<A: Array> TinyVec<A> {
         ensures items { OnOk result (tiny_items_of A.Slots self.new
             ≡ before (tiny_items_of A.Slots self.old) (R.start_bound range) ++ replacement.now
             ++ after (tiny_items_of A.Slots self.old) (R.end_bound range)) }
-        ensures room { OnOk result (MakesRoom (is_inline self.old) (tiny_len_of A.Slots self.new)
-            (tiny_view_of A.Slots self.old) (tiny_view_of A.Slots self.new) result) }
+        ensures room { OnOk result (GetsRoom (is_inline self.old) (tiny_len_of A.Slots self.new)
+            (tiny_view_of A.Slots self.old) (tiny_view_of A.Slots self.new)) }
+        ensures keeps { KeepsRoom (tiny_len_of A.Slots self.new) (tiny_view_of A.Slots self.old) (tiny_view_of A.Slots self.new) }
         ensures slot_rule { OnOk result (TinySlotRule A.Item.is_default (tiny_view_of A.Slots self.old)
             (tiny_view_of A.Slots self.new)) }
-        ensures capacity { tiny_capacity_of A.Slots self.old ≤ tiny_capacity_of A.Slots self.new }
-        ensures same_room { KeepsRoom (tiny_len_of A.Slots self.new)
-            (tiny_view_of A.Slots self.old) (tiny_view_of A.Slots self.new) }
-        ensures fits { tiny_len_of A.Slots self.new ≤ tiny_capacity_of A.Slots self.new }
 
         // If there is room it allocates nothing.
         ensures succeeds { length (before (tiny_items_of A.Slots self.old) (R.start_bound range)) + length replacement.now
@@ -205,7 +202,7 @@ impl<A: Array> CanSplice for TinyVec<A> {
     ghost cut_grown = { λ v w. stays_grows A.Item.is_default (tiny_view_of A.Slots v)
         (tiny_view_of A.Slots w) };
 
-    ghost grown_room = { λ v w h. h.capacity };
+    ghost grown_room = { λ v w h. h.keeps.capacity };
 
     ghost grown_in_place = { λ v w. stays A.Item.is_default A.CAPACITY (tiny_view_of A.Slots v)
         (tiny_view_of A.Slots w) };

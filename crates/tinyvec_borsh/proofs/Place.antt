@@ -47,7 +47,7 @@ module _ {T : Type 0} where
       → view_capacity new ≤ max (view_capacity old) (2 * count)
   room-grown n count old new kept grown few = elim (cases_lt (view_capacity old) n) [
     | inl less ↦ (let most = either (view_inline old) n (max (2 * view_capacity old) n) (2 * count) (omega arith) (omega arith) in omega (arith, grown less, most))
-    | inr room ↦ omega (arith, kept room)
+    | inr room ↦ omega (arith, kept.same_room room)
   ]
 
   -- room is wanting only where more items are to come than the array has room for

@@ -32,7 +32,7 @@ module _ {T : Type 0} (D : T → Type 0) (slots : ℕ) where
       let begun = run.1.answered in
       let refused = run.2.1.answered in
       let longer : view_len run.0 ≡ view_len old + 1 = ap length begun.0 ∙ length-append old.items (x ∷ []) in
-      omega (arith, longer, begun.1.grown, refused.0, full, some)
+      omega (arith, longer, begun.1.gets.grown, refused.0, full, some)
 
   -- What `Reserve` made room for is not refused, and a push with room keeps it.
   pub memory_after_a_reserve : (n : ℕ) (x y : T) (calls : List (Call T)) (more : List (Answer T)) (old new : TinyView T) → 2 ≤ n
@@ -43,7 +43,7 @@ module _ {T : Type 0} (D : T → Type 0) (slots : ℕ) where
       let refused = run.2.2.1.answered in
       let same : view_len run.0 ≡ view_len old = ap length reserved.0 in
       let longer : view_len run.2.0 ≡ view_len run.0 + 1 = ap length begun.0 ∙ length-append run.0.items (x ∷ []) in
-      omega (arith, same, longer, reserved.1, begun.1.same_room, refused.0, some)
+      omega (arith, same, longer, reserved.1, begun.1.keeps.same_room, refused.0, some)
 
 -- Where a text was appended there is room for all of it, and a cut keeps that room: what is no longer than what was cut off is
 -- not refused afterwards.
@@ -51,4 +51,4 @@ pub memory_after_a_cut : (text more : List ℕ) (index : ℕ) (old first second 
     → TextStep old (add text) answers.Done first → TextStep first (cut index) answers.Done second
     → TextStep second (add more) answers.Memory new → text_len second + length more ≤ text_len first → ⊥
 memory_after_a_cut text more index old first second new added shortened refused within =
-    omega (arith, added.room.fits, shortened.frame.capacity, refused.0, within)
+    omega (arith, added.room.keeps.fits, shortened.frame.capacity, refused.0, within)

@@ -2,7 +2,7 @@
 use Rattle.std.proofs.Common.{◌≡◌, ℕ, ◌<◌, ◌≤◌, inl, inr, List, All, IsUtf8, IsTrue, subst, sym, refl, arith, ap, length}
 use Rattle.std.specs.Prelude.{Bool, false, Result}
 use Rattle.std.proofs.Math.Seq.{drop-nil}
-use Rattle.std.proofs.lemmas.Result.{on_err_weaker}
+use Rattle.std.proofs.lemmas.Result.{on_ok_weaker, on_err_weaker}
 use Rattle.std.proofs.lemmas.List.Elements.{All-append, All-drop}
 use Rattle.std.proofs.lemmas.Str.{IsUtf8-had}
 use Rattle.tinyvec_slots.specs.Slots.{AreDefaults}
@@ -83,12 +83,8 @@ text_range v t same is a end order first last =
 pub text_room : {k : ℕ} {X E : Type 0} (exact : Bool) (need : ℕ) (old new : Bytes k) (r : Result X E) → MakesRoom exact need (tiny_view old) (tiny_view new) r
     → MakesRoom exact need (text_view (text_of old)) (text_view (text_of new)) r
 text_room exact need old new r room = record {
-  place = room.place;
-  spare = λ _ _ _. sym (drop-nil _);
-  capacity = room.capacity;
-  same_room = room.same_room;
-  grown = room.grown;
-  fits = room.fits;
+  keeps = record { capacity = room.keeps.capacity; same_room = room.keeps.same_room; fits = room.keeps.fits };
+  gets = on_ok_weaker r (λ got. record { place = got.place; spare = λ _ _ _. sym (drop-nil _); grown = got.grown }) room.gets;
   succeeds = room.succeeds;
   full = room.full;
   refused = on_err_weaker r (λ h. record { items = h.items; spare = refl; place = h.place; capacity = h.capacity }) room.refused;
@@ -97,7 +93,7 @@ text_room exact need old new r room = record {
 -- a call that fails for no other reason than want of room
 pub no_room : {P : Type 0} (need : ℕ) (old new : TinyView ℕ) → RefusedFor need P old new → ¬ P → (view_capacity old < need) × Unchanged old new
 no_room need old new (inl h) never = h
-no_room need old new (inr h) never = absurd (never h.1)
+no_room need old new (inr h) never = absurd (never h.2)
 
 -- a text that did not change
 pub text_unchanged : (old new : Text) → Unchanged (text_view old) (text_view new) → new ≡ old

@@ -7,7 +7,7 @@ use Rattle.tinyvec_slots.specs.Filters.{IsFilteredTo}
 use denote.Param.Members.{Mut}
 use Rattle.tinyvec_array.specs.declared.bound.UpTo.{UpTo}
 use Rattle.tinyvec.specs.View.{Place, in_array, on_heap, lies_inline, capacity_in, TinyView, PlaceRule}
-use Rattle.tinyvec.specs.Room.{KeepsRoom, GrowsInSteps, MakesRoom}
+use Rattle.tinyvec.specs.Room.{MakesRoom}
 use Rattle.tinyvec.specs.TinyVec.{tiny_items, tiny_spare, tiny_view}
 use Rattle.tinyvec.specs.declared.tiny_vec.TinyVec.{TinyVec}
 
@@ -70,8 +70,8 @@ pub record TextExtends (slots : ℕ) (old new : Text) : Type 0 where
   pub longer : text_len old ≤ text_len new
   pub place : PlaceRule (text_len new) (text_view old) (text_view new)
   pub capacity : capacity_in old.place ≤ capacity_in new.place
-  pub same_room : KeepsRoom (text_len new) (text_view old) (text_view new)
-  pub grown : GrowsInSteps (text_view old) (text_view new)
+  pub same_room : text_len new ≤ capacity_in old.place → capacity_in new.place ≡ capacity_in old.place
+  pub grown : capacity_in old.place < capacity_in new.place → capacity_in new.place < 2 * text_len new
   pub doubled : lies_inline old.place ≡ false → capacity_in old.place < capacity_in new.place
       → 2 * capacity_in old.place ≤ capacity_in new.place
   pub fits : text_len new ≤ capacity_in new.place

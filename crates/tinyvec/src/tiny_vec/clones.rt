@@ -5,7 +5,7 @@ ghost use Rattle.tinyvec_slots.specs.Clones.{RefusedAt, AreClones, ClonesOver, C
 ghost use Rattle.tinyvec.specs.TinyVec.{tiny_items_of, tiny_len_of, tiny_spare_of, is_inline, tiny_capacity_of, IsInline, tiny_view_of};
 ghost use Rattle.tinyvec.specs.View.{TinySlotRule, SameFrame, IsTinyClone, IsTinyInfallible};
 ghost use Rattle.tinyvec.specs.Refused.{RefusedFor};
-ghost use Rattle.tinyvec.specs.Room.{KeepsRoom, MakesRoom};
+ghost use Rattle.tinyvec.specs.Room.{KeepsRoom, GetsRoom};
 
 use crate::TinyVec;
 use crate::tuned::push_clones;
@@ -63,14 +63,11 @@ impl<A: Array> TinyVec<A> {
         A::Item: Clone,
         ensures items { OnOk result (AreClones A.Item.is_clone (tiny_items_of A.Slots source.now)
             (tiny_items_of A.Slots self.new)) }
-        ensures room { OnOk result (MakesRoom (is_inline self.old) (tiny_len_of A.Slots source.now)
-            (tiny_view_of A.Slots self.old) (tiny_view_of A.Slots self.new) result) }
+        ensures room { OnOk result (GetsRoom (is_inline self.old) (tiny_len_of A.Slots source.now)
+            (tiny_view_of A.Slots self.old) (tiny_view_of A.Slots self.new)) }
+        ensures keeps { KeepsRoom (tiny_len_of A.Slots source.now) (tiny_view_of A.Slots self.old) (tiny_view_of A.Slots self.new) }
         ensures slot_rule { OnOk result (TinySlotRule A.Item.is_default (tiny_view_of A.Slots self.old)
             (tiny_view_of A.Slots self.new)) }
-        ensures capacity { tiny_capacity_of A.Slots self.old ≤ tiny_capacity_of A.Slots self.new }
-        ensures same_room { KeepsRoom (tiny_len_of A.Slots source.now)
-            (tiny_view_of A.Slots self.old) (tiny_view_of A.Slots self.new) }
-        ensures fits { tiny_len_of A.Slots self.new ≤ tiny_capacity_of A.Slots self.new }
 
         // If there is room only clones allocate.
         ensures succeeds { tiny_len_of A.Slots source.now ≤ tiny_capacity_of A.Slots self.old

@@ -5,7 +5,7 @@ ghost use Rattle.tinyvec_slots.specs.Clones.{ClonesAreEqual, AppendsAllOrNone};
 ghost use Rattle.tinyvec.specs.TinyVec.{tiny_items_of, tiny_len_of, tiny_capacity_of, is_inline, IsInline, tiny_view_of};
 ghost use Rattle.tinyvec.specs.View.{PlaceRule, TinySlotRule, StaysInPlace, Becomes};
 ghost use Rattle.tinyvec.specs.Refused.{RefusedFor, ClonesBehind, ClonesInRoom, ClonesRefused};
-ghost use Rattle.tinyvec.specs.Room.{KeepsRoom, MakesRoom, Grows, Collects};
+ghost use Rattle.tinyvec.specs.Room.{KeepsRoom, GetsRoom, MakesRoom, Grows, Collects};
 ghost use Rattle.tinyvec_slots.specs.Slots.{AreDefaults};
 ghost use Rattle.tinyvec_array.specs.ArrayVec.{items_of, slots_of, Grows as GrowsInSlots};
 ghost use Rattle.std.specs.Iterator.{IsFinite, Drains, YieldsThen, size};
@@ -47,12 +47,10 @@ impl<A: Array> TinyVec<A> {
         A::Item: Clone,
         ensures clones { AppendsAllOrNone A.Item.is_clone other.now
             result (tiny_items_of A.Slots self.old) (tiny_items_of A.Slots self.new) }
-        ensures room { OnOk result (MakesRoom (is_inline self.old) (tiny_len_of A.Slots self.old
-            + length other.now) (tiny_view_of A.Slots self.old) (tiny_view_of A.Slots self.new) result) }
-        ensures capacity { tiny_capacity_of A.Slots self.old ≤ tiny_capacity_of A.Slots self.new }
-        ensures same_room { KeepsRoom (tiny_len_of A.Slots self.old + length other.now)
+        ensures room { OnOk result (GetsRoom (is_inline self.old) (tiny_len_of A.Slots self.old
+            + length other.now) (tiny_view_of A.Slots self.old) (tiny_view_of A.Slots self.new)) }
+        ensures keeps { KeepsRoom (tiny_len_of A.Slots self.old + length other.now)
             (tiny_view_of A.Slots self.old) (tiny_view_of A.Slots self.new) }
-        ensures fits { tiny_len_of A.Slots self.new ≤ tiny_capacity_of A.Slots self.new }
 
         // If there is room only clones allocate.
         ensures succeeds { tiny_len_of A.Slots self.old + length other.now ≤ tiny_capacity_of A.Slots self.old
@@ -84,16 +82,14 @@ impl<A: Array> TinyVec<A> {
         ensures clones { AppendsAllOrNone A.Item.is_clone
             (removed (tiny_items_of A.Slots self.old) (R.start_bound range) (R.end_bound range))
             result (tiny_items_of A.Slots self.old) (tiny_items_of A.Slots self.new) }
-        ensures room { OnOk result (MakesRoom (is_inline self.old)
+        ensures room { OnOk result (GetsRoom (is_inline self.old)
             (tiny_len_of A.Slots self.old + length (removed (tiny_items_of A.Slots self.old) (R.start_bound range)
             (R.end_bound range)))
-            (tiny_view_of A.Slots self.old) (tiny_view_of A.Slots self.new) result) }
-        ensures capacity { tiny_capacity_of A.Slots self.old ≤ tiny_capacity_of A.Slots self.new }
-        ensures same_room { KeepsRoom
+            (tiny_view_of A.Slots self.old) (tiny_view_of A.Slots self.new)) }
+        ensures keeps { KeepsRoom
             (tiny_len_of A.Slots self.old + length (removed (tiny_items_of A.Slots self.old) (R.start_bound range)
             (R.end_bound range)))
             (tiny_view_of A.Slots self.old) (tiny_view_of A.Slots self.new) }
-        ensures fits { tiny_len_of A.Slots self.new ≤ tiny_capacity_of A.Slots self.new }
 
         // If there is room only clones allocate.
         ensures succeeds { tiny_len_of A.Slots self.old
@@ -387,14 +383,11 @@ impl<A: Array> TinyVec<A> {
         ensures if_clones_equal { OnOk result (ClonesAreEqual A.Item.is_clone
             → tiny_items_of A.Slots self.new ≡ take new_len (tiny_items_of A.Slots self.old) ++ replicate
             (new_len - tiny_len_of A.Slots self.old) value) }
-        ensures room { OnOk result (MakesRoom (is_inline self.old) new_len (tiny_view_of A.Slots self.old)
-            (tiny_view_of A.Slots self.new) result) }
+        ensures room { OnOk result (GetsRoom (is_inline self.old) new_len (tiny_view_of A.Slots self.old)
+            (tiny_view_of A.Slots self.new)) }
+        ensures keeps { KeepsRoom new_len (tiny_view_of A.Slots self.old) (tiny_view_of A.Slots self.new) }
         ensures slot_rule { OnOk result (TinySlotRule A.Item.is_default (tiny_view_of A.Slots self.old)
             (tiny_view_of A.Slots self.new)) }
-        ensures capacity { tiny_capacity_of A.Slots self.old ≤ tiny_capacity_of A.Slots self.new }
-        ensures same_room { KeepsRoom new_len
-            (tiny_view_of A.Slots self.old) (tiny_view_of A.Slots self.new) }
-        ensures fits { tiny_len_of A.Slots self.new ≤ tiny_capacity_of A.Slots self.new }
         ensures place { OnOk result (PlaceRule (max new_len (tiny_len_of A.Slots self.old))
             (tiny_view_of A.Slots self.old) (tiny_view_of A.Slots self.new)) }
 

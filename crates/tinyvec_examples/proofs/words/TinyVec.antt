@@ -9,7 +9,7 @@ use Rattle.tinyvec.specs.declared.tiny_vec.TinyVec.{TinyVec}
 use Rattle.tinyvec.specs.declared.tiny_vec.TinyVec.TheVariants.{Inline}
 use Rattle.tinyvec.specs.TinyVec.{tiny_items, tiny_items_of, tiny_len_of, tiny_spare, tiny_spare_of, is_inline, IsInline, tiny_capacity, tiny_capacity_of, tiny_allocator, tiny_view, tiny_view_of}
 use Rattle.tinyvec.specs.View.{TinyView, view_capacity, HoldsInline, IsNew, SameFrame, Becomes, StaysInPlace, ShortensInPlace, IsTail, Unchanged, IsTinyClone, IsTinyInfallible, PlaceRule, TinySlotRule, in_array}
-use Rattle.tinyvec.specs.Room.{Collects, KeepsRoom, GrowsTo, Grows, MadeFor, MakesRoom, MovesToHeap}
+use Rattle.tinyvec.specs.Room.{Collects, KeepsRoom, GetsRoom, GrowsTo, Grows, MadeFor, MakesRoom, MovesToHeap}
 use Rattle.tinyvec.specs.Refused.{RefusedFor, ClonesBehind, ClonesRefused}
 use Rattle.tinyvec.specs.Following.{PushesItems}
 use Rattle.tinyvec_slots.specs.Filling.{IntoIterYields}
@@ -147,7 +147,10 @@ module _ (alloc : Global) where
   example-TinySlotRule i j = (0 ∷ [], search rules, refl)
 
   pub example-KeepsRoom : KeepsRoom 3 (tiny_view (inline (1 ∷ 2 ∷ []) (0 ∷ 0 ∷ []))) (tiny_view (inline (1 ∷ 2 ∷ 3 ∷ []) (0 ∷ [])))
-  example-KeepsRoom = λ _. refl
+  example-KeepsRoom = record { capacity = omega arith; same_room = λ _. refl; fits = omega arith }
+
+  pub example-GetsRoom : GetsRoom false 2 (tiny_view (inline (1 ∷ []) (7 ∷ 8 ∷ 0 ∷ []))) (tiny_view (inline (1 ∷ 5 ∷ []) (8 ∷ 0 ∷ [])))
+  example-GetsRoom = search rules
 
   pub example-GrowsTo : (v : TinyVec (List ℕ) ℕ (UpTo 4)) → GrowsTo true 9 (tiny_view (inline (1 ∷ []) (0 ∷ 0 ∷ 0 ∷ []))) (tiny_view v) → tiny_capacity v ≡ 9
   example-GrowsTo v h = search rules

@@ -39,5 +39,5 @@ loop-word-preserved-in_ok-extend_from_slice-2 c =
         spaced (tiny_items c.args.output.now) front word _ _ _ before.so_far.1 c.in_ok-push-2.ensures.items grown,
         spoken front last word all (words c.loop-word.left.now) (words c.in-Some-next_word.more.now) c.in-Some-next_word.ensures.some other before.so_far.2,
       );
-      room = omega (arith, before.room, c.push-then-ne.ensures.room.capacity, c.extend_from_slice-then-ne.ensures.capacity);
+      room = omega (arith, before.room, c.push-then-ne.ensures.room.keeps.capacity, c.extend_from_slice-then-ne.ensures.keeps.capacity);
     }

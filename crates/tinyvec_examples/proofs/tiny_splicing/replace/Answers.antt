@@ -67,7 +67,9 @@ returns-clause-place g c =
     let lender = c.splice-splice.ensures.same_reference in
     let v = c.finish.new.self.0 in
     let before : is_inline (splice_vec c.one_from_each_end-ends.new.splice) ≡ is_inline c.args.vec.now = kept.kept.place ∙ ap is_inline c.splice-splice.ensures.vec in
-    let rule : PlaceRule (tiny_len_of g.A.Slots v) (tiny_view_of g.A.Slots c.args.vec.now) (tiny_view_of g.A.Slots v) = rw (sym before) c.finish.ensures.changes.place in
+    let room : tiny_capacity_of g.A.Slots (splice_vec c.one_from_each_end-ends.new.splice) ≡ tiny_capacity_of g.A.Slots c.args.vec.now =
+    kept.kept.capacity ∙ ap (tiny_capacity_of g.A.Slots) c.splice-splice.ensures.vec in
+    let rule : PlaceRule (tiny_len_of g.A.Slots v) (tiny_view_of g.A.Slots c.args.vec.now) (tiny_view_of g.A.Slots v) = rw (sym before, sym room) c.finish.ensures.changes.place in
     subst (λ w. PlaceRule (tiny_len_of g.A.Slots w) (tiny_view_of g.A.Slots c.args.vec.now) (tiny_view_of g.A.Slots w)) (search rules) rule
 
 pub returns-clause-slot_rule : goal.returns-clause-slot_rule

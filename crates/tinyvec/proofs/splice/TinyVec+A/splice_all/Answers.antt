@@ -21,7 +21,7 @@ returns-clause-listed g c = λ rest shows.
     let made = c.splice-splice.ensures in
     let lender = made.same_reference in
     let puts = puts_listed rest _ (splice_view (tiny_items_of g.A.Slots) s) _ _ _ _ made.unasked made.begins.front made.begins.back (c.finish.ensures.listed rest shows) in
-    let more = subst (λ v. tiny_capacity_of g.A.Slots v ≤ tiny_capacity_of g.A.Slots c.finish.new.self.0) made.vec c.finish.ensures.changes.capacity in
+    let more = subst (λ v. tiny_capacity_of g.A.Slots v ≤ tiny_capacity_of g.A.Slots c.finish.new.self.0) made.vec c.finish.ensures.changes.keeps.capacity in
     (fuse_source (splice_replacement s), made.replacement, λ fits. puts.0.1 (omega (arith, fits, more)), search rules, search rules)
 
 pub returns-clause-known : goal.returns-clause-known

@@ -17,7 +17,7 @@ returns-clause-place g c =
     let same : length c.read_items.new.slots ≡ tiny_len_of g.A.Slots mid = search rules in
     let framed = tiny_framed-with g.A.Slots mid c.read_items.new.slots same in
     let made = c.in-Ok.ensures in
-    on_ok_weaker c.read_items.result (λ _. place-framed _ (tiny_view_of g.A.Slots c.args.v.now) (tiny_view_of g.A.Slots mid) (tiny_view_of g.A.Slots (tiny_with_items g.A.Slots mid c.read_items.new.slots)) made.room.place framed.place (framed.len ∙ made.len)) c.read_items.ensures.ok
+    on_ok_weaker c.read_items.result (λ _. place-framed _ (tiny_view_of g.A.Slots c.args.v.now) (tiny_view_of g.A.Slots mid) (tiny_view_of g.A.Slots (tiny_with_items g.A.Slots mid c.read_items.new.slots)) made.room.gets.place framed.place (framed.len ∙ made.len)) c.read_items.ensures.ok
 
 pub returns-clause-ok : goal.returns-clause-ok
 returns-clause-ok g c =
@@ -48,7 +48,7 @@ returns-clause-capacity g c =
     let same : length c.read_items.new.slots ≡ tiny_len_of g.A.Slots mid = search rules in
     let framed = tiny_framed-with g.A.Slots mid c.read_items.new.slots same in
     let few : c.len-start.result + c.min.result ≤ c.args.count = search rules in
-    let grown = room-grown (c.len-start.result + c.min.result) c.args.count (tiny_view_of g.A.Slots c.args.v.now) (tiny_view_of g.A.Slots mid) c.resize_with.ensures.room.same_room c.in-Ok.ensures.room.grown few in
+    let grown = room-grown (c.len-start.result + c.min.result) c.args.count (tiny_view_of g.A.Slots c.args.v.now) (tiny_view_of g.A.Slots mid) c.resize_with.ensures.room.keeps c.in-Ok.ensures.room.gets.grown few in
     on_ok_weaker c.read_items.result (λ _. omega (arith, framed.capacity, grown)) c.read_items.ensures.ok
 
 pub returns-clause-fails : goal.returns-clause-fails

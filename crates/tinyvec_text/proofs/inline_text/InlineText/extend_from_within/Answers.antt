@@ -1,5 +1,4 @@
 use Rattle.std.proofs.Common.{◌≡◌, ◌++◌, IsUtf8, ap, sym, subst, ◌∙◌, chars, length, length-append, refl, arith, rules}
-use Rattle.std.proofs.Math.Seq.{drop-nil}
 use Rattle.std.proofs.CharBoundary.{IsUtf8-three_parts}
 use Rattle.std.proofs.lemmas.Str.{IsUtf8-append, chars-append}
 use Rattle.tinyvec.specs.TinyVec.{tiny_items, tiny_view}
@@ -30,12 +29,8 @@ returns-in_err-extend_from_within-clause-room g c =
     let kept : Unchanged (text_view (text_of list)) (text_view (text_of c.extend_from_within.new.self)) =
     record { items = refused.1.items; spare = refl; place = refused.1.place; capacity = refused.1.capacity } in
     rw (← c.self.view_is) (record {
-      place = search rules;
-      spare = λ _ _ _. sym (drop-nil _);
-      capacity = told.capacity;
-      same_room = told.same_room;
-      grown = search rules;
-      fits = told.fits;
+      keeps = record { capacity = told.keeps.capacity; same_room = told.keeps.same_room; fits = told.keeps.fits };
+      gets = search rules;
       succeeds = λ enough. absurd (omega (arith, enough, refused.0));
       full = search (rules, refused.0);
       refused = search (rules, kept);

@@ -15,7 +15,7 @@ pub invariant_of-self-then-is_ascii : goal.invariant_of-self-then-is_ascii
 invariant_of-self-then-is_ascii g c =
     let joined : tiny_items c.push.new.self ≡ tiny_items c.self.inside.list ++ c.args.ch ∷ [] = search rules in
     let ascii = IsUtf8-from_ascii (c.args.ch ∷ []) (search rules) in
-    text_kept c.self.inside.list c.push.new.self (λ i. (c.in_ok-push.ensures.room.place.0 i).0) (used_rule (λ b. b ≡ 0) (tiny_view c.self.inside.list) (tiny_view c.push.new.self) (omega (arith, ap length joined, length-append (tiny_items c.self.inside.list) (c.args.ch ∷ []))) c.in_ok-push.ensures.room.spare) c.self.invariant
+    text_kept c.self.inside.list c.push.new.self (λ i. (c.in_ok-push.ensures.room.gets.place.0 i).0) (used_rule (λ b. b ≡ 0) (tiny_view c.self.inside.list) (tiny_view c.push.new.self) (omega (arith, ap length joined, length-append (tiny_items c.self.inside.list) (c.args.ch ∷ []))) c.in_ok-push.ensures.room.gets.spare) c.self.invariant
     (subst IsUtf8 (sym joined) (IsUtf8-append _ _ (text_utf8 c.self.inside.list c.self.invariant) ascii))
 
 pub returns-then-is_ascii-clause-text : goal.returns-then-is_ascii-clause-text

@@ -44,7 +44,7 @@ invariant_of-self-2 g c =
     let whole : take part.start (tiny_items mid) ++ put ++ drop part.end (tiny_items mid) ≡ take a bs ++ put ++ drop (range_end end (length bs)) bs =
     λ i. take (starts i) (same i) ++ put ++ drop (ends i) (same i) in
     let told = c.in_ok-reserve.ensures in
-    let kept = text_kept list mid (λ i. (told.room.place.0 i).0) (used_rule (λ b. b ≡ 0) (tiny_view list) (tiny_view mid) (omega (arith, ap length same)) told.room.spare) c.self.invariant (subst IsUtf8 (sym same) utf8) in
+    let kept = text_kept list mid (λ i. (told.room.gets.place.0 i).0) (used_rule (λ b. b ≡ 0) (tiny_view list) (tiny_view mid) (omega (arith, ap length same)) told.room.gets.spare) c.self.invariant (subst IsUtf8 (sym same) utf8) in
     text_stays mid c.replace_bytes.new.list _ c.replace_bytes.ensures kept
     (subst IsUtf8 (sym whole) (utf8_put bs utf8 _ _ cuts.first cuts.last put c.as_bytes-bytes.ensures.utf8))
 

@@ -13,12 +13,12 @@ returns-in-Inline-clause-room g c =
     ap length made.items ∙ length-replaced c.args.index c.args.index (c.args.byte ∷ []) (items v) (omega arith) inside ∙ omega (arith, inside) in
     let count : 1 ≡ items_len new - items_len v = omega (arith, size) in
     record {
-      place = search rules;
-      spare = rw c.in-Inline.is (λ _ _ _. made.spare ∙ ap (λ k. drop k (spare v)) count);
-      capacity = search rules;
-      same_room = search rules;
-      grown = search rules;
-      fits = search rules;
+      keeps = search rules;
+      gets = record {
+        place = search rules;
+        spare = rw c.in-Inline.is (λ _ _ _. made.spare ∙ ap (λ k. drop k (spare v)) count);
+        grown = search rules;
+      };
       succeeds = search rules;
       full = search rules;
       refused = search rules;

@@ -9,7 +9,7 @@ use Rattle.tinyvec_slots.proofs.CloneLemmas.{on_err}
 use Rattle.tinyvec.specs.View.{view_len, view_inline, ViewInline, view_capacity, TinySlotRule}
 use Rattle.std.specs.Prelude.{OnOk}
 use Rattle.tinyvec.proofs.TinyLemmas.{slots_taken, taken, slots_after_room, tiny_slots_then_framed, on_ok_two, on_err_two, never_ok}
-use Rattle.tinyvec.proofs.FrameLemmas.{granted_no_less, room_granted}
+use Rattle.tinyvec.proofs.FrameLemmas.{keeps_granted, gets_granted}
 use Rattle.tinyvec.proofs.CloneLemmas.{appends_len, appends_rest}
 use Rattle.tinyvec.proofs.RefusedLemmas.{refused_in_front, refused_behind, partly_over, partly_behind, cut_freed, none_freed, spare_kept, granted_before, granted_then}
 use Rattle.tinyvec.specs.TinyVec.{tiny_items_of, tiny_view_of}
@@ -43,18 +43,17 @@ returns-then-count-len g c =
     let rule : TinySlotRule D old new = tiny_slots_then_framed D old left new trimmed.slot_rule put.frame in
     let fits : view_len new ≤ view_capacity new = omega (arith, put.frame.len, put.frame.capacity, trimmed.fits) in record {
       items = on_ok_weaker r (are_clones C xs new.items) (rw c.as_slice.ensures at put.ok);
-      room = room_granted _ _ old new r granted fits (on_ok_weaker r (λ _ i j le. taken D old new le rule i j) put.ok);
+      room = on_ok_weaker r (λ _. gets_granted _ _ old new granted (λ i j le. taken D old new le rule i j)) put.ok;
       slot_rule = on_ok_weaker r (λ _. rule) put.ok;
-      capacity = granted_no_less _ _ old new granted;
-      same_room = granted.1;
-      fits = fits;
+      keeps = keeps_granted _ _ old new granted fits;
       inline_capacity = c.len-len.ensures.inline_capacity;
       succeeds = λ room all. put.succeeds (rw c.as_slice.ensures all);
       refused = on_err_weaker r (λ h.
           let below : h.0 < length xs = rw c.as_slice.ensures at h.1.0 in
           let early : h.0 ≤ m = omega (arith, below, is_len.value, is_count, le, h.1.0) in
           inr (
-            granted,
+            granted.0,
+            granted.2,
             partly_over D g.A.Item.Clone.is_infallible C xs old new m h.0 early (rw c.as_slice.ensures at h.1) (rw (c.as_slice.ensures, cut) at h.2)
                 (cut_freed D old left new m put.frame trimmed.place trimmed.slot_rule cut within),
           )) put.refused;
@@ -71,9 +70,7 @@ returns-in_err-reserve g c =
       items = never_ok _ answer err;
       room = never_ok _ answer err;
       slot_rule = never_ok _ answer err;
-      capacity = grown.capacity;
-      same_room = λ fits. grown.same_room (omega (arith, fits));
-      fits = grown.fits;
+      keeps = record { capacity = grown.keeps.capacity; same_room = λ fits. grown.keeps.same_room (omega (arith, fits)); fits = grown.keeps.fits };
       inline_capacity = c.len-len.ensures.inline_capacity;
       succeeds = λ fits _. absurd (false≢true (grown.succeeds (omega (arith, fits))));
       refused = on_err answer (inl (omega (arith, grown.full), grown.refused));
@@ -112,13 +109,12 @@ returns-in_err-overwrite g c =
       items = never_ok _ answer err;
       room = never_ok _ answer err;
       slot_rule = never_ok _ answer err;
-      capacity = granted_no_less _ _ old new granted;
-      same_room = granted.1;
-      fits = omega (arith, c.reserve.ensures.room.fits, frame.len, frame.capacity);
+      keeps = keeps_granted _ _ old new granted (omega (arith, c.reserve.ensures.room.keeps.fits, frame.len, frame.capacity));
       inline_capacity = c.len-len.ensures.inline_capacity;
       succeeds = λ fits sure. absurd (false≢true (c.in_err-overwrite.ensures.succeeds (rw c.as_slice-2.ensures (All-take I n xs sure))));
       refused = on_err answer (inr (
-        granted,
+        granted.0,
+        granted.2,
         partly_over D I g.A.Item.Clone.is_clone xs old new m h.0 (omega arith) (refused_in_front I xs n h.0 h.1) (rw (take-take h.0 n xs early, c.reserve.ensures.items ∙ sym all) at h.2)
             (λ i. none_freed D old new m long (frame.spare ∙ spare_kept old mid new (λ i. ap (tiny_view_of g.A.Slots) (c.reserve.ensures.stays i)) frame.place i)),
       ));
@@ -176,15 +172,14 @@ returns g c =
     let long = appends_len C over.items new.items _ items in
     slots_after_room D old mid new stays place (slots_taken D mid new _ (omega (arith, long, frame.len)) (spare ∙ ap (drop _) frame.spare))) in record {
       items = on_ok_weaker r (λ h. are_clones C xs new.items (appends_rest C over.items new.items xs c.as_slice-2.result.now source n c.as_slice-2.ensures c.as_slice-3.ensures c.in_ok-overwrite.ensures.ok h)) made.items;
-      room = room_granted _ _ old new r granted made.fits (on_ok_weaker r (λ rule i j le. taken D old new le rule i j) rule);
+      room = on_ok_weaker r (λ rule. gets_granted _ _ old new granted (λ i j le. taken D old new le rule i j)) rule;
       slot_rule = rule;
-      capacity = granted_no_less _ _ old new granted;
-      same_room = granted.1;
-      fits = made.fits;
+      keeps = keeps_granted _ _ old new granted made.fits;
       inline_capacity = c.len-len.ensures.inline_capacity;
       succeeds = λ fits all. let every : All I source = rw c.as_slice-3.ensures all in made.succeeds (All-take I (length source - n) (drop n source) (All-drop I n source every));
       refused = on_err_two r made.refused made.kept (λ h kept. inr (
-        granted,
+        granted.0,
+        granted.2,
         rw (← least) (partly_behind D I C xs old new n h.0 is_len (refused_behind I xs n h.0 (subst (λ l. RefusedAt I l h.0) others h.1)) (subst (AllZip C (take n xs)) (sym kept) first)
             (λ i. rw (others, frame.spare ∙ spare_kept old mid new stays place i) at h.2 i)),
       ));

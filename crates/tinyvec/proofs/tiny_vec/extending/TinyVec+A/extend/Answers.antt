@@ -20,5 +20,5 @@ returns-clause-items g c =
       ran = (it, ran.0, gives, ran.1, ran.2);
       listed = λ rest shows. (it, ran.0, gives, told_listed steps (λ e. e.item) (λ e. e.rest) r rest shows it ran.0 ran.1, ran.2);
       known = λ xs yields. told_known steps (λ e. e.item) (λ e. e.rest) r xs it (yields it gives) ran.0
-          (tiny_items_of g.A.Slots old) (tiny_items_of g.A.Slots new) (tiny_capacity_of g.A.Slots old) (tiny_capacity_of g.A.Slots new) ran.1 ran.2 made.grows.capacity made.fills.full;
+          (tiny_items_of g.A.Slots old) (tiny_items_of g.A.Slots new) (tiny_capacity_of g.A.Slots old) (tiny_capacity_of g.A.Slots new) ran.1 ran.2 made.grows.keeps.capacity made.fills.full;
     }

@@ -17,7 +17,7 @@ returns-in-Inline g c =
     rw c.in-Inline.is
     (let made = extended_in_room g.A.Item.Clone _ _ _ _
     (inline_clones g.A.Item.Clone _ _ (view_of g.A.Slots v) (view_of g.A.Slots c.extend_from_slice.new.self) c.extend_from_slice.ensures.clones c.extend_from_slice.ensures.lender.slot_count) room in
-    record { inline_capacity = λ _. g.met.A.Array.counted _ c.capacity.ensures.slot_count; clones = made.clones; room = made.room; capacity = made.capacity; same_room = made.same_room; fits = made.fits; succeeds = made.succeeds; refused = made.refused })
+    record { inline_capacity = λ _. g.met.A.Array.counted _ c.capacity.ensures.slot_count; clones = made.clones; room = made.room; keeps = made.keeps; succeeds = made.succeeds; refused = made.refused })
 
 pub push_many_clones-requires : goal.push_many_clones-requires
 push_many_clones-requires g c = record { room = omega arith }
@@ -29,7 +29,7 @@ returns-in-Heap g c =
     rw c.in-Heap.is
     (let made = extended_in_room g.A.Item.Clone _ _ _ _
     (heap_clones g.A.Item.Clone _ _ v c.push_many_clones.new.heap c.push_many_clones.ensures) room in
-    record { inline_capacity = λ i. absurd (false≢true i); clones = made.clones; room = made.room; capacity = made.capacity; same_room = made.same_room; fits = made.fits; succeeds = made.succeeds; refused = made.refused })
+    record { inline_capacity = λ i. absurd (false≢true i); clones = made.clones; room = made.room; keeps = made.keeps; succeeds = made.succeeds; refused = made.refused })
 
 -- a list that had no room is as it was before it grows
 before : (g : _) (c : In_default g) → (c.in_default.self ≡ c.args.self.now) × (IsInline c.args.self.now → tiny_capacity_of g.A.Slots c.args.self.now ≡ g.A.Array.CAPACITY)
@@ -43,7 +43,7 @@ returns-in_err-grow-in_default g c =
     let known = before g (goal.at.returns-in_err-grow-in_default g c).In_default in
     let made = extended_refused g.A.Item.Clone _ _ (tiny_view_of g.A.Slots c.args.self.now) _ _ _ refl c.from_residual.ensures.0
     (rw known.0 at c.in_err-grow-in_default.ensures.room) in
-    record { inline_capacity = known.1; clones = made.clones; room = made.room; capacity = made.capacity; same_room = made.same_room; fits = made.fits; succeeds = made.succeeds; refused = made.refused }
+    record { inline_capacity = known.1; clones = made.clones; room = made.room; keeps = made.keeps; succeeds = made.succeeds; refused = made.refused }
 
 pub extend_reserved-requires : goal.extend_reserved-requires
 extend_reserved-requires g c = record { room = omega (arith, ap length c.grow.ensures.items, c.in_ok-grow-in_default.ensures.enough) }
@@ -55,4 +55,4 @@ returns-in_ok-grow-in_default g c =
     let grown = c.in_ok-grow-in_default.ensures in
     let made = extended_grown g.A.Item.Clone _ _ (tiny_view_of g.A.Slots c.args.self.now) _ _ _ _ refl
     (rw known.0 at grown.items) (λ i. ap (tiny_view_of g.A.Slots) ((rw known.0 at grown.stays) i)) (rw known.0 at grown.room) c.extend_reserved.ensures in
-    record { inline_capacity = known.1; clones = made.clones; room = made.room; capacity = made.capacity; same_room = made.same_room; fits = made.fits; succeeds = made.succeeds; refused = made.refused }
+    record { inline_capacity = known.1; clones = made.clones; room = made.room; keeps = made.keeps; succeeds = made.succeeds; refused = made.refused }

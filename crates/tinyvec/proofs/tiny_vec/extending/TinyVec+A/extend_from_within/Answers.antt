@@ -34,7 +34,7 @@ pub returns-in_err-reserve : goal.returns-in_err-reserve
 returns-in_err-reserve g c =
     let made = extended_refused g.A.Item.Clone _ _ _ _ _ _ (sym (many g (goal.at.returns-in_err-reserve g c).After-resolve_range-part)) c.from_residual.ensures.0
     c.in_err-reserve.ensures.room in
-    record { clones = made.clones; room = made.room; capacity = made.capacity; same_room = made.same_room; fits = made.fits; succeeds = made.succeeds; refused = made.refused; inline_capacity = c.len.ensures.inline_capacity }
+    record { clones = made.clones; room = made.room; keeps = made.keeps; succeeds = made.succeeds; refused = made.refused; inline_capacity = c.len.ensures.inline_capacity }
 
 pub clone_reserved-requires : goal.clone_reserved-requires
 clone_reserved-requires g c =
@@ -57,4 +57,4 @@ returns g c =
     ≡ removed (tiny_items_of g.A.Slots c.args.self.now) (g.R.RangeBounds.start_bound c.args.range) (g.R.RangeBounds.end_bound c.args.range) =
     ap (λ l. slice_range l cut.start cut.end) grown.items ∙ part g at in
     let made = extended_grown g.A.Item.Clone _ _ _ _ _ _ _ (sym (many g at)) grown.items (λ i. ap (tiny_view_of g.A.Slots) (grown.stays i)) grown.room (rw same at c.clone_reserved.ensures) in
-    record { clones = made.clones; room = made.room; capacity = made.capacity; same_room = made.same_room; fits = made.fits; succeeds = made.succeeds; refused = made.refused; inline_capacity = c.len.ensures.inline_capacity }
+    record { clones = made.clones; room = made.room; keeps = made.keeps; succeeds = made.succeeds; refused = made.refused; inline_capacity = c.len.ensures.inline_capacity }

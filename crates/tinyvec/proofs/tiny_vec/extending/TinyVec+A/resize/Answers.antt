@@ -5,12 +5,12 @@ use Rattle.std.proofs.lemmas.Result.{on_ok_weaker, on_err_weaker}
 use Rattle.std.specs.Prelude.{OnOk}
 use Rattle.std.specs.List.{AppendsClones}
 use Rattle.tinyvec.specs.Refused.{ClonesInRoom}
-use Rattle.tinyvec.specs.Room.{MakesRoom}
+use Rattle.tinyvec.specs.Room.{GetsRoom}
 use Rattle.tinyvec.proofs.CloneLemmas.{appends_len}
 use Rattle.tinyvec.proofs.ExtendingLemmas.{extended_grown, copies_refused}
 use Rattle.tinyvec.specs.View.{PlaceRule}
 use Rattle.tinyvec.specs.TinyVec.{tiny_items_of, tiny_len_of, is_inline, tiny_view_of}
-use Rattle.tinyvec.proofs.TinyLemmas.{used_rule, on_ok_once, on_ok_two}
+use Rattle.tinyvec.proofs.TinyLemmas.{used_rule, on_ok_two}
 use Rattle.tinyvec.proofs.tiny_vec.extending.TinyVec+A.resize.Goals as goal
 
 pub returns : goal.returns
@@ -31,7 +31,7 @@ returns g c =
     let put = subst (λ k. ClonesInRoom g.A.Item.Clone (replicate k x) (tiny_view_of g.A.Slots mid) (tiny_view_of g.A.Slots new) r) missing c.fill_reserved.ensures.clones in
     let made = extended_grown g.A.Item.Clone xs r (tiny_view_of g.A.Slots old) (tiny_view_of g.A.Slots new) (c.args.new_len - c.len-len.result) (tiny_view_of g.A.Slots mid) _ (omega (arith, missing, length-replicate n x)) c.in-Ok.ensures.items (λ i. ap (tiny_view_of g.A.Slots) (c.in-Ok.ensures.stays i)) c.in-Ok.ensures.room put in
     let need : tiny_len_of g.A.Slots old + length xs ≡ c.args.new_len = omega (arith, len, longer, length-replicate n x) in
-    let room = subst (λ k. OnOk r (MakesRoom (is_inline old) k (tiny_view_of g.A.Slots old) (tiny_view_of g.A.Slots new) r)) need made.room in
+    let room = subst (λ k. OnOk r (GetsRoom (is_inline old) k (tiny_view_of g.A.Slots old) (tiny_view_of g.A.Slots new))) need made.room in
     let most : c.args.new_len ≡ max c.args.new_len (tiny_len_of g.A.Slots old) = omega (arith, len, longer) in
     let front : olds ≡ take c.args.new_len olds = sym (take_all c.args.new_len olds (omega (arith, len, longer))) in
     let items = subst (λ l. OnOk r (AppendsClones C l news xs)) front made.clones.items in record {
@@ -40,10 +40,8 @@ returns g c =
       if_clones_equal = on_ok_weaker r (λ h rule. h.1 ∙ ap (λ l. take c.args.new_len olds ++ l) (same_from_all_zip C xs h.0 h.2 rule)) items;
       room = room;
       slot_rule = on_ok_two r room made.clones.items (λ h added. used_rule g.A.Item.Default.is_default (tiny_view_of g.A.Slots old) (tiny_view_of g.A.Slots new) (omega (arith, appends_len C olds news xs added)) h.spare);
-      capacity = made.capacity;
-      same_room = rw need at made.same_room;
-      fits = made.fits;
-      place = on_ok_once _ r (on_ok_weaker r (λ h. subst (λ k. OnOk r (PlaceRule k (tiny_view_of g.A.Slots old) (tiny_view_of g.A.Slots new))) most h.place) room);
+      keeps = rw need at made.keeps;
+      place = on_ok_weaker r (λ h. subst (λ k. PlaceRule k (tiny_view_of g.A.Slots old) (tiny_view_of g.A.Slots new)) most h.place) room;
       cuts = λ less. absurd (omega (arith, less, len, longer));
       succeeds = λ _ sure. put.succeeds (All-replicate g.A.Item.Clone.is_infallible n x sure);
       value_returned = c.fill_reserved.ensures.value_returned;
