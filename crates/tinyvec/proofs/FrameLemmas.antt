@@ -17,7 +17,7 @@ use Rattle.tinyvec_array.specs.declared.slots.Slots as Storage
 use Rattle.tinyvec.specs.TinyVec.{tiny_view_of, tiny_items_of, tiny_len_of, tiny_spare_of, tiny_capacity_of, is_inline, IsInline}
 use Rattle.tinyvec.specs.declared.tiny_vec.TinyVec.{TinyVec}
 use Rattle.tinyvec.specs.declared.tiny_vec.TinyVec.TheVariants.{Inline, Heap}
-use Rattle.tinyvec.specs.Room.{KeepsRoom, GetsRoom, Grows, MakesRoom}
+use Rattle.tinyvec.specs.Room.{KeepsRoom, GetsRoom, GrowsByPushes, MakesRoom}
 use Rattle.tinyvec.proofs.TinyLemmas.{array_view, heap_view, slots_taken, taken, used_up, used_rule, UsesSpare, slots_after_room, tiny_slots_then}
 use Rattle.tinyvec.proofs.RefusedLemmas.{RoomGranted, granted_then, granted_before}
 use Rattle.tinyvec_array.proofs.ViewLemmas.{parts_of}
@@ -82,7 +82,7 @@ module _ {T : Type 0} (D : T → Type 0) where
 
   -- a list that grew, and then became no shorter in its place
   pub grows_stays : (u v w : TinyView T) → view_len u ≤ view_len v → view_len v ≤ view_len w
-      → Grows D u v → StaysInPlace D v w → Grows D u w
+      → GrowsByPushes D u v → StaysInPlace D v w → GrowsByPushes D u w
   grows_stays u v w le more h k =
       let same = k.capacity in
       let before : ViewInline w → ViewInline v = λ i. sym k.place ∙ i in record {
@@ -97,7 +97,7 @@ module _ {T : Type 0} (D : T → Type 0) where
 
   -- a list that grew and was full, and then took one more item
   pub grows_pushed : {X E : Type 0} (u v w : TinyView T) (x : X) → view_len u ≤ view_len v → view_len w ≡ view_len v + 1 → view_len v ≡ view_capacity v
-      → Grows D u v → MakesRoom {E = E} false (view_len v + 1) v w (Ok x) → Grows D u w
+      → GrowsByPushes D u v → MakesRoom {E = E} false (view_len v + 1) v w (Ok x) → GrowsByPushes D u w
   grows_pushed u v w x le one full h room = record {
     place = (
       λ i. absurd (omega (arith, (room.gets.place.0 i).1, full)),
@@ -117,7 +117,7 @@ module _ {T : Type 0} (D : T → Type 0) where
   }
 
   -- a list that grew, and fits the room that it had
-  pub grows_in_room : (v w : TinyView T) → view_len w ≤ view_capacity v → Grows D v w → StaysInPlace D v w
+  pub grows_in_room : (v w : TinyView T) → view_len w ≤ view_capacity v → GrowsByPushes D v w → StaysInPlace D v w
   grows_in_room v w le h = record { items = refl; place = same_side (view_inline v) (view_inline w) (view_len w ≤ view_capacity v) le h.place; slot_rule = h.slot_rule; capacity = h.keeps.same_room le; fits = h.keeps.fits }
 
 module _ {T : Type 0} (exact : Bool) (need : ℕ) (old new : TinyView T) where

@@ -8,7 +8,7 @@ use Rattle.std.proofs.lemmas.List.Elements.{All-drop, All-nil}
 use Rattle.tinyvec_slots.specs.Slots.{Slots, Vacates, SlotRule, items, items_len, spare}
 use Rattle.tinyvec_slots.proofs.SlotsLemmas.{slots_used, slots_freed, defaults_are, items-with_slot, spare-with_slot}
 use Rattle.tinyvec.specs.View.{in_array, on_heap, TinyView, view_len, view_inline, ViewInline, TinySlotRule, Unchanged, IsNew}
-use Rattle.tinyvec.specs.Room.{Grows, Collects}
+use Rattle.tinyvec.specs.Room.{GrowsByPushes, IsCollected}
 use Rattle.tinyvec_array.specs.ArrayVec.{view_of, items_of, slots_of}
 use Rattle.tinyvec_array.proofs.ViewLemmas.{view_of-at}
 use Rattle.tinyvec_array.specs.declared.slots.Slots as Storage
@@ -84,7 +84,7 @@ module _ {T : Type 0} (D : T → Type 0) where
   used_rule old new le spare i j = slots_taken old new (view_len new - view_len old) (omega (arith, le)) (spare i j le) i j
 
   -- what a new list collects item by item
-  pub collected : (slots : ℕ) (old new : TinyView T) → IsNew D slots old → Grows D old new → Collects D slots new.items new
+  pub collected : (slots : ℕ) (old new : TinyView T) → IsNew D slots old → GrowsByPushes D old new → IsCollected D slots new.items new
   collected slots old new made grows =
       let zero : view_len old ≡ 0 = ap length made.items in
       let first = made.capacity in

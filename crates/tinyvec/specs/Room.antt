@@ -28,7 +28,7 @@ module _ {T : Type 0} where
     pub grown : GrowsTo exact need old new
 
   -- a call that pushes item by item took `old` to `new`: the list moves only if it outgrows the array
-  pub record Grows (D : T → Type 0) (old new : TinyView T) : Type 0 where
+  pub record GrowsByPushes (D : T → Type 0) (old new : TinyView T) : Type 0 where
     pub place : PlaceRule (view_len new) old new
     pub slot_rule : TinySlotRule D old new
     pub keeps : KeepsRoom (view_len new) old new
@@ -43,7 +43,7 @@ module _ {T : Type 0} where
     pub exact : view_capacity v ≡ max n slots
 
   -- `v` is what collecting `xs` makes: inline if they fit the array, before defaults; on the heap it grew item by item
-  pub record Collects (D : T → Type 0) (slots : ℕ) (xs : List T) (v : TinyView T) : Type 0 where
+  pub record IsCollected (D : T → Type 0) (slots : ℕ) (xs : List T) (v : TinyView T) : Type 0 where
     pub items : v.items ≡ xs
     pub place : ViewInline v ↔ (length xs ≤ slots)
     pub inline_capacity : ViewInline v → view_capacity v ≡ slots

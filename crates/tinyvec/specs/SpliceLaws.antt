@@ -5,7 +5,7 @@ use Rattle.tinyvec_array.specs.declared.slots.Slots as Storage
 use Rattle.tinyvec.specs.View.{TinyView, view_len, view_inline, view_capacity, Becomes, StaysInPlace, SameFrame}
 use Rattle.tinyvec.specs.TinyVec.{tiny_view_of, tiny_items_of, tiny_len_of}
 use Rattle.tinyvec.specs.Lends.{tiny_with_items}
-use Rattle.tinyvec.specs.Room.{Grows, items_moved}
+use Rattle.tinyvec.specs.Room.{GrowsByPushes, items_moved}
 use Rattle.tinyvec.specs.FrameLaws.{FrameOf, SameFrame-refl, SameFrame-then, tiny_items-with, tiny_framed-with, tiny_slots_framed, tiny_slots_then_framed, place_kept}
 use Rattle.tinyvec.specs.declared.tiny_vec.TinyVec.{TinyVec}
 
@@ -41,7 +41,7 @@ module _ {T : Type 0} where
       fits = h.fits;
     }
 
-    pub frame_grows : (u v w x : TinyView T) → SameFrame u v → Grows D v w → SameFrame w x → Grows D u x
+    pub frame_grows : (u v w x : TinyView T) → SameFrame u v → GrowsByPushes D v w → SameFrame w x → GrowsByPushes D u x
     frame_grows u v w x k h j = record {
       place = rw (j.place, j.len, sym k.place, sym k.capacity) h.place;
       slot_rule = tiny_slots_then_framed D u w x (tiny_slots_framed D u v w k h.slot_rule) j;
@@ -53,7 +53,7 @@ module _ {T : Type 0} where
       grown = rw (j.len, j.capacity, sym k.capacity) h.grown;
     }
 
-    pub stays_grows : (v w : TinyView T) → StaysInPlace D v w → view_len w ≤ view_capacity w → Grows D v w
+    pub stays_grows : (v w : TinyView T) → StaysInPlace D v w → view_len w ≤ view_capacity w → GrowsByPushes D v w
     stays_grows v w h fits = record {
       place = place_kept (view_len w) v w h.place (let c = h.capacity in omega arith);
       slot_rule = h.slot_rule;
@@ -61,6 +61,6 @@ module _ {T : Type 0} where
       grown = λ more. absurd (let c = h.capacity in omega (arith, c, more));
     }
 
-    pub stays : (slots : ℕ) (v w : TinyView T) → Grows D v w → view_len w ≤ view_capacity v
+    pub stays : (slots : ℕ) (v w : TinyView T) → GrowsByPushes D v w → view_len w ≤ view_capacity v
         → items_moved slots (view_inline v) (view_inline w) ≡ 0
     stays slots v w h fits = stays_in slots (view_inline v) (view_inline w) (λ was. h.place.1 (was, fits))

@@ -9,7 +9,7 @@ ghost use Rattle.tinyvec.specs.View.{TinySlotRule, StaysInPlace, Becomes, Unchan
 ghost use Rattle.tinyvec_slots.specs.Filling.{IntoIterYields, ShowsItems};
 ghost use Rattle.tinyvec_slots.specs.Replacing.{PutsBetween};
 ghost use Rattle.tinyvec_slots.specs.AnySplice.{SpliceBegins};
-ghost use Rattle.tinyvec.specs.Room.{KeepsRoom, GetsRoom, Grows};
+ghost use Rattle.tinyvec.specs.Room.{KeepsRoom, GetsRoom, GrowsByPushes};
 ghost use Rattle.tinyvec.specs.Room.{items_moved};
 
 use crate::TinyVec;
@@ -74,7 +74,7 @@ impl<A: Array> TinyVec<A> {
 
         // It refuses none while there is room.
         ensures full { OnErr result (tiny_len_of A.Slots self.new ≡ tiny_capacity_of A.Slots self.new) }
-        ensures grows { Grows A.Item.is_default (tiny_view_of A.Slots self.old)
+        ensures grows { GrowsByPushes A.Item.is_default (tiny_view_of A.Slots self.old)
             (tiny_view_of A.Slots self.new) }
         ensures no_shorter { OnErr result (tiny_len_of A.Slots self.old ≤ tiny_len_of A.Slots self.new) }
 
@@ -165,7 +165,7 @@ impl<A: Array> CanSplice for TinyVec<A> {
 
     ghost splice_word = { codes "TinyVecSplice" };
 
-    ghost Grown = { λ v w. Grows A.Item.is_default (tiny_view_of A.Slots v) (tiny_view_of A.Slots w) };
+    ghost Grown = { λ v w. GrowsByPushes A.Item.is_default (tiny_view_of A.Slots v) (tiny_view_of A.Slots w) };
 
     fn splice_name() -> &'static str {
         "TinyVecSplice"

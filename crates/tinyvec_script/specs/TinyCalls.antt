@@ -3,7 +3,7 @@ use Rattle.std.specs.Prelude.{◌≡◌, ℕ, ◌+◌, ◌-◌, ◌<◌, ◌≤�
 use Rattle.std.specs.List.{swap_remove}
 use Rattle.tinyvec_slots.specs.Slots.{AreDefaults}
 use Rattle.tinyvec.specs.View.{TinyView, lies_inline, view_len, view_inline, view_capacity, ViewInline, Becomes}
-use Rattle.tinyvec.specs.Room.{Grows, MakesRoom}
+use Rattle.tinyvec.specs.Room.{GrowsByPushes, MakesRoom}
 use Rattle.std.specs.declared.alloc.AllocError.{AllocError}
 use Rattle.tinyvec_script.specs.Driving.{IsRange, ListDrains, DrivenSplices, SpliceAnswers}
 use Rattle.tinyvec_script.specs.declared.call.Call.{Call}
@@ -58,7 +58,7 @@ module _ {T : Type 0} (D : T → Type 0) (slots : ℕ) where
   TinyAnswers old (Splice start end word replacement) answers.Range new = (IsRange old.items start end → ⊥) × (new ≡ old)
   TinyAnswers old (Splice start end word replacement) answer new = IsRange old.items start end
       × SpliceAnswers (view_capacity new) (view_len old) start end replacement.items (new ≡ old)
-      (λ yields rest. DrivenSplices (λ v. v.items) (Grows D) (view_capacity new) old start end word.items replacement.items yields rest new)
+      (λ yields rest. DrivenSplices (λ v. v.items) (GrowsByPushes D) (view_capacity new) old start end word.items replacement.items yields rest new)
       answer
   TinyAnswers old (Reserve n) answers.Done new = (new.items ≡ old.items) × (view_len old + n ≤ view_capacity new)
       × NeedsRoom (view_inline old) (view_len old + n) old new

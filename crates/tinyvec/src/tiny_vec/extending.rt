@@ -5,9 +5,9 @@ ghost use Rattle.tinyvec_slots.specs.Clones.{ClonesAreEqual, AppendsAllOrNone};
 ghost use Rattle.tinyvec.specs.TinyVec.{tiny_items_of, tiny_len_of, tiny_capacity_of, is_inline, IsInline, tiny_view_of};
 ghost use Rattle.tinyvec.specs.View.{PlaceRule, TinySlotRule, StaysInPlace, Becomes};
 ghost use Rattle.tinyvec.specs.Refused.{RefusedFor, ClonesBehind, ClonesInRoom, ClonesRefused};
-ghost use Rattle.tinyvec.specs.Room.{KeepsRoom, GetsRoom, MakesRoom, Grows, Collects};
+ghost use Rattle.tinyvec.specs.Room.{KeepsRoom, GetsRoom, MakesRoom, GrowsByPushes, IsCollected};
 ghost use Rattle.tinyvec_slots.specs.Slots.{AreDefaults};
-ghost use Rattle.tinyvec_array.specs.ArrayVec.{items_of, slots_of, Grows as GrowsInSlots};
+ghost use Rattle.tinyvec_array.specs.ArrayVec.{items_of, slots_of, Grows};
 ghost use Rattle.std.specs.Iterator.{IsFinite, Drains, YieldsThen, size};
 ghost use Rattle.tinyvec_slots.specs.Ranges.{IsRangeOf, removed};
 ghost use Rattle.tinyvec_slots.specs.Filling.{ShowsItems, IntoIterYields, AppendsResultsTo};
@@ -226,7 +226,7 @@ impl<A: Array> TinyVec<A> {
             → I.IntoIter.can_next it × IsFinite (I.IntoIter.remaining it) }
         ensures items { PushesItems I.into_iter_gives I.IntoIter.next_gives iter (tiny_capacity_of A.Slots self.old)
             result (tiny_items_of A.Slots self.old) (tiny_items_of A.Slots self.new) }
-        ensures grows { Grows A.Item.is_default (tiny_view_of A.Slots self.old)
+        ensures grows { GrowsByPushes A.Item.is_default (tiny_view_of A.Slots self.old)
             (tiny_view_of A.Slots self.new) }
 
         // It fails only if there is no room.
@@ -294,7 +294,7 @@ impl<A: Array> TinyVec<A> {
         requires { I.can_next iter × IsFinite (I.remaining iter) }
         ensures fills { FillsRoom I.Iterator iter (tiny_capacity_of A.Slots self.new) result
             (tiny_items_of A.Slots self.old) (tiny_items_of A.Slots self.new) }
-        ensures grows { Grows A.Item.is_default (tiny_view_of A.Slots self.old)
+        ensures grows { GrowsByPushes A.Item.is_default (tiny_view_of A.Slots self.old)
             (tiny_view_of A.Slots self.new) }
         ensures inline_capacity { IsInline self.old → tiny_capacity_of A.Slots self.old ≡ A.CAPACITY }
     {
@@ -338,12 +338,12 @@ impl<A: Array> TinyVec<A> {
             × MatchResult result (λ v. Drains I.IntoIter.next_gives it xs × (tiny_items_of A.Slots v ≡ xs))
             (λ refused. YieldsThen I.IntoIter.next_gives it xs (Some refused.item) refused.rest
             × (tiny_items_of A.Slots refused.vec ≡ xs)) }
-        ensures collected { IfOk result (λ v. Collects A.Item.is_default A.CAPACITY (tiny_items_of A.Slots v)
+        ensures collected { IfOk result (λ v. IsCollected A.Item.is_default A.CAPACITY (tiny_items_of A.Slots v)
             (tiny_view_of A.Slots v)) }
 
         // What a failure returns is collected in the same way.
         ensures collected_so_far { IfErr result (λ refused.
-            Collects A.Item.is_default A.CAPACITY (tiny_items_of A.Slots refused.vec)
+            IsCollected A.Item.is_default A.CAPACITY (tiny_items_of A.Slots refused.vec)
             (tiny_view_of A.Slots refused.vec)) }
 
         // It fails only if there is no room.
@@ -558,7 +558,7 @@ fn fill_array<A: Array, I: Iterator<Item = A::Item>>(
     requires { I.can_next iter × IsFinite (I.remaining iter) }
     ensures fills { FillsRoom I.Iterator iter (length (slots_of A.Slots vec.new)) result (items_of A.Slots vec.old)
         (items_of A.Slots vec.new) }
-    ensures grows { GrowsInSlots A.Slots vec.old vec.new }
+    ensures grows { Grows A.Slots vec.old vec.new }
     ensures slot_count { length (slots_of A.Slots vec.old) ≡ A.CAPACITY }
 {
     let len = vec.len();

@@ -16,7 +16,7 @@ ghost use Rattle.std.specs.Io.{WritesAtMost};
 ghost use Rattle.std.specs.IoError.{error_kind};
 ghost use Rattle.std.specs.declared.io.ErrorKind.TheVariants.{OutOfMemory};
 ghost use Rattle.std.specs.Io.KnownBytes.{Keeps, WriteAppends};
-ghost use Rattle.tinyvec.specs.Room.{MakesRoom, Grows, Collects};
+ghost use Rattle.tinyvec.specs.Room.{MakesRoom, GrowsByPushes, IsCollected};
 ghost use Rattle.std.specs.Hash as fed;
 
 use crate::{TinyVec, TinyVecIterator};
@@ -149,7 +149,7 @@ impl<A: Array> IntoIterator for TinyVec<A> {
 impl<A: Array> FromIterator<A::Item> for TinyVec<A> {
     type Alloc = Global;
 
-    ghost from_iter_gives = { λ xs v. Collects A.Item.is_default A.CAPACITY xs (tiny_view_of A.Slots v) };
+    ghost from_iter_gives = { λ xs v. IsCollected A.Item.is_default A.CAPACITY xs (tiny_view_of A.Slots v) };
 
     /// `TinyVec::from_iter`, which drops what a refusal leaves: for `collect`.
     fn from_iter<I: IntoIterator<Item = A::Item>>(
@@ -159,13 +159,13 @@ impl<A: Array> FromIterator<A::Item> for TinyVec<A> {
         requires { (it : I.IntoIter) → I.into_iter_gives iter it
             → I.IntoIter.can_next it × IsFinite (I.IntoIter.remaining it) × HoldsAlong I.IntoIter.next_gives it (λ _. ⊤) }
         ensures ran { IfOk result (λ v. (it : I.IntoIter) × (xs : List A.Item) × I.into_iter_gives iter it
-            × DrainsIf I.IntoIter.next_gives ⊤ it xs × Collects A.Item.is_default A.CAPACITY xs
+            × DrainsIf I.IntoIter.next_gives ⊤ it xs × IsCollected A.Item.is_default A.CAPACITY xs
             (tiny_view_of A.Slots v)) }
 
         // It fails only at an item for which the vector made of those before it has no room, in the array or on the heap.
         ensures full { OnErr result ((it : I.IntoIter) × (xs : List A.Item) × (x : A.Item) × (rest : I.IntoIter)
             × (made : TinyView A.Item) × I.into_iter_gives iter it × YieldsThen I.IntoIter.next_gives it xs (Some x) rest
-            × (A.CAPACITY ≤ length xs) × Collects A.Item.is_default A.CAPACITY xs made
+            × (A.CAPACITY ≤ length xs) × IsCollected A.Item.is_default A.CAPACITY xs made
             × (length xs ≡ view_capacity made)) }
 
         // If known items fit the array, it allocates nothing.
@@ -181,7 +181,7 @@ impl<A: Array> FromIterator<A::Item> for TinyVec<A> {
 
 impl<A: Array> Extend<A::Item> for TinyVec<A> {
     ghost extend_gives = { λ v xs w. (tiny_items_of A.Slots w ≡ tiny_items_of A.Slots v ++ xs)
-        × Grows A.Item.is_default (tiny_view_of A.Slots v) (tiny_view_of A.Slots w) };
+        × GrowsByPushes A.Item.is_default (tiny_view_of A.Slots v) (tiny_view_of A.Slots w) };
 
     /// `TinyVec::extend`, which drops what found no room and the rest of the iterator: for `try_collect` and `partition`.
     fn extend<I: IntoIterator<Item = A::Item>>(&mut self, iter: I) -> Result<(), AllocError>
@@ -189,7 +189,7 @@ impl<A: Array> Extend<A::Item> for TinyVec<A> {
             → I.IntoIter.can_next it × IsFinite (I.IntoIter.remaining it) × HoldsAlong I.IntoIter.next_gives it (λ _. ⊤) }
         ensures ran { ExtendsWithItems I.into_iter_gives I.IntoIter.next_gives
             (λ v xs w. (tiny_items_of A.Slots w ≡ tiny_items_of A.Slots v ++ xs)
-            × Grows A.Item.is_default (tiny_view_of A.Slots v) (tiny_view_of A.Slots w))
+            × GrowsByPushes A.Item.is_default (tiny_view_of A.Slots v) (tiny_view_of A.Slots w))
             iter self.old self.new result }
 
         // It fails only if there is no room.

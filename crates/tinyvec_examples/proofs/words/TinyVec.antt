@@ -9,7 +9,7 @@ use Rattle.tinyvec.specs.declared.tiny_vec.TinyVec.{TinyVec}
 use Rattle.tinyvec.specs.declared.tiny_vec.TinyVec.TheVariants.{Inline}
 use Rattle.tinyvec.specs.TinyVec.{tiny_items, tiny_items_of, tiny_len_of, tiny_spare, tiny_spare_of, is_inline, IsInline, tiny_capacity, tiny_capacity_of, tiny_allocator, tiny_view, tiny_view_of}
 use Rattle.tinyvec.specs.View.{TinyView, view_capacity, HoldsInline, IsNew, SameFrame, Becomes, StaysInPlace, ShortensInPlace, IsTail, Unchanged, IsTinyClone, IsTinyInfallible, PlaceRule, TinySlotRule, in_array}
-use Rattle.tinyvec.specs.Room.{Collects, KeepsRoom, GetsRoom, GrowsTo, Grows, MadeFor, MakesRoom, MovesToHeap}
+use Rattle.tinyvec.specs.Room.{IsCollected, KeepsRoom, GetsRoom, GrowsTo, GrowsByPushes, MadeFor, MakesRoom, MovesToHeap}
 use Rattle.tinyvec.specs.Refused.{RefusedFor, ClonesBehind, ClonesRefused}
 use Rattle.tinyvec.specs.Following.{PushesItems}
 use Rattle.tinyvec_slots.specs.Filling.{IntoIterYields}
@@ -131,8 +131,8 @@ module _ (alloc : Global) where
       × MakesRoom false 2 (tiny_view (inline (1 ∷ []) (7 ∷ 8 ∷ 0 ∷ []))) (tiny_view (inline (1 ∷ 5 ∷ []) (8 ∷ 0 ∷ []))) done
   example-lends_added = (refl, search rules)
 
-  pub example-Grows : Grows D (tiny_view (inline (1 ∷ []) (7 ∷ 8 ∷ 0 ∷ []))) (tiny_view (inline (1 ∷ 5 ∷ []) (8 ∷ 0 ∷ [])))
-  example-Grows = search rules
+  pub example-GrowsByPushes : GrowsByPushes D (tiny_view (inline (1 ∷ []) (7 ∷ 8 ∷ 0 ∷ []))) (tiny_view (inline (1 ∷ 5 ∷ []) (8 ∷ 0 ∷ [])))
+  example-GrowsByPushes = search rules
 
   pub example-MakesRoom : MakesRoom false 2 (tiny_view (inline (1 ∷ []) (7 ∷ 8 ∷ 0 ∷ []))) (tiny_view (inline (1 ∷ 5 ∷ []) (8 ∷ 0 ∷ []))) done
   example-MakesRoom = search rules
@@ -186,8 +186,8 @@ module _ (alloc : Global) where
   pub example-IsTinyInfallible : IsTinyInfallible I (tiny_view (inline (1 ∷ []) (0 ∷ 0 ∷ 0 ∷ [])))
   example-IsTinyInfallible = search rules
 
-  pub example-Collects : Collects D 4 (1 ∷ []) (tiny_view (inline (1 ∷ []) (0 ∷ 0 ∷ 0 ∷ [])))
-  example-Collects = search rules
+  pub example-IsCollected : IsCollected D 4 (1 ∷ []) (tiny_view (inline (1 ∷ []) (0 ∷ 0 ∷ 0 ∷ [])))
+  example-IsCollected = search rules
 
 pub example-PushesItems : (becomes : List ℕ → List ℕ → Type 0) (steps : List ℕ → Option ℕ → List ℕ → Type 0) (r : Result Unit (NoRoom ℕ (List ℕ))) (new : List ℕ)
     → IntoIterYields becomes steps (5 ∷ []) (5 ∷ []) → PushesItems becomes steps (5 ∷ []) 4 r (1 ∷ []) new → new ≡ 1 ∷ 5 ∷ []

@@ -2,7 +2,7 @@ use Rattle.std.proofs.Common.{◌≤◌, refl, arith}
 use Rattle.std.proofs.lemmas.Grind.{common_steps}
 use Rattle.std.proofs.lemmas.Option.{slice_get_read}
 use Rattle.tinyvec.specs.TinyVec.{tiny_view_of, tiny_items_of, tiny_len_of, tiny_capacity_of}
-use Rattle.tinyvec.specs.Room.{Grows}
+use Rattle.tinyvec.specs.Room.{GrowsByPushes}
 use Rattle.tinyvec_script.specs.Driving.{DrivenSplices}
 use Rattle.tinyvec_script.specs.TinyCalls.{TinyAnswers}
 use Rattle.tinyvec_script.specs.declared.call.Call.TheVariants.{Splice}
@@ -24,11 +24,11 @@ returns-in-Ok-drive_splice-clause-answered g c =
     let answered = c.answer_driven.ensures in
     let driven = c.in-Ok-drive_splice.driven in
     let made = rw c.as_slice.ensures.value at c.in-Ok-drive_splice.ensures.splices in
-    let did : DrivenSplices (λ v. v.items) (Grows D) (tiny_capacity_of g.A.Slots new) (tiny_view_of g.A.Slots old) start end word.items replacement.items driven.yields.items driven.rest.items
+    let did : DrivenSplices (λ v. v.items) (GrowsByPushes D) (tiny_capacity_of g.A.Slots new) (tiny_view_of g.A.Slots old) start end word.items replacement.items driven.yields.items driven.rest.items
     (tiny_view_of g.A.Slots new) = record { list = made.list; grown = made.grown; no_shorter = made.no_shorter } in
     rw c.in-Splice.is (splice_answers (tiny_capacity_of g.A.Slots new) (tiny_items_of g.A.Slots old) (tiny_items_of g.A.Slots new) start end word.items replacement.items driven.yields driven.rest
     c.answer_driven.result in_order in_list answered.items answered.spliced did.list
-    (λ yields rest. DrivenSplices (λ v. v.items) (Grows D) (tiny_capacity_of g.A.Slots new) (tiny_view_of g.A.Slots old) start end word.items replacement.items yields rest (tiny_view_of g.A.Slots new)) did
+    (λ yields rest. DrivenSplices (λ v. v.items) (GrowsByPushes D) (tiny_capacity_of g.A.Slots new) (tiny_view_of g.A.Slots old) start end word.items replacement.items yields rest (tiny_view_of g.A.Slots new)) did
     (λ answer. TinyAnswers D slots (tiny_view_of g.A.Slots old) (Splice start end word replacement) answer (tiny_view_of g.A.Slots new))
     (λ fits all. ((in_order, in_list), (fits, all))) (λ over some. ((in_order, in_list), (over, some))))
 

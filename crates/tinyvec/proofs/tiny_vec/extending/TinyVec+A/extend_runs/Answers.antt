@@ -3,7 +3,7 @@ use Rattle.std.proofs.iter.Next.{Yields-more}
 use Rattle.std.proofs.lemmas.List.{length_push}
 use Rattle.std.specs.Iterator.{Yields}
 use Rattle.tinyvec.specs.View.{view_len, view_capacity}
-use Rattle.tinyvec.specs.Room.{Grows}
+use Rattle.tinyvec.specs.Room.{GrowsByPushes}
 use Rattle.tinyvec.specs.Following.{FillsRoom}
 use Rattle.tinyvec.specs.SpliceLaws.{stays_grows}
 use Rattle.tinyvec.proofs.FillingLemmas.{runs_on, no_fewer}
@@ -48,7 +48,7 @@ returns-in-Ok-clause-fills g c =
     runs_on g.I.Iterator c.args.iter at.items _ _ (tiny_items_of g.A.Slots c.args.self.now) (tiny_items_of g.A.Slots at.self) _ placed.0 placed.1 placed.2 at.invariant.no_longer c.in-Ok.ensures.fills
 
 -- what a run leaves of place and room
-filled : (g : _) (c : After-fill_room g) → Grows g.A.Item.Default.is_default (tiny_view_of g.A.Slots c.args.self.now) (tiny_view_of g.A.Slots c.fill_room.new.self)
+filled : (g : _) (c : After-fill_room g) → GrowsByPushes g.A.Item.Default.is_default (tiny_view_of g.A.Slots c.args.self.now) (tiny_view_of g.A.Slots c.fill_room.new.self)
 filled g c =
     let at = c.loop-item in
     let run = c.fill_room.ensures in
@@ -99,6 +99,6 @@ returns-in-Err-push-clause-fills g c =
 
 pub returns-in-Err-push-clause-grows : goal.returns-in-Err-push-clause-grows
 returns-in-Err-push-clause-grows g c =
-    subst (Grows g.A.Item.Default.is_default (tiny_view_of g.A.Slots c.args.self.now))
+    subst (GrowsByPushes g.A.Item.Default.is_default (tiny_view_of g.A.Slots c.args.self.now))
     (sym (view_unchanged (tiny_view_of g.A.Slots c.fill_room.new.self) (tiny_view_of g.A.Slots c.push.new.self) c.in-Err-push.ensures.room.refused))
     (filled g (goal.at.returns-in-Err-push-clause-grows g c).After-fill_room)
