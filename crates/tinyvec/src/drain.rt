@@ -61,8 +61,7 @@ impl<A: Array> TinyVec<A> {
         requires room { vec_len out.old
             + length (removed (tiny_items_of A.Slots self.old) (R.start_bound range) (R.end_bound range))
             ≤ vec_capacity out.old }
-        ensures becomes { Becomes A.Item.is_default (tiny_view_of A.Slots self.old)
-            (tiny_view_of A.Slots self.new)
+        ensures becomes { Becomes A.Item.is_default (tiny_view_of A.Slots self.old) (tiny_view_of A.Slots self.new)
             (before (tiny_items_of A.Slots self.old) (R.start_bound range) ++ after
             (tiny_items_of A.Slots self.old) (R.end_bound range)) }
         ensures moved { out.new.items

@@ -74,8 +74,7 @@ impl<A: Array> TinyVec<A> {
 
         // It refuses none while there is room.
         ensures full { OnErr result (tiny_len_of A.Slots self.new ≡ tiny_capacity_of A.Slots self.new) }
-        ensures grows { GrowsByPushes A.Item.is_default (tiny_view_of A.Slots self.old)
-            (tiny_view_of A.Slots self.new) }
+        ensures grows { GrowsByPushes A.Item.is_default (tiny_view_of A.Slots self.old) (tiny_view_of A.Slots self.new) }
         ensures no_shorter { OnErr result (tiny_len_of A.Slots self.old ≤ tiny_len_of A.Slots self.new) }
 
         // The returned iterator can be iterated further.
@@ -199,8 +198,7 @@ impl<A: Array> CanSplice for TinyVec<A> {
     ghost kept_moved = { λ u v w x. frame_moved A.CAPACITY (tiny_view_of A.Slots u) (tiny_view_of A.Slots v)
         (tiny_view_of A.Slots w) (tiny_view_of A.Slots x) };
 
-    ghost cut_grown = { λ v w. stays_grows A.Item.is_default (tiny_view_of A.Slots v)
-        (tiny_view_of A.Slots w) };
+    ghost cut_grown = { λ v w. stays_grows A.Item.is_default (tiny_view_of A.Slots v) (tiny_view_of A.Slots w) };
 
     ghost grown_room = { λ v w h. h.keeps.capacity };
 
@@ -235,8 +233,7 @@ impl<A: Array> CanCut for TinyVec<A> {
 
     ghost Kept = { FrameOf A.Slots };
 
-    ghost Truncated = { λ v w. StaysInPlace A.Item.is_default (tiny_view_of A.Slots v)
-        (tiny_view_of A.Slots w) };
+    ghost Truncated = { λ v w. StaysInPlace A.Item.is_default (tiny_view_of A.Slots v) (tiny_view_of A.Slots w) };
 
     #[inline]
     fn as_slice(&self) -> &[A::Item] {

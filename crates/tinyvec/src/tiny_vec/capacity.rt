@@ -71,8 +71,7 @@ impl<A: Array> TinyVec<A> {
     // Moves an inline list to the heap, with room for `n` items more.
     fn leave_array(&mut self, n: usize) -> Result<(), AllocError>
         requires { IsInline self.old }
-        ensures moves { MovesToHeap n (tiny_view_of A.Slots self.old)
-            (tiny_view_of A.Slots self.new) result }
+        ensures moves { MovesToHeap n (tiny_view_of A.Slots self.old) (tiny_view_of A.Slots self.new) result }
         ensures kept { IsInline self.new → self.new ≡ self.old }
     {
         if let TinyVec::Inline(v, alloc) = self {
@@ -179,8 +178,7 @@ impl<A: Array> TinyVec<A> {
 
     /// Moves an inline list to the heap, and reserves room there for `additional` items more.
     pub fn move_to_the_heap_and_reserve(&mut self, additional: usize) -> Result<(), AllocError>
-        ensures moves { MovesToHeap additional (tiny_view_of A.Slots self.old)
-            (tiny_view_of A.Slots self.new) result }
+        ensures moves { MovesToHeap additional (tiny_view_of A.Slots self.old) (tiny_view_of A.Slots self.new) result }
         ensures kept { is_inline self.old ≡ false
             → tiny_len_of A.Slots self.old + additional ≤ tiny_capacity_of A.Slots self.old → self.new ≡ self.old }
     {
@@ -192,8 +190,7 @@ impl<A: Array> TinyVec<A> {
 
     /// The same as `move_to_the_heap_and_reserve`.
     pub fn try_move_to_the_heap_and_reserve(&mut self, additional: usize) -> Result<(), AllocError>
-        ensures moves { MovesToHeap additional (tiny_view_of A.Slots self.old)
-            (tiny_view_of A.Slots self.new) result }
+        ensures moves { MovesToHeap additional (tiny_view_of A.Slots self.old) (tiny_view_of A.Slots self.new) result }
         ensures kept { is_inline self.old ≡ false
             → tiny_len_of A.Slots self.old + additional ≤ tiny_capacity_of A.Slots self.old → self.new ≡ self.old }
     {

@@ -96,8 +96,7 @@ impl<A: Array> Clone for TinyVec<A>
 where
     A::Item: Clone,
 {
-    ghost is_clone = { λ v w. IsTinyClone A.Item.is_clone (tiny_view_of A.Slots v)
-        (tiny_view_of A.Slots w) };
+    ghost is_clone = { λ v w. IsTinyClone A.Item.is_clone (tiny_view_of A.Slots v) (tiny_view_of A.Slots w) };
 
     ghost is_infallible = { λ v. IsTinyInfallible A.Item.is_infallible (tiny_view_of A.Slots v) };
 

@@ -83,8 +83,7 @@ impl<A: Array> TinyVec<A> {
         ensures some { IfSome result (λ x. tiny_items_of A.Slots self.old ≡ tiny_items_of A.Slots self.new ++ x ∷ []) }
         ensures value { result ≡ slice_get (tiny_items_of A.Slots self.old) (tiny_len_of A.Slots self.old - 1) }
         ensures becomes { Becomes A.Item.is_default (tiny_view_of A.Slots self.old)
-            (tiny_view_of A.Slots self.new) (take (tiny_len_of A.Slots self.old - 1)
-            (tiny_items_of A.Slots self.old)) }
+            (tiny_view_of A.Slots self.new) (take (tiny_len_of A.Slots self.old - 1) (tiny_items_of A.Slots self.old)) }
     {
         match self {
             TinyVec::Inline(v, _) => v.pop(),
@@ -206,8 +205,7 @@ impl<A: Array> TinyVec<A> {
 
     /// Empties the list. Each vacated slot is reset to a default if the list is inline.
     pub fn clear(&mut self)
-        ensures { Becomes A.Item.is_default (tiny_view_of A.Slots self.old)
-            (tiny_view_of A.Slots self.new) [] }
+        ensures { Becomes A.Item.is_default (tiny_view_of A.Slots self.old) (tiny_view_of A.Slots self.new) [] }
     {
         match self {
             TinyVec::Inline(v, _) => {
@@ -226,8 +224,7 @@ impl<A: Array> TinyVec<A> {
     /// allocates nothing; one on the heap allocates room for those items.
     pub fn split_off(&mut self, at: usize) -> Result<Self, AllocError>
         requires { at ≤ tiny_len_of A.Slots self.old }
-        ensures becomes { Becomes A.Item.is_default (tiny_view_of A.Slots self.old)
-            (tiny_view_of A.Slots self.new)
+        ensures becomes { Becomes A.Item.is_default (tiny_view_of A.Slots self.old) (tiny_view_of A.Slots self.new)
             (if is_ok result then take at (tiny_items_of A.Slots self.old) else tiny_items_of A.Slots self.old) }
         ensures tail { IfOk result (λ v. IsTail A.Item.is_default A.CAPACITY at (tiny_view_of A.Slots self.old)
             (tiny_view_of A.Slots v)) }

@@ -84,12 +84,10 @@ impl<A: Array> TinyVec<A> {
             result (tiny_items_of A.Slots self.old) (tiny_items_of A.Slots self.new) }
         ensures room { OnOk result (GetsRoom (is_inline self.old)
             (tiny_len_of A.Slots self.old + length (removed (tiny_items_of A.Slots self.old) (R.start_bound range)
-            (R.end_bound range)))
-            (tiny_view_of A.Slots self.old) (tiny_view_of A.Slots self.new)) }
+            (R.end_bound range))) (tiny_view_of A.Slots self.old) (tiny_view_of A.Slots self.new)) }
         ensures keeps { KeepsRoom
             (tiny_len_of A.Slots self.old + length (removed (tiny_items_of A.Slots self.old) (R.start_bound range)
-            (R.end_bound range)))
-            (tiny_view_of A.Slots self.old) (tiny_view_of A.Slots self.new) }
+            (R.end_bound range))) (tiny_view_of A.Slots self.old) (tiny_view_of A.Slots self.new) }
 
         // If there is room only clones allocate.
         ensures succeeds { tiny_len_of A.Slots self.old
@@ -188,8 +186,7 @@ impl<A: Array> TinyVec<A> {
         requires { tiny_len_of A.Slots self.old + tiny_len_of A.Slots other.old ≤ tiny_capacity_of A.Slots self.old }
         ensures becomes { Becomes A.Item.is_default (tiny_view_of A.Slots self.old)
             (tiny_view_of A.Slots self.new) (tiny_items_of A.Slots self.old ++ tiny_items_of A.Slots other.old) }
-        ensures other { Becomes A.Item.is_default (tiny_view_of A.Slots other.old)
-            (tiny_view_of A.Slots other.new) [] }
+        ensures other { Becomes A.Item.is_default (tiny_view_of A.Slots other.old) (tiny_view_of A.Slots other.new) [] }
     {
         self.append_slots(other.as_mut_slice());
         other.clear();
@@ -200,11 +197,9 @@ impl<A: Array> TinyVec<A> {
     pub fn append(&mut self, other: &mut Self) -> Result<(), AllocError>
         ensures items { OnOk result (tiny_items_of A.Slots self.new ≡ tiny_items_of A.Slots self.old
             ++ tiny_items_of A.Slots other.old) }
-        ensures room { MakesRoom (is_inline self.old)
-            (tiny_len_of A.Slots self.old + tiny_len_of A.Slots other.old)
+        ensures room { MakesRoom (is_inline self.old) (tiny_len_of A.Slots self.old + tiny_len_of A.Slots other.old)
             (tiny_view_of A.Slots self.old) (tiny_view_of A.Slots self.new) result }
-        ensures other { Becomes A.Item.is_default (tiny_view_of A.Slots other.old)
-            (tiny_view_of A.Slots other.new)
+        ensures other { Becomes A.Item.is_default (tiny_view_of A.Slots other.old) (tiny_view_of A.Slots other.new)
             (if is_ok result then [] else tiny_items_of A.Slots other.old) }
         ensures other_kept { OnErr result (other.new ≡ other.old) }
         ensures inline_capacity { IsInline self.old → tiny_capacity_of A.Slots self.old ≡ A.CAPACITY }
@@ -226,8 +221,7 @@ impl<A: Array> TinyVec<A> {
             → I.IntoIter.can_next it × IsFinite (I.IntoIter.remaining it) }
         ensures items { PushesItems I.into_iter_gives I.IntoIter.next_gives iter (tiny_capacity_of A.Slots self.old)
             result (tiny_items_of A.Slots self.old) (tiny_items_of A.Slots self.new) }
-        ensures grows { GrowsByPushes A.Item.is_default (tiny_view_of A.Slots self.old)
-            (tiny_view_of A.Slots self.new) }
+        ensures grows { GrowsByPushes A.Item.is_default (tiny_view_of A.Slots self.old) (tiny_view_of A.Slots self.new) }
 
         // It fails only if there is no room.
         ensures full { OnErr result (tiny_len_of A.Slots self.new ≡ tiny_capacity_of A.Slots self.new) }
@@ -254,10 +248,8 @@ impl<A: Array> TinyVec<A> {
         ensures ran { (it : I.IntoIter) × I.into_iter_gives iter it
             × MatchResult result (λ _. (xs : List A.Item) × Drains I.IntoIter.next_gives it xs
             × (length xs ≤ size (I.IntoIter.remaining it)) × (tiny_items_of A.Slots self.new
-            ≡ tiny_items_of A.Slots self.old ++ xs))
-            (λ refused. refused.0 ≡ it)
-            × MakesRoom (is_inline self.old) (tiny_len_of A.Slots self.old + size
-            (I.IntoIter.remaining it))
+            ≡ tiny_items_of A.Slots self.old ++ xs)) (λ refused. refused.0 ≡ it)
+            × MakesRoom (is_inline self.old) (tiny_len_of A.Slots self.old + size (I.IntoIter.remaining it))
             (tiny_view_of A.Slots self.old) (tiny_view_of A.Slots self.new) result }
 
         // For an iterator of which `rest` shows the remaining items.
@@ -294,8 +286,7 @@ impl<A: Array> TinyVec<A> {
         requires { I.can_next iter × IsFinite (I.remaining iter) }
         ensures fills { FillsRoom I.Iterator iter (tiny_capacity_of A.Slots self.new) result
             (tiny_items_of A.Slots self.old) (tiny_items_of A.Slots self.new) }
-        ensures grows { GrowsByPushes A.Item.is_default (tiny_view_of A.Slots self.old)
-            (tiny_view_of A.Slots self.new) }
+        ensures grows { GrowsByPushes A.Item.is_default (tiny_view_of A.Slots self.old) (tiny_view_of A.Slots self.new) }
         ensures inline_capacity { IsInline self.old → tiny_capacity_of A.Slots self.old ≡ A.CAPACITY }
     {
         let mut items = iter;
@@ -316,8 +307,7 @@ impl<A: Array> TinyVec<A> {
         requires { I.can_next iter × IsFinite (I.remaining iter) }
         ensures fills { FillsRoom I.Iterator iter (tiny_capacity_of A.Slots self.new) result
             (tiny_items_of A.Slots self.old) (tiny_items_of A.Slots self.new) }
-        ensures frame { StaysInPlace A.Item.is_default (tiny_view_of A.Slots self.old)
-            (tiny_view_of A.Slots self.new) }
+        ensures frame { StaysInPlace A.Item.is_default (tiny_view_of A.Slots self.old) (tiny_view_of A.Slots self.new) }
         ensures inline_capacity { IsInline self.old → tiny_capacity_of A.Slots self.old ≡ A.CAPACITY }
     {
         match self {
@@ -402,8 +392,7 @@ impl<A: Array> TinyVec<A> {
         ensures refused { OnErr result (RefusedFor (max new_len (tiny_len_of A.Slots self.old))
             ((j : ℕ) × (j < new_len - tiny_len_of A.Slots self.old) × ¬ (A.Item.is_infallible value)
             × ClonesBehind A.Item.is_clone (replicate j value) j (tiny_view_of A.Slots self.old)
-            (tiny_view_of A.Slots self.new))
-            (tiny_view_of A.Slots self.old) (tiny_view_of A.Slots self.new)) }
+            (tiny_view_of A.Slots self.new)) (tiny_view_of A.Slots self.old) (tiny_view_of A.Slots self.new)) }
         ensures inline_capacity { IsInline self.old → tiny_capacity_of A.Slots self.old ≡ A.CAPACITY }
     {
         let len = self.len();
@@ -497,8 +486,7 @@ impl<A: Array> TinyVec<A> {
         ensures items { AppendsResultsTo F.step (tiny_items_of A.Slots self.old)
             (tiny_items_of A.Slots self.new) f.old f.new }
         ensures len { tiny_len_of A.Slots self.new ≡ n }
-        ensures frame { StaysInPlace A.Item.is_default (tiny_view_of A.Slots self.old)
-            (tiny_view_of A.Slots self.new) }
+        ensures frame { StaysInPlace A.Item.is_default (tiny_view_of A.Slots self.old) (tiny_view_of A.Slots self.new) }
     {
         match self {
             TinyVec::Inline(_, _) => self.push_each_answer(n, f),
@@ -514,8 +502,7 @@ impl<A: Array> TinyVec<A> {
         ensures items { AppendsResultsTo F.step (tiny_items_of A.Slots self.old)
             (tiny_items_of A.Slots self.new) f.old f.new }
         ensures len { tiny_len_of A.Slots self.new ≡ n }
-        ensures frame { StaysInPlace A.Item.is_default (tiny_view_of A.Slots self.old)
-            (tiny_view_of A.Slots self.new) }
+        ensures frame { StaysInPlace A.Item.is_default (tiny_view_of A.Slots self.old) (tiny_view_of A.Slots self.new) }
     {
         while self.len() < n {
             self.push_reserved(f());

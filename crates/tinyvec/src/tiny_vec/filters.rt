@@ -112,8 +112,7 @@ impl<A: Array> TinyVec<A> {
         requires in_list { IsRangeOf (tiny_items_of A.Slots self.old) (R.start_bound range) (R.end_bound range) }
         ensures { Extracts (tiny_items_of A.Slots) (λ v w. StaysInPlace A.Item.is_default
             (tiny_view_of A.Slots v) (tiny_view_of A.Slots w)) F.FnMut self.entry
-            (range_start (R.start_bound range)) (range_end (R.end_bound range)
-            (tiny_len_of A.Slots self.old)) pred result }
+            (range_start (R.start_bound range)) (range_end (R.end_bound range) (tiny_len_of A.Slots self.old)) pred result }
     {
         let part = resolve_range(range, self.len());
         tinyvec_slots::authors::extract_if(self, part.start, part.end, pred)

@@ -350,8 +350,7 @@ impl<A: Array<Item = u8>> io::Write for TinyVec<A> {
         ensures bytes { WriteAppends (Some (tiny_items_of A.Slots self.old)) (Some
             (tiny_items_of A.Slots self.new)) result buf.now }
         ensures count { IfOk result (λ n. n ≡ length buf.now) }
-        ensures room { MakesRoom (is_inline self.old)
-            (tiny_len_of A.Slots self.old + length buf.now)
+        ensures room { MakesRoom (is_inline self.old) (tiny_len_of A.Slots self.old + length buf.now)
             (tiny_view_of A.Slots self.old) (tiny_view_of A.Slots self.new) result }
         ensures kind { IfErr result (λ e. error_kind e ≡ OutOfMemory) }
         ensures inline_capacity { IsInline self.old → tiny_capacity_of A.Slots self.old ≡ A.CAPACITY }

@@ -146,8 +146,7 @@ pub fn put_byte<const N: usize>(
     requires { index ≤ tiny_len list.old }
     ensures items { tiny_items list.new ≡ (if is_ok result
         then take index (tiny_items list.old) ++ byte ∷ [] ++ drop index (tiny_items list.old) else tiny_items list.old) }
-    ensures room { MakesRoom (is_inline list.old) (tiny_len list.old + 1)
-        (tiny_view list.old) (tiny_view list.new) result }
+    ensures room { MakesRoom (is_inline list.old) (tiny_len list.old + 1) (tiny_view list.old) (tiny_view list.new) result }
     ensures inline_capacity { IsInline list.old → tiny_capacity list.old ≡ N }
 {
     match list {
@@ -171,8 +170,7 @@ fn put_byte_slow<const N: usize>(
     requires { index ≤ tiny_len list.old }
     ensures items { tiny_items list.new ≡ (if is_ok result
         then take index (tiny_items list.old) ++ byte ∷ [] ++ drop index (tiny_items list.old) else tiny_items list.old) }
-    ensures room { MakesRoom (is_inline list.old) (tiny_len list.old + 1)
-        (tiny_view list.old) (tiny_view list.new) result }
+    ensures room { MakesRoom (is_inline list.old) (tiny_len list.old + 1) (tiny_view list.old) (tiny_view list.new) result }
     ensures inline_capacity { IsInline list.old → tiny_capacity list.old ≡ N }
 {
     put_bytes(list, index, &[byte])
@@ -300,8 +298,7 @@ pub fn push_bytes<const N: usize>(
 #[inline(always)]
 pub fn append_bytes<const N: usize>(list: &mut TinyVec<[u8; N]>, bytes: &[u8])
     requires { tiny_len list.old + length bytes.now ≤ tiny_capacity list.old }
-    ensures { Becomes (λ b. b ≡ 0) (tiny_view list.old) (tiny_view list.new)
-        (tiny_items list.old ++ bytes.now) }
+    ensures { Becomes (λ b. b ≡ 0) (tiny_view list.old) (tiny_view list.new) (tiny_items list.old ++ bytes.now) }
 {
     match list {
         TinyVec::Inline(v, _) => append_inline(v, bytes),
@@ -411,8 +408,7 @@ fn write_ends<const W: usize>(to: &mut [u8], bytes: &[u8])
 fn append_on_heap<const N: usize>(list: &mut TinyVec<[u8; N]>, bytes: &[u8])
     requires place { is_inline list.old ≡ false }
     requires room { tiny_len list.old + length bytes.now ≤ tiny_capacity list.old }
-    ensures { Becomes (λ b. b ≡ 0) (tiny_view list.old) (tiny_view list.new)
-        (tiny_items list.old ++ bytes.now) }
+    ensures { Becomes (λ b. b ≡ 0) (tiny_view list.old) (tiny_view list.new) (tiny_items list.old ++ bytes.now) }
 {
     let TinyVec::Heap(heap) = list else {
         unreachable!();

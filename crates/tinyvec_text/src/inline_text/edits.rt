@@ -38,8 +38,7 @@ impl<const N: usize> InlineText<N> {
     #[inline(always)]
     pub fn push_str_reserved(&mut self, string: &str)
         requires { text_len self.old + length string.now ≤ capacity_in self.old.place }
-        ensures { TextBecomes self.old self.new
-            (self.old.bytes ++ string.now) (text_chars self.old ++ chars string.now) }
+        ensures { TextBecomes self.old self.new (self.old.bytes ++ string.now) (text_chars self.old ++ chars string.now) }
     {
         append_bytes(&mut self.list, string.as_bytes());
     }
@@ -48,8 +47,7 @@ impl<const N: usize> InlineText<N> {
     #[inline(always)]
     pub fn push_reserved(&mut self, ch: char)
         requires { text_len self.old + length (encode_utf8 ch) ≤ capacity_in self.old.place }
-        ensures becomes { TextBecomes self.old self.new
-            (self.old.bytes ++ encode_utf8 ch) (text_chars self.old ++ ch ∷ []) }
+        ensures becomes { TextBecomes self.old self.new (self.old.bytes ++ encode_utf8 ch) (text_chars self.old ++ ch ∷ []) }
         ensures ascii { ch < 128 → self.new.bytes ≡ self.old.bytes ++ ch ∷ [] }
     {
         if ch.is_ascii() {

@@ -12,8 +12,7 @@ use std::alloc::{AllocError, Global};
 /// Appends the characters. If the allocator refuses, those before stay.
 impl<const N: usize> Extend<char> for InlineText<N> {
     // As pushes one after another leave it, also the capacity.
-    ghost extend_gives = { λ t cs u. (u.bytes ≡ t.bytes ++ encode_utf8_all cs)
-        × (u.place ≡ place_after_chars t cs) };
+    ghost extend_gives = { λ t cs u. (u.bytes ≡ t.bytes ++ encode_utf8_all cs) × (u.place ≡ place_after_chars t cs) };
 
     fn extend<U: IntoIterator<Item = char>>(&mut self, iter: U) -> Result<(), AllocError>
         requires { (it : U.IntoIter) → U.into_iter_gives iter it
