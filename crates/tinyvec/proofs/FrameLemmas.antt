@@ -45,10 +45,13 @@ pub inline_shortens : {A T L : Type 0} (g : Storage.Ghosts A T L) (D : T → Typ
     → Shortened (items_of g) (λ u. length (slots_of g u)) (CutOf g D) v w → ShortensInPlace D (array_view (view_of g v)) (array_view (view_of g w))
 inline_shortens g D v w h = record {
   bound = h.bound;
-  place = refl;
-  slot_rule = λ _ _. shortened D (view_of g v) (view_of g w) h.cut.1;
-  capacity = (cut_lender g D v w h.cut).slot_count;
-  fits = h.fits;
+  frame = record {
+    items = refl;
+    place = refl;
+    slot_rule = λ _ _. shortened D (view_of g v) (view_of g w) h.cut.1;
+    capacity = (cut_lender g D v w h.cut).slot_count;
+    fits = h.fits;
+  };
 }
 
 -- a capacity that doubled some number of times, and then doubled again

@@ -103,10 +103,7 @@ module _ {T : Type 0} where
   -- a call that only removes items, and allocates nothing, took `old` to `new`
   pub record ShortensInPlace (D : T → Type 0) (old new : TinyView T) : Type 0 where
     pub bound : view_len new ≤ view_len old
-    pub place : view_inline new ≡ view_inline old
-    pub slot_rule : TinySlotRule D old new
-    pub capacity : view_capacity new ≡ view_capacity old
-    pub fits : view_len new ≤ view_capacity new
+    pub frame : StaysInPlace D old new
 
   -- v is the list of old from i on, in the place of old: inline before defaults, on the heap with a capacity of its length
   pub record IsTail (D : T → Type 0) (slots i : ℕ) (old v : TinyView T) : Type 0 where

@@ -92,10 +92,13 @@ module _ (alloc : Global) where
   pub example-ShortensInPlace : ShortensInPlace D (tiny_view (inline (1 ∷ 2 ∷ []) (7 ∷ 8 ∷ []))) (tiny_view (inline (2 ∷ []) (0 ∷ 7 ∷ 8 ∷ [])))
   example-ShortensInPlace = record {
     bound = omega arith;
-    place = refl;
-    slot_rule = λ _ _. (0 ∷ [], search rules, refl);
-    capacity = refl;
-    fits = omega arith;
+    frame = record {
+      items = refl;
+      place = refl;
+      slot_rule = λ _ _. (0 ∷ [], search rules, refl);
+      capacity = refl;
+      fits = omega arith;
+    };
   }
 
   pub example-IsTail : IsTail D 4 1 (tiny_view (inline (1 ∷ 2 ∷ []) (7 ∷ 8 ∷ []))) (tiny_view (inline (2 ∷ []) (0 ∷ 0 ∷ 0 ∷ [])))

@@ -6,7 +6,6 @@ use Rattle.tinyvec.proofs.tiny_vec.filters.TinyVec+A.dedup.Goals as goal
 
 pub returns-clause-becomes : goal.returns-clause-becomes
 returns-clause-becomes g c =
-    let cut = c.dedup_by.ensures.shortens in
     subst (Becomes g.A.Item.Default.is_default (tiny_view_of g.A.Slots c.args.self.now) (tiny_view_of g.A.Slots c.dedup_by.new.self))
     (dedup_same _ _ _ (λ x y b f' x' y' k. search rules) _ _ c.dedup_by.ensures.filtered)
-    (record { items = refl; place = cut.place; slot_rule = cut.slot_rule; capacity = cut.capacity; fits = cut.fits })
+    c.dedup_by.ensures.shortens.frame
