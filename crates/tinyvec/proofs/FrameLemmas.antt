@@ -18,7 +18,7 @@ use Rattle.tinyvec.specs.TinyVec.{tiny_view_of, tiny_items_of, tiny_len_of, tiny
 use Rattle.tinyvec.specs.declared.tiny_vec.TinyVec.{TinyVec}
 use Rattle.tinyvec.specs.declared.tiny_vec.TinyVec.TheVariants.{Inline, Heap}
 use Rattle.tinyvec.specs.Room.{KeepsRoom, GetsRoom, GrowsByPushes, MakesRoom}
-use Rattle.tinyvec.proofs.TinyLemmas.{array_view, heap_view, slots_taken, taken, used_up, used_rule, UsesSpare, slots_after_room, tiny_slots_then}
+use Rattle.tinyvec.proofs.TinyLemmas.{array_view, heap_view, slots_taken, taken, used_rule, UsesSpare, slots_after_room, tiny_slots_then}
 use Rattle.tinyvec.proofs.RefusedLemmas.{RoomGranted, granted_then, granted_before}
 use Rattle.tinyvec_array.proofs.ViewLemmas.{parts_of}
 

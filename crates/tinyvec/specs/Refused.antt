@@ -1,5 +1,5 @@
 -- What a failed call leaves. C is the `is_clone` of an item's `Clone`.
-use Rattle.std.specs.Prelude.{◌≡◌, ℕ, ◌+◌, ◌<◌, ◌≤◌, ◌⊎◌, List, length, Bool, take, drop, All, Result, IsOk, OnOk, OnErr}
+use Rattle.std.specs.Prelude.{◌≡◌, ℕ, ◌+◌, ◌<◌, ◌≤◌, ◌⊎◌, List, length, take, drop, All, Result, IsOk, OnOk, OnErr}
 use Rattle.std.specs.List.{AppendsClones}
 use Rattle.std.specs.declared.clone.Clone as Clone
 use Rattle.tinyvec_slots.specs.Clones.{RefusedAt, ClonesOver}

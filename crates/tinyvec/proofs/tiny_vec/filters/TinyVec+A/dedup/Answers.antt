@@ -1,4 +1,4 @@
-use Rattle.std.proofs.Common.{refl, subst, rules}
+use Rattle.std.proofs.Common.{subst, rules}
 use Rattle.std.proofs.lemmas.Fn.{dedup_same}
 use Rattle.tinyvec.specs.View.{Becomes}
 use Rattle.tinyvec.specs.TinyVec.{tiny_view_of}
