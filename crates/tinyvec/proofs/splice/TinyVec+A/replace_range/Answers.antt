@@ -20,8 +20,8 @@ returns g c =
     let order : part.start ≤ part.end = omega (arith, c.resolve_range-part.ensures.start, end, c.requires.in_list.0) in
     let long = ap length put.items ∙ length-replaced _ _ new (tiny_items_of g.A.Slots c.reserve.new.self) order (omega (arith, end, inside, same)) in
     let more = c.saturating_sub-more.ensures in
-    let made = replaced_room {E = Unit} _ _ _ _ (omega (arith, c.len.ensures.fits, c.len.ensures.value)) (omega (arith, long, same, more, end, inside)) (λ some. omega (arith, long, same, more, end, inside, some))
-    (is_inline c.args.self.now) D tt _ (λ i. ap (tiny_view_of g.A.Slots) (c.in_ok-reserve.ensures.stays i)) c.in_ok-reserve.ensures.room put in record {
+    let made = replaced_room _ _ _ _ (omega (arith, c.len.ensures.fits, c.len.ensures.value)) (omega (arith, long, same, more, end, inside)) (λ some. omega (arith, long, same, more, end, inside, some))
+    {X = Unit {0}} {E = Unit {0}} (is_inline c.args.self.now) D tt _ (λ i. ap (tiny_view_of g.A.Slots) (c.in_ok-reserve.ensures.stays i)) c.in_ok-reserve.ensures.room put in record {
       items = placed_at _ (tiny_items_of g.A.Slots c.args.self.now) new _ _ _ _ list c.resolve_range-part.ensures.start end;
       room = made.gets;
       slot_rule = slots_after_room D _ (tiny_view_of g.A.Slots c.reserve.new.self) (tiny_view_of g.A.Slots c.replace_reserved.new.self) (λ i. ap (tiny_view_of g.A.Slots) (c.in_ok-reserve.ensures.stays i)) put.place put.slot_rule;

@@ -1,6 +1,7 @@
-use Rattle.std.proofs.Common.{rules, ◌≡◌, ◌<◌, ◌+◌, ◌-◌, ◌++◌, refl, take, take_all, sym, ap, ◌∙◌, arith}
+use Rattle.std.proofs.Common.{◌≡◌, ◌<◌, ◌+◌, ◌-◌, ◌++◌, refl, length, take, take_all, sym, ap, ◌∙◌, arith}
 use Rattle.tinyvec.specs.TinyVec.{tiny_items_of, tiny_len_of, tiny_view_of}
-use Rattle.tinyvec.proofs.FrameLemmas.{made_room}
+use Rattle.tinyvec.proofs.FrameLemmas.{made_room, room_not_made}
+use Rattle.tinyvec.proofs.TinyLemmas.{slots_taken}
 use Rattle.tinyvec.proofs.tiny_vec.extending.TinyVec+A.resize_by_answers.Goals as goal
 
 pub returns-then-n-len-clause-items : goal.returns-then-n-len-clause-items
@@ -18,5 +19,13 @@ returns-then-n-len-clause-room g c =
     made_room _ g.A.Item.Default.is_default _ (tiny_view_of g.A.Slots c.args.self.now) (tiny_view_of g.A.Slots c.push_answers.new.self) (tiny_view_of g.A.Slots c.reserve.new.self) _ _ refl
     (λ i. ap (tiny_view_of g.A.Slots) (c.in_ok-reserve.ensures.stays i)) (rw many at c.in_ok-reserve.ensures.room) c.push_answers.ensures.frame
 
-pub returns-in_err-reserve : goal.returns-in_err-reserve
-returns-in_err-reserve g c = search rules
+pub returns-in_err-reserve-clause-slot_rule : goal.returns-in_err-reserve-clause-slot_rule
+returns-in_err-reserve-clause-slot_rule g c =
+    let same = c.in_err-reserve.ensures.room.refused in
+    slots_taken g.A.Item.Default.is_default (tiny_view_of g.A.Slots c.args.self.now) (tiny_view_of g.A.Slots c.reserve.new.self) 0 (omega (arith, ap length same.items)) same.spare
+
+pub returns-in_err-reserve-clause-room : goal.returns-in_err-reserve-clause-room
+returns-in_err-reserve-clause-room g c =
+    let refusal = c.in_err-reserve.ensures.room in
+    room_not_made _ _ (tiny_view_of g.A.Slots c.args.self.now) (tiny_view_of g.A.Slots c.reserve.new.self) c.from_residual.result c.from_residual.ensures.0
+    (omega (arith, refusal.full, c.len-len.ensures.value)) refusal.refused refusal.keeps.fits
