@@ -23,7 +23,7 @@ invariant_of-self-2 g c =
     let ascii = IsUtf8-from_ascii (x ∷ []) (search rules) in
     let room = c.in_ok-put_byte.ensures.room in
     let is : tiny_items c.put_byte.new.list ≡ take i bs ++ x ∷ [] ++ drop i bs = search rules in
-    text_kept list c.put_byte.new.list (λ j. (room.place.0 j).0) (used_rule (λ b. b ≡ 0) (tiny_view list) (tiny_view c.put_byte.new.list) (omega (arith, ap length is, length-replaced i i (x ∷ []) bs (le_refl i) cut.0)) room.spare) c.self.invariant
+    text_kept list c.put_byte.new.list (λ j. (room.gets.place.0 j).0) (used_rule (λ b. b ≡ 0) (tiny_view list) (tiny_view c.put_byte.new.list) (omega (arith, ap length is, length-replaced i i (x ∷ []) bs (le_refl i) cut.0)) room.gets.spare) c.self.invariant
     (subst IsUtf8 (sym is) (utf8_put bs (text_utf8 list c.self.invariant) i i cut cut (x ∷ []) ascii))
 
 pub returns-clause-text : goal.returns-clause-text

@@ -18,7 +18,7 @@ invariant_of-self-2 g c =
     let scalar : IsScalar c.args.c = search rules in
     let put = subst IsUtf8 c.requires (IsUtf8-encode c.args.c scalar) in
     let room = c.in_ok-push_bytes.ensures.room in
-    text_kept list c.push_bytes.new.list (λ i. (room.place.0 i).0) (used_rule (λ b. b ≡ 0) (tiny_view list) (tiny_view c.push_bytes.new.list) (omega (arith, ap length joined, length-append (tiny_items list) c.args.bytes.now)) room.spare) c.self.invariant
+    text_kept list c.push_bytes.new.list (λ i. (room.gets.place.0 i).0) (used_rule (λ b. b ≡ 0) (tiny_view list) (tiny_view c.push_bytes.new.list) (omega (arith, ap length joined, length-append (tiny_items list) c.args.bytes.now)) room.gets.spare) c.self.invariant
     (subst IsUtf8 (sym joined) (IsUtf8-append _ _ (text_utf8 list c.self.invariant) put))
 
 pub returns-clause-text : goal.returns-clause-text
