@@ -1,5 +1,5 @@
 -- Clones written over slots, block by block.
-use Rattle.std.proofs.Common.{◌≡◌, ℕ, zero, suc, ◌+◌, ◌-◌, ◌<◌, ◌≤◌, List, [], ◌∷◌, ◌++◌, All, length, take, drop, set, get_or, replicate, refl, sym, ap, subst, ◌∙◌, le_refl, arith, append-nil, append_assoc, length-append, take_at, drop_at, take_all, drop-drop, get_or-drop, length-take, length-drop}
+use Rattle.std.proofs.Common.{◌≡◌, ℕ, zero, suc, ◌+◌, ◌-◌, ◌<◌, ◌≤◌, List, [], ◌∷◌, ◌++◌, All, length, take, drop, set, get_or, replicate, refl, sym, ap, subst, ◌∙◌, le_refl, arith, append-nil, append_assoc, length-append, take_at, drop_at, take_all, drop-drop, get_or-drop}
 use Rattle.std.proofs.lemmas.List.{take_more, replicate_more, drop_all, take_rest}
 use Rattle.std.proofs.lemmas.List.Elements.{All-get_or, All-take, All-drop, AllZip-push}
 use Rattle.std.proofs.lemmas.Result.{IfOk-from_err, on_ok_weaker, on_err_weaker}
@@ -11,11 +11,6 @@ use Rattle.std.specs.List.{AllZip, HoldsAt}
 use Rattle.tinyvec_slots.specs.Clones.{RefusedAt, ClonesOver, ClonesOverFrom, WritesClones}
 use Rattle.tinyvec_slots.proofs.CloneLemmas.{on_err, set_next, written_part, length-part}
 use borrow.Rule.Slice.PartMut.{post_of}
-
--- what lies behind the first n of `from` fits where those of `to` were
-pub parts_fit : {X : Type 0} (from to new : List X) (n : ℕ) → length from ≤ length to → length new ≡ length to
-    → length (take (length from - n) (drop n from)) ≤ length (take (length new - n) (drop n new))
-parts_fit from to new n fits long = rw (length-take (length from - n) (drop n from), length-take (length new - n) (drop n new), length-drop n from, length-drop n new) (omega arith)
 
 -- where each clone is granted, none is refused
 pub all_granted : {X : Type 0} (I : X → Type 0) (xs : List X) (j : ℕ) → All I xs → RefusedAt I xs j → ⊥

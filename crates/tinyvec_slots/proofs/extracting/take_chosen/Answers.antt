@@ -1,16 +1,9 @@
-use Rattle.std.proofs.Common.{◌≡◌, ◌<◌, ◌∙◌, ◌+◌, ◌-◌, ◌≤◌, ℕ, get_or, set, subst, sym, refl, arith, of_calls, length}
+use Rattle.std.proofs.Common.{◌≡◌, ◌<◌, ◌∙◌, get_or, set, subst, sym, refl, arith, of_calls, length}
 use Rattle.std.proofs.lemmas.List.{get_or-set_same, get_or_default}
 use Rattle.std.proofs.RetainMut.{Called-Mut}
 use Rattle.std.specs.Fn.{CalledAtMut}
 use Rattle.tinyvec_slots.proofs.ExtractingLemmas.{turned_none, turned_more, found_none, found_some, found_back}
 use Rattle.tinyvec_slots.proofs.extracting.take_chosen.Goals as goal
-
--- where the items before the gap end
-lies_at : (front gap at end : ℕ) → front + gap ≤ at → at < end → (front ≤ at - gap) × (at - gap + gap + 1 ≤ end)
-lies_at front gap at end least less = (omega arith, omega arith)
-
-lies_last : (front gap end : ℕ) → front + gap ≤ end → (front ≤ end - gap) × (end - gap + gap + 0 ≤ end)
-lies_last front gap end order = (omega arith, omega arith)
 
 pub loop-at-init : goal.loop-at-init
 loop-at-init g c = record {
@@ -54,21 +47,3 @@ pub returns-clause-asked : goal.returns-clause-asked
 returns-clause-asked g c =
     let at = c.loop-at in
     found_none (CalledAtMut g.F.FnMut) c.args.pred.now c.args.items.now c.args.front c.args.gap c.args.end at.pred at.items at.at _ (omega arith) (omega arith) at.invariant.so_far
-
-pub returns-then-pred-clause-callable : goal.returns-then-pred-clause-callable
-returns-then-pred-clause-callable g c = search of_calls
-
-pub returns-clause-callable : goal.returns-clause-callable
-returns-clause-callable g c = c.loop-at.invariant.callable
-
-pub returns-clause-back : goal.returns-clause-back
-returns-clause-back g c = c.loop-at.invariant.so_far.back
-
-pub pred-requires : goal.pred-requires
-pred-requires g c = search of_calls
-
-pub returns-then-pred-clause-order : goal.returns-then-pred-clause-order
-returns-then-pred-clause-order g c = lies_at c.args.front c.args.gap c.loop-at.at c.args.end c.loop-at.auto.at c.loop-at-test.true
-
-pub returns-clause-order : goal.returns-clause-order
-returns-clause-order g c = lies_last c.args.front c.args.gap c.args.end c.requires.order

@@ -1,5 +1,5 @@
 use Rattle.std.proofs.Common.{rules}
-use Rattle.tinyvec_slots.proofs.ClonesOverLemmas.{refused_writes, writes_joined, parts_fit}
+use Rattle.tinyvec_slots.proofs.ClonesOverLemmas.{refused_writes, writes_joined}
 use Rattle.tinyvec_slots.proofs.tuned.cloning.clone_block_and_rest.Goals as goal
 
 pub returns-in_err-clone_block : goal.returns-in_err-clone_block
@@ -12,6 +12,3 @@ returns g c =
     let first = c.clone_block in
     let rest = c.clone_each in
     writes_joined g.T.Clone rest.result c.args.from.now c.args.to.now first.new.to rest.new.to g.row.N c.requires.fits first.auto.to c.requires.enough c.in_ok-clone_block.ensures.cloned rest.ensures
-
-pub clone_each-requires : goal.clone_each-requires
-clone_each-requires g c = record { fits = parts_fit c.args.from.now c.args.to.now c.clone_block.new.to g.row.N c.requires.fits c.clone_block.auto.to }

@@ -1,8 +1,8 @@
-use Rattle.std.proofs.Common.{◌≤◌, ◌-◌, ◌∙◌, take, drop, length, rules, refl, zero-le}
+use Rattle.std.proofs.Common.{◌≤◌, ◌-◌, take, drop, length, ◌∙◌, rules, refl, zero-le}
 use Rattle.tinyvec_slots.proofs.CloneLemmas.{on_err}
-use Rattle.tinyvec_slots.proofs.ClonesOverLemmas.{clones_none, clones_further, clones_in_part, parts_fit}
-use borrow.Rule.Slice.PartMut.{same_len_mid}
+use Rattle.tinyvec_slots.proofs.ClonesOverLemmas.{clones_none, clones_further, clones_in_part}
 use Rattle.tinyvec_slots.proofs.tuned.cloning.clone_blocks.Goals as goal
+use borrow.Rule.Slice.PartMut.{same_len_mid}
 
 pub loop-done-preserved : goal.loop-done-preserved
 loop-done-preserved g c =
@@ -25,24 +25,3 @@ returns-in_err-clone_block-clause-refused g c =
     on_err c.from_residual.result
     (clones_in_part g.T.Clone.is_clone c.args.from.now c.args.to.now at.to c.clone_block.new.to at.done c.requires.fits inv.2 inv.0 inv.1 g.T.Clone.is_infallible
     c.in_err-clone_block.ensures.refused)
-
-pub returns-else-not-are_bytes-clause-within : goal.returns-else-not-are_bytes-clause-within
-returns-else-not-are_bytes-clause-within g c = c.loop-done.invariant.0
-
-pub returns-else-not-are_bytes-clause-cloned : goal.returns-else-not-are_bytes-clause-cloned
-returns-else-not-are_bytes-clause-cloned g c = c.loop-done.invariant.1
-
-pub returns-else-not-are_bytes-clause-refused : goal.returns-else-not-are_bytes-clause-refused
-returns-else-not-are_bytes-clause-refused g c = tt
-
-pub returns-after-loop-done-clause-within : goal.returns-after-loop-done-clause-within
-returns-after-loop-done-clause-within g c = c.loop-done.invariant.0
-
-pub returns-after-loop-done-clause-cloned : goal.returns-after-loop-done-clause-cloned
-returns-after-loop-done-clause-cloned g c = c.loop-done.invariant.1
-
-pub returns-after-loop-done-clause-refused : goal.returns-after-loop-done-clause-refused
-returns-after-loop-done-clause-refused g c = tt
-
-pub clone_block-requires-clause-fits : goal.clone_block-requires-clause-fits
-clone_block-requires-clause-fits g c = parts_fit c.args.from.now c.args.to.now c.loop-done.to c.loop-done.done c.requires.fits c.loop-done.invariant.2

@@ -1,5 +1,5 @@
 use Rattle.std.proofs.Common.{rules}
-use Rattle.tinyvec_slots.proofs.ClonesOverLemmas.{refused_writes, writes_joined, parts_fit}
+use Rattle.tinyvec_slots.proofs.ClonesOverLemmas.{refused_writes, writes_joined}
 use Rattle.tinyvec_slots.proofs.tuned.cloning.clone_rest.Goals as goal
 
 pub returns-in_err-done : goal.returns-in_err-done
@@ -13,6 +13,3 @@ returns g c =
     let done = c.in_ok-done in
     let rest = c.clone_each in
     writes_joined g.T.Clone rest.result c.args.from.now c.args.to.now first.new.to rest.new.to done.done c.requires.fits first.auto.to done.ensures.within done.ensures.cloned rest.ensures
-
-pub clone_each-requires : goal.clone_each-requires
-clone_each-requires g c = record { fits = parts_fit c.args.from.now c.args.to.now c.clone_blocks.new.to c.in_ok-done.done c.requires.fits c.clone_blocks.auto.to }
