@@ -19,10 +19,10 @@ pub(crate) fn clone_each_from<T: Clone>(
     let end = start + from.len();
     // As many slots as items, so that LLVM asks once whether a block is left.
     let to = &mut slots[start..end];
-    if from.len() < 512 {
-        return clone_few(to, from);
+    if from.len() >= 512 && fit_registers(from) {
+        return clone_many(to, from);
     }
-    clone_many(to, from)
+    clone_few(to, from)
 }
 
 // Writes clones over the first slots of `to`, in blocks of 512 and then of fewer. A call of its own, so that short lists save
@@ -129,7 +129,7 @@ fn clone_range<T: Clone>(
     ensures { WritesClones T.Clone (λ ys n. ClonesOver T.is_clone ys n to.old to.new)
         (slice_range from.now start end) result }
 {
-    clone_each(to, &from[start..end])
+    clone_each_from(to, 0, &from[start..end])
 }
 
 // Writes a clone of `x` into each slot from `start` up to `end`.
