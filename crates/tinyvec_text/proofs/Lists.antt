@@ -1,11 +1,13 @@
 -- Lists of bytes as texts.
-use Rattle.std.proofs.Common.{◌≡◌, ℕ, ◌<◌, ◌≤◌, inl, inr, List, All, IsUtf8, IsTrue, subst, sym, refl, arith, ap, length}
+use Rattle.std.proofs.Common.{◌≡◌, ℕ, ◌+◌, ◌-◌, ◌<◌, ◌≤◌, inl, inr, List, All, ◌++◌, IsUtf8, IsTrue, subst, sym, refl, ◌∙◌, arith, ap, length, take, drop, take_at, drop_at, take-append-drop, length-take, length-take-le, length-drop}
 use Rattle.std.specs.Prelude.{Bool, false, Result}
-use Rattle.std.proofs.Math.Seq.{drop-nil}
+use Rattle.std.proofs.Math.Seq.{drop-nil, take-take}
 use Rattle.std.proofs.lemmas.Result.{on_ok_weaker, on_err_weaker}
-use Rattle.std.proofs.lemmas.List.Elements.{All-append, All-drop}
+use Rattle.std.proofs.lemmas.List.{drop-drop, same_lists}
+use Rattle.std.proofs.lemmas.List.Elements.{All-append, All-drop, All-take}
 use Rattle.std.proofs.lemmas.Str.{IsUtf8-had}
-use Rattle.tinyvec_slots.specs.Slots.{AreDefaults}
+use Rattle.tinyvec_slots.specs.Slots.{Slots, AreDefaults, SlotRule, items, items_len, spare}
+use Rattle.tinyvec_slots.proofs.BorderLemmas.{spare_from}
 use Rattle.tinyvec_array.proofs.Named.{array_slots}
 use Rattle.tinyvec.specs.SpliceLaws.{frame_becomes}
 use Rattle.tinyvec.specs.Lends.{tiny_with_items}
@@ -116,3 +118,36 @@ module _ (slots : ℕ) (old : Bytes slots) (ws : List ℕ) (long : length ws ≡
   overwritten new kept made =
       subst (Becomes (λ b. b ≡ 0) (tiny_view old) (tiny_view new)) (ap kept bytes_written)
       (frame_becomes (λ b. b ≡ 0) (tiny_view old) (tiny_view written) (tiny_view new) (kept (tiny_items written)) frame_written made)
+
+-- zeros behind those that were cut off: the 16 slots at n reach all that is not zero
+pub zero_behind : (xs : List ℕ) (m n : ℕ) → n ≤ length (take m xs) → length (take m xs) - n ≤ 16 → All (λ b. b ≡ 0) (drop m xs)
+    → All (λ b. b ≡ 0) (drop 16 (drop n xs))
+zero_behind xs m n le few clear =
+    let l = length (take m xs) in
+    let k = n + 16 - l in
+    let on : n + 16 ≡ l + k = omega (arith, few, le) in
+    subst (All (λ b. b ≡ 0)) (sym (drop-drop 16 n xs ∙ ap (λ j. drop j xs) on ∙ sym (drop-drop k l xs) ∙ ap (drop k) (spare_from m xs l refl))) (All-drop (λ b. b ≡ 0) k _ clear)
+
+-- two lists of as many zeros
+same_zeros : (xs ys : List ℕ) → length xs ≡ length ys → All (λ b. b ≡ 0) xs → All (λ b. b ≡ 0) ys → xs ≡ ys
+same_zeros xs ys long zero clear = same_lists xs ys long (λ k d lt. zero k d lt ∙ sym (clear k d (omega (arith, lt, long))))
+
+-- the list of v was cut off at n, and zeros were written over all that follows
+pub cut_zero : (v w : Slots ℕ) (ws : List ℕ) (n : ℕ) → w.len ≡ n → w.slots ≡ take n v.slots ++ ws → n ≤ items_len v → length ws ≡ length (drop n v.slots)
+    → All (λ b. b ≡ 0) ws → All (λ b. b ≡ 0) (spare v) → (items w ≡ take n (items v)) × SlotRule (λ b. b ≡ 0) v w
+cut_zero v w ws n at is le long zero clear =
+    let l = items_len v in
+    let fits : n ≤ length v.slots = omega (arith, le, length-take v.len v.slots) in
+    let front : length (take n v.slots) ≡ n = length-take-le n v.slots fits in
+    let listed : items w ≡ take n v.slots = (λ i. take (at i) (is i)) ∙ take_at (take n v.slots) ws n front in
+    let behind : spare w ≡ ws = (λ i. drop (at i) (is i)) ∙ drop_at (take n v.slots) ws n front in
+    let size : items_len w ≡ n = ap length listed ∙ front in
+    let rest : drop (l - n) ws ≡ spare v = same_zeros _ _ (omega (arith, length-drop (l - n) ws, long, length-drop n v.slots, length-drop v.len v.slots, length-take v.len v.slots, le)) (All-drop (λ b. b ≡ 0) _ ws zero) clear in
+    let none : items_len w - l ≡ 0 = omega (arith, size, le) in (
+      listed ∙ sym (take-take n v.len v.slots (omega (arith, le, length-take v.len v.slots))),
+      (
+        take (l - n) ws,
+        (length-take-le (l - n) ws (omega (arith, long, length-drop n v.slots, le, length-take v.len v.slots)) ∙ omega (arith, size), All-take (λ b. b ≡ 0) (l - n) ws zero),
+        behind ∙ sym (take-append-drop (l - n) ws) ∙ ap (λ xs. take (l - n) ws ++ xs) rest ∙ ap (λ k. take (l - n) ws ++ drop k (spare v)) (sym none),
+      ),
+    )

@@ -1,5 +1,5 @@
 -- Bytes that are moved within a list, block by block.
-use Rattle.std.proofs.Common.{◌≡◌, ℕ, ◌+◌, ◌-◌, ◌≤◌, List, ◌++◌, length, take, drop, sym, ap, ◌∙◌, arith, append_assoc, take-append-drop, take-add, length-take-le, length-drop, take_at, drop_at}
+use Rattle.std.proofs.Common.{◌≡◌, ℕ, ◌+◌, ◌-◌, ◌≤◌, List, ◌++◌, length, take, drop, sym, ap, ◌∙◌, arith, append_assoc, take-append-drop, take-add, length-append, length-take-le, length-drop, take_at, drop_at}
 use Rattle.std.proofs.Math.Seq.{take-take, take-append-le, drop-append-le}
 use Rattle.std.proofs.lemmas.List.{drop-drop, drop-take}
 use Rattle.tinyvec_text.proofs.Filters.{CopiedDown}
@@ -55,3 +55,18 @@ pub inserted : (xs zs bs ys : List ℕ) (i n : ℕ) → i ≤ length xs → n �
 inserted xs zs bs ys i n le e is =
     let size : length (drop i xs) ≡ n = length-drop i xs ∙ sym e in
     rw (is, take-append-le i xs zs le, drop-append-le i xs zs le, take_at (drop i xs) zs n size)
+
+-- ys is xs and n bytes of zs, over which the n bytes at i were written
+pub repeated : (xs zs ys : List ℕ) (i l n : ℕ) → l ≡ length xs → i + n ≤ length xs → n ≤ length zs → ys ≡ xs ++ take n zs
+    → take l ys ++ take (length ys - l) (drop i ys) ≡ xs ++ take n (drop i xs)
+repeated xs zs ys i l n at le few is =
+    let size : length ys - l ≡ n = omega (arith, at, ap length is, length-append xs (take n zs), length-take-le n zs few) in
+    let inside : n ≤ length (drop i xs) = omega (arith, le, length-drop i xs) in
+    rw (size, is, take_at xs (take n zs) l (sym at), drop-append-le i xs (take n zs) (omega (arith, le)), take-append-le n (drop i xs) (take n zs) inside)
+
+-- bs is xs and the first a bytes from i on, and k more of these were appended
+pub repeated_further : {T : Type 0} (xs bs cs : List T) (i a k n : ℕ) → a + k ≤ n → i + n ≤ length xs → bs ≡ xs ++ take a (drop i xs)
+    → cs ≡ bs ++ take k (drop (i + a) bs) → cs ≡ xs ++ take (a + k) (drop i xs)
+repeated_further xs bs cs i a k n within le first next =
+    let inside : k ≤ length (drop (i + a) xs) = omega (arith, within, le, length-drop (i + a) xs) in
+    rw (next, first, drop-append-le (i + a) xs (take a (drop i xs)) (omega (arith, within, le)), take-append-le k (drop (i + a) xs) (take a (drop i xs)) inside, append_assoc, take-add a k (drop i xs), drop-drop)

@@ -1,8 +1,8 @@
 //! Bytes of a list that are copied to the heap, or replaced by others, by moves of memory.
-ghost use Rattle.std.specs.Prelude.{◌≡◌, ◌+◌, ◌-◌, ◌*◌, ◌≤◌, ◌++◌, ◌∷◌, [], length, take, drop, false, is_ok, if◌then◌else◌, IsOk, IfOk, OnErr, vec_len, vec_capacity};
-ghost use Rattle.tinyvec_slots.specs.Slots.{Gains};
-ghost use Rattle.tinyvec_array.specs.ArrayVec.{items, items_len, all_slots, view};
-ghost use Rattle.tinyvec.specs.TinyVec.{tiny_items, tiny_len, tiny_capacity, is_inline, IsInline, tiny_view};
+ghost use Rattle.std.specs.Prelude.{◌≡◌, ◌+◌, ◌-◌, ◌*◌, ◌≤◌, ◌++◌, ◌∷◌, [], length, take, drop, false, is_ok, if◌then◌else◌, IsOk, IfOk, OnErr, vec_len, vec_capacity, All};
+ghost use Rattle.tinyvec_slots.specs.Slots.{Gains, SlotRule};
+ghost use Rattle.tinyvec_array.specs.ArrayVec.{items, items_len, all_slots, spare, view};
+ghost use Rattle.tinyvec.specs.TinyVec.{tiny_items, tiny_len, tiny_spare, tiny_capacity, is_inline, IsInline, tiny_view};
 ghost use Rattle.tinyvec.specs.View.{IsTail, Becomes};
 ghost use Rattle.tinyvec.specs.Room.{MakesRoom};
 ghost use Rattle.tinyvec.specs.OnHeap.{HeapBecomes};
@@ -12,7 +12,7 @@ use std::mem;
 use tinyvec::{ArrayVec, TinyVec};
 
 // So many bytes are moved at a time.
-const BLOCK: usize = 4096;
+const BLOCK: usize = 8192;
 
 /// A list on the heap that has these bytes, and no more room.
 pub fn copied_to_heap<const N: usize>(
@@ -91,6 +91,47 @@ pub fn remove_bytes<const N: usize>(list: &mut TinyVec<[u8; N]>, start: usize, e
     let left = list.len() - (end - start);
     move_down(list.as_mut_slice(), end, start);
     list.truncate(left);
+}
+
+/// `truncate`, if the spare bytes are zero.
+#[inline(always)]
+pub fn cut_off<const N: usize>(list: &mut TinyVec<[u8; N]>, new_len: usize)
+    requires in_list { new_len ≤ tiny_len list.old }
+    requires clear { All (λ b. b ≡ 0) (tiny_spare list.old) }
+    ensures { Becomes (λ b. b ≡ 0) (tiny_view list.old) (tiny_view list.new)
+        (take new_len (tiny_items list.old)) }
+{
+    match list {
+        TinyVec::Inline(v, _) if v.len() - new_len <= 16 => cut_few(v, new_len),
+        _ => list.truncate(new_len),
+    }
+}
+
+// Cuts off no more than 16 bytes. LLVM makes one write of it, which may reach spare slots, as they are zero too.
+#[inline(always)]
+fn cut_few<const N: usize>(v: &mut ArrayVec<[u8; N]>, new_len: usize)
+    requires in_list { new_len ≤ items_len v.old }
+    requires few { items_len v.old - new_len ≤ 16 }
+    requires clear { All (λ b. b ≡ 0) (spare v.old) }
+    ensures items { items v.new ≡ take new_len (items v.old) }
+    ensures slot_rule { SlotRule (λ b. b ≡ 0) (view v.old) (view v.new) }
+    ensures slot_count { length (all_slots v.new) ≡ length (all_slots v.old) }
+{
+    v.set_len(new_len);
+    clear_few(v.grab_spare_slice_mut());
+}
+
+// Sets the first 16 bytes to zero, or all.
+#[inline(always)]
+fn clear_few(bytes: &mut [u8])
+    requires { All (λ b. b ≡ 0) (drop 16 bytes.old) }
+    ensures zero { All (λ b. b ≡ 0) bytes.new }
+    ensures len { length bytes.new ≡ length bytes.old }
+{
+    match bytes.first_chunk_mut::<16>() {
+        Some(few) => *few = [0; 16],
+        None => bytes.fill(0),
+    }
 }
 
 // Inserts `bytes` at `index` into a list that has room. A call of its own, since many ranges are not shorter.
@@ -256,7 +297,7 @@ fn move_up(bytes: &mut [u8], from: usize, to: usize, count: usize)
 // Copies the `count` bytes at `from` to `to`. LLVM makes one `memmove` of it, and no block.
 #[inline(always)]
 fn move_block(bytes: &mut [u8], from: usize, to: usize, count: usize)
-    requires few { count ≤ 4096 }
+    requires few { count ≤ 8192 }
     requires from_in_bounds { from + count ≤ length bytes.old }
     requires to_in_bounds { to + count ≤ length bytes.old }
     ensures front { take (to + count) bytes.new ≡ take to bytes.old ++ take count (drop from bytes.old) }
@@ -267,11 +308,13 @@ fn move_block(bytes: &mut [u8], from: usize, to: usize, count: usize)
     bytes[to..to + count].copy_from_slice(&block[..count]);
 }
 
-/// Appends `bytes`, as `extend_from_slice_copy` does.
+/// Appends `bytes`, as `extend_from_slice_copy` does. A few go onto the heap one by one if `each` is true, which suits a
+/// list that is a local variable. Else they go by a local variable, which suits a number that LLVM does not know.
 #[inline(always)]
 pub fn push_bytes<const N: usize>(
     list: &mut TinyVec<[u8; N]>,
     bytes: &[u8],
+    each: bool,
 ) -> Result<(), AllocError>
     ensures items { tiny_items list.new
         ≡ (if is_ok result then tiny_items list.old ++ bytes.now else tiny_items list.old) }
@@ -281,17 +324,134 @@ pub fn push_bytes<const N: usize>(
 {
     match list {
         TinyVec::Inline(v, _) if bytes.len() <= v.capacity() - v.len() => append_inline(v, bytes),
-        TinyVec::Heap(v) if bytes.len() <= v.capacity() - v.len() => {
-            // So few bytes are worth no call.
-            if bytes.len() < 16 {
+        TinyVec::Heap(v) if v.len() + bytes.len() <= v.capacity() => {
+            // Fewer bytes are worth no call.
+            if 16 <= bytes.len() {
+                append_many(v, bytes);
+            } else if each {
                 append_each(v, bytes);
             } else {
-                append_many(v, bytes);
+                append_few(v, bytes);
             }
         }
         _ => return push_slow(list, bytes),
     }
     Ok(())
+}
+
+/// Appends the `count` bytes at `start`, and makes room as `push_bytes` does.
+#[inline(always)]
+pub fn push_part<const N: usize>(
+    list: &mut TinyVec<[u8; N]>,
+    start: usize,
+    count: usize,
+) -> Result<(), AllocError>
+    requires { start + count ≤ tiny_len list.old }
+    ensures items { tiny_items list.new ≡ (if is_ok result
+        then tiny_items list.old ++ take count (drop start (tiny_items list.old)) else tiny_items list.old) }
+    ensures room { MakesRoom (is_inline list.old) (tiny_len list.old + count)
+        (tiny_view list.old) (tiny_view list.new) result }
+    ensures inline_capacity { IsInline list.old → tiny_capacity list.old ≡ N }
+{
+    match list {
+        TinyVec::Inline(v, _) if count <= v.capacity() - v.len() => repeat_inline(v, start, count),
+        TinyVec::Heap(v) if v.len() + count <= v.capacity() => repeat_on_heap(v, start, count),
+        _ => return push_part_slow(list, start, count),
+    }
+    Ok(())
+}
+
+// `push_part` onto any list.
+#[cold]
+#[inline(never)]
+fn push_part_slow<const N: usize>(
+    list: &mut TinyVec<[u8; N]>,
+    start: usize,
+    count: usize,
+) -> Result<(), AllocError>
+    requires { start + count ≤ tiny_len list.old }
+    ensures items { tiny_items list.new ≡ (if is_ok result
+        then tiny_items list.old ++ take count (drop start (tiny_items list.old)) else tiny_items list.old) }
+    ensures room { MakesRoom (is_inline list.old) (tiny_len list.old + count)
+        (tiny_view list.old) (tiny_view list.new) result }
+    ensures inline_capacity { IsInline list.old → tiny_capacity list.old ≡ N }
+{
+    list.reserve(count)?;
+    match list {
+        TinyVec::Inline(v, _) => repeat_inline(v, start, count),
+        TinyVec::Heap(v) => repeat_on_heap(v, start, count),
+    }
+    Ok(())
+}
+
+// Appends the `count` bytes at `start` to a list in its array that has room.
+#[inline(always)]
+fn repeat_inline<const N: usize>(v: &mut ArrayVec<[u8; N]>, start: usize, count: usize)
+    requires in_list { start + count ≤ items_len v.old }
+    requires room { count ≤ length (all_slots v.old) - items_len v.old }
+    ensures gains { Gains (length (all_slots v.old)) count (view v.old) (view v.new)
+        (items v.old ++ take count (drop start (items v.old))) }
+    ensures slot_count { length (all_slots v.new) ≡ length (all_slots v.old) }
+{
+    let len = v.len();
+    v.set_len(len + count);
+    repeat_at_end(v.as_mut_slice(), start, len, N);
+}
+
+// Writes the bytes from `start` over those from `len` on, which are not more than `most`.
+#[inline(always)]
+fn repeat_at_end(bytes: &mut [u8], start: usize, len: usize, most: usize)
+    requires in_bounds { len ≤ length bytes.old }
+    requires front { start + (length bytes.old - len) ≤ len }
+    requires bound { length bytes.old - len ≤ most }
+    ensures { bytes.new ≡ take len bytes.old ++ take (length bytes.old - len) (drop start bytes.old) }
+{
+    let (front, back) = bytes.split_at_mut(len);
+    let end = start + back.len();
+    write_over(back, &front[start..end], most);
+}
+
+// Appends the `count` bytes at `start` to a list on the heap that has room.
+#[inline(always)]
+fn repeat_on_heap(heap: &mut Vec<u8>, start: usize, count: usize)
+    requires in_list { start + count ≤ vec_len heap.old }
+    requires room { vec_len heap.old + count ≤ vec_capacity heap.old }
+    ensures { HeapBecomes heap.old heap.new (heap.old.items ++ take count (drop start heap.old.items)) }
+{
+    if count <= BLOCK {
+        repeat_block(heap, start, count);
+        return;
+    }
+    repeat_blocks(heap, start, count);
+}
+
+// `repeat_on_heap` in blocks.
+#[inline(never)]
+fn repeat_blocks(heap: &mut Vec<u8>, start: usize, count: usize)
+    requires in_list { start + count ≤ vec_len heap.old }
+    requires room { vec_len heap.old + count ≤ vec_capacity heap.old }
+    ensures { HeapBecomes heap.old heap.new (heap.old.items ++ take count (drop start heap.old.items)) }
+{
+    let mut done = 0;
+    while done < count {
+        let some = BLOCK.min(count - done);
+        repeat_block(heap, start + done, some);
+        done += some;
+    }
+}
+
+// `repeat_on_heap` of a block, as by `append_block`.
+fn repeat_block(heap: &mut Vec<u8>, start: usize, count: usize)
+    requires few { count ≤ 8192 }
+    requires in_list { start + count ≤ vec_len heap.old }
+    requires room { vec_len heap.old + count ≤ vec_capacity heap.old }
+    ensures { HeapBecomes heap.old heap.new (heap.old.items ++ take count (drop start heap.old.items)) }
+{
+    let mut vec = mem::replace(heap, Vec::new(*heap.allocator()));
+    let mut block = [0; BLOCK];
+    block[..count].copy_from_slice(&vec.as_slice()[start..start + count]);
+    push_block(&mut vec, &block, count);
+    put_back(heap, vec);
 }
 
 /// Appends `bytes` to a list that has room.
@@ -429,7 +589,15 @@ fn append_few(heap: &mut Vec<u8>, bytes: &[u8])
 {
     let mut vec = mem::replace(heap, Vec::new(*heap.allocator()));
     append_each(&mut vec, bytes);
-    *heap = vec;
+    put_back(heap, vec);
+}
+
+// Puts the vector back to where it was. An empty one is there, which LLVM leaves out if it is not dropped.
+#[inline(always)]
+fn put_back(heap: &mut Vec<u8>, vec: Vec<u8>)
+    ensures { heap.new ≡ vec }
+{
+    mem::forget(mem::replace(heap, vec));
 }
 
 // Appends bytes one by one. Of a number that LLVM knows, it makes a write or two.
@@ -470,28 +638,28 @@ fn append_blocks(heap: &mut Vec<u8>, bytes: &[u8])
     }
 }
 
-// Appends a block. `push_block` works on a local variable, whose length and pointer LLVM keeps in registers. Without
-// `inline(always)`: LLVM drops the block only if it has simplified this before it inlines it.
+// Appends a block by way of the stack. LLVM makes one `memmove` of it, and no block. Without `inline(always)`: LLVM drops
+// the block only if it has simplified this before it inlines it.
 fn append_block(heap: &mut Vec<u8>, bytes: &[u8])
-    requires few { length bytes.now ≤ 4096 }
+    requires few { length bytes.now ≤ 8192 }
     requires room { vec_len heap.old + length bytes.now ≤ vec_capacity heap.old }
     ensures { HeapBecomes heap.old heap.new (heap.old.items ++ bytes.now) }
 {
     let mut vec = mem::replace(heap, Vec::new(*heap.allocator()));
-    push_block(&mut vec, bytes);
-    *heap = vec;
-}
-
-// Appends a block by way of the stack. LLVM makes one `memmove` of it, and no block.
-#[inline(always)]
-fn push_block(vec: &mut Vec<u8>, bytes: &[u8])
-    requires few { length bytes.now ≤ 4096 }
-    requires room { vec_len vec.old + length bytes.now ≤ vec_capacity vec.old }
-    ensures { HeapBecomes vec.old vec.new (vec.old.items ++ bytes.now) }
-{
     let mut block = [0; BLOCK];
     let count = bytes.len();
     block[..count].copy_from_slice(bytes);
+    push_block(&mut vec, &block, count);
+    put_back(heap, vec);
+}
+
+// Appends the first `count` bytes of a block to a local variable, whose length and pointer LLVM keeps in registers.
+#[inline(always)]
+fn push_block(vec: &mut Vec<u8>, block: &[u8; BLOCK], count: usize)
+    requires few { count ≤ length block.now }
+    requires room { vec_len vec.old + count ≤ vec_capacity vec.old }
+    ensures { HeapBecomes vec.old vec.new (vec.old.items ++ take count block.now) }
+{
     for i in 0..count {
         vec.push_reserved(block[i]);
     }

@@ -9,13 +9,14 @@ ghost use Rattle.tinyvec_slots.specs.Ranges.{range_start, range_end, before, rem
 ghost use Rattle.tinyvec_text.specs.InlineText.{text_chars, text_len, TextStaysInPlace, IsBoundary};
 
 use super::InlineText;
-use super::bytes::remove_bytes;
+use super::bytes::{append_bytes, remove_bytes};
 use super::edits::first_char;
 use std::alloc::AllocError;
 use std::iter::FusedIterator;
 use std::marker::Model;
 use std::ops::RangeBounds;
 use std::{fmt, str};
+use tinyvec::TinyVec;
 use tinyvec_slots::authors::{resolve_range, subslice};
 
 /// Yields the characters that `drain` removed, from both ends. In a contract it is the bytes that are left.
@@ -56,10 +57,9 @@ impl<const N: usize> InlineText<N> {
     {
         let part = resolve_range(range, self.list.len());
         let bytes = subslice(self.list.as_slice(), part.start, part.end);
-        let Ok(removed) = str::from_utf8(bytes) else {
-            unreachable!();
-        };
-        let text = Self::from_str(*self.list.allocator(), removed)?;
+        let mut list = TinyVec::with_capacity(*self.list.allocator(), bytes.len())?;
+        append_bytes(&mut list, bytes);
+        let text = InlineText { list };
         remove_bytes(&mut self.list, part.start, part.end);
         Ok(InlineTextDrain { text, at: 0 })
     }

@@ -10,8 +10,8 @@ ghost use Rattle.std.specs.String.Boundary.{IsSplitPoint};
 
 use super::InlineText;
 use super::bytes::{
-    append_bytes, copied_to_heap, push_bytes, put_byte, put_bytes, remove_bytes, replace_bytes,
-    split_bytes,
+    append_bytes, copied_to_heap, cut_off, push_bytes, push_part, put_byte, put_bytes,
+    remove_bytes, replace_bytes, split_bytes,
 };
 use std::alloc::{AllocError, Global};
 use std::ops::RangeBounds;
@@ -67,7 +67,19 @@ impl<const N: usize> InlineText<N> {
             (text_view self.old) (text_view self.new) result }
         ensures inline_capacity { IsTrue (lies_inline self.old.place) → capacity_in self.old.place ≡ N }
     {
-        push_bytes(&mut self.list, string.as_bytes())?;
+        self.append(string, true)
+    }
+
+    // `push_str`. `each` is for `push_bytes`.
+    #[inline(always)]
+    pub(super) fn append(&mut self, string: &str, each: bool) -> Result<(), AllocError>
+        ensures bytes { self.new.bytes ≡ (if is_ok result then self.old.bytes ++ string.now else self.old.bytes) }
+        ensures text { OnOk result (text_chars self.new ≡ text_chars self.old ++ chars string.now) }
+        ensures room { MakesRoom (lies_inline self.old.place) (text_len self.old + length string.now)
+            (text_view self.old) (text_view self.new) result }
+        ensures inline_capacity { IsTrue (lies_inline self.old.place) → capacity_in self.old.place ≡ N }
+    {
+        push_bytes(&mut self.list, string.as_bytes(), each)?;
         Ok(())
     }
 
@@ -144,7 +156,7 @@ impl<const N: usize> InlineText<N> {
             (text_view self.old) (text_view self.new) result }
         ensures inline_capacity { IsTrue (lies_inline self.old.place) → capacity_in self.old.place ≡ N }
     {
-        push_bytes(&mut self.list, bytes)?;
+        push_bytes(&mut self.list, bytes, true)?;
         Ok(())
     }
 
@@ -200,7 +212,7 @@ impl<const N: usize> InlineText<N> {
         requires { IsBoundary (text_chars self.old) new_len }
         ensures { TextKeepsFront new_len self.old self.new }
     {
-        self.list.truncate(new_len);
+        cut_off(&mut self.list, new_len);
     }
 
     /// Empties the text. Does not allocate, and the text stays in its place.
@@ -321,7 +333,8 @@ impl<const N: usize> InlineText<N> {
             (text_view self.old) (text_view self.new) result }
         ensures inline_capacity { IsTrue (lies_inline self.old.place) → capacity_in self.old.place ≡ N }
     {
-        self.list.extend_from_within(range)?;
+        let part = resolve_range(range, self.list.len());
+        push_part(&mut self.list, part.start, part.end - part.start)?;
         Ok(())
     }
 

@@ -149,7 +149,8 @@ impl<const N: usize> fmt::Write for InlineText<N> {
             (text_view self.old) (text_view self.new) result }
         ensures inline_capacity { IsTrue (lies_inline self.old.place) → capacity_in self.old.place ≡ N }
     {
-        match self.push_str(s) {
+        // What is written seldom has a length that LLVM knows.
+        match self.append(s, false) {
             Ok(()) => Ok(()),
             Err(_) => Err(fmt::Error),
         }

@@ -11,7 +11,7 @@ invariant_of-self g c =
     let list = c.self.inside.list in
     let cut = text_cut list c.args.self.now c.self.view_is c.self.invariant c.args.new_len c.requires in
     let front = (IsUtf8-take-drop (tiny_items list) (text_utf8 list c.self.invariant) c.args.new_len cut).0 in
-    text_stays c.self.inside.list c.truncate.new.self _ c.truncate.ensures c.self.invariant front
+    text_stays c.self.inside.list c.cut_off.new.list _ c.cut_off.ensures c.self.invariant front
 
 pub returns : goal.returns
 returns g c =
@@ -20,7 +20,12 @@ returns g c =
     let rest = chars (drop c.args.new_len (tiny_items list)) in
     record {
       bytes = search rules;
-      text = (rest, sym (ap text_chars c.self.view_is) ∙ chars_cut (tiny_items list) (text_utf8 list c.self.invariant) c.args.new_len cut ∙ ap (λ xs. chars xs ++ rest) (sym c.truncate.ensures.items));
-      len = ap length c.truncate.ensures.items ∙ length-take-le c.args.new_len (tiny_items list) cut.0;
+      text = (rest, sym (ap text_chars c.self.view_is) ∙ chars_cut (tiny_items list) (text_utf8 list c.self.invariant) c.args.new_len cut ∙ ap (λ xs. chars xs ++ rest) (sym c.cut_off.ensures.items));
+      len = ap length c.cut_off.ensures.items ∙ length-take-le c.args.new_len (tiny_items list) cut.0;
       frame = search rules;
     }
+
+pub cut_off-requires : goal.cut_off-requires
+cut_off-requires g c =
+    let cut = text_cut c.self.inside.list c.args.self.now c.self.view_is c.self.invariant c.args.new_len c.requires in
+    (search rules, (search rules, (cut.0, c.self.invariant.1)))

@@ -4,7 +4,7 @@ use Rattle.std.proofs.lemmas.Str.{IsUtf8-append, chars-append}
 use Rattle.tinyvec.specs.TinyVec.{tiny_items, tiny_view}
 use Rattle.tinyvec_text.specs.InlineText.{Text, text_chars}
 use Rattle.tinyvec_text.proofs.Lists.{text_utf8, text_kept, text_same}
-use Rattle.tinyvec_text.proofs.inline_text.InlineText.push_str.Goals as goal
+use Rattle.tinyvec_text.proofs.inline_text.InlineText.append.Goals as goal
 
 pub invariant_of-self : goal.invariant_of-self
 invariant_of-self g c = text_same c.self.inside.list c.push_bytes.new.list c.in_err-push_bytes.ensures.room.refused c.self.invariant
