@@ -447,11 +447,9 @@ fn repeat_block(heap: &mut Vec<u8>, start: usize, count: usize)
     requires room { vec_len heap.old + count ≤ vec_capacity heap.old }
     ensures { HeapBecomes heap.old heap.new (heap.old.items ++ take count (drop start heap.old.items)) }
 {
-    let mut vec = mem::replace(heap, Vec::new(*heap.allocator()));
     let mut block = [0; BLOCK];
-    block[..count].copy_from_slice(&vec.as_slice()[start..start + count]);
-    push_block(&mut vec, &block, count);
-    put_back(heap, vec);
+    block[..count].copy_from_slice(&heap.as_slice()[start..start + count]);
+    push_block(heap, &block, count);
 }
 
 /// Appends `bytes` to a list that has room.
@@ -645,22 +643,22 @@ fn append_block(heap: &mut Vec<u8>, bytes: &[u8])
     requires room { vec_len heap.old + length bytes.now ≤ vec_capacity heap.old }
     ensures { HeapBecomes heap.old heap.new (heap.old.items ++ bytes.now) }
 {
-    let mut vec = mem::replace(heap, Vec::new(*heap.allocator()));
     let mut block = [0; BLOCK];
     let count = bytes.len();
     block[..count].copy_from_slice(bytes);
-    push_block(&mut vec, &block, count);
-    put_back(heap, vec);
+    push_block(heap, &block, count);
 }
 
-// Appends the first `count` bytes of a block to a local variable, whose length and pointer LLVM keeps in registers.
+// Appends the first `count` bytes of a block, by way of a local variable, whose length and pointer LLVM keeps in registers.
 #[inline(always)]
-fn push_block(vec: &mut Vec<u8>, block: &[u8; BLOCK], count: usize)
+fn push_block(heap: &mut Vec<u8>, block: &[u8; BLOCK], count: usize)
     requires few { count ≤ length block.now }
-    requires room { vec_len vec.old + count ≤ vec_capacity vec.old }
-    ensures { HeapBecomes vec.old vec.new (vec.old.items ++ take count block.now) }
+    requires room { vec_len heap.old + count ≤ vec_capacity heap.old }
+    ensures { HeapBecomes heap.old heap.new (heap.old.items ++ take count block.now) }
 {
+    let mut vec = mem::replace(heap, Vec::new(*heap.allocator()));
     for i in 0..count {
         vec.push_reserved(block[i]);
     }
+    put_back(heap, vec);
 }
