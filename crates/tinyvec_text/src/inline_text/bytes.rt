@@ -267,6 +267,10 @@ fn move_down(bytes: &mut [u8], from: usize, to: usize)
     ensures { take (length bytes.old - (from - to)) bytes.new ≡ take to bytes.old ++ drop from bytes.old }
 {
     let count = bytes.len() - from;
+    if count <= BLOCK {
+        move_block(bytes, from, to, count);
+        return;
+    }
     let mut done = 0;
     while done < count {
         let some = BLOCK.min(count - done);
