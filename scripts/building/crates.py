@@ -209,28 +209,19 @@ def kit():
 
 
 def lock(crates):
-    """Keeps other runs of these scripts, and of rt, out of the crates' folders until this process ends, or closes the files
-    that are returned."""
-    held = []
+    """Keeps other runs of these scripts, and of rt, out of the crates' folders until this process ends, or what is returned is
+    closed."""
+    held = contextlib.ExitStack()
     # In the order in which rt takes them, so that no two runs wait for each other.
     for crate in sorted(crates, key=lambda it: str(it.folder)):
-        held.append(os.open(crate.folder, os.O_RDONLY))
+        folder = os.open(crate.folder, os.O_RDONLY)
+        held.callback(os.close, folder)
         try:
-            fcntl.flock(held[-1], fcntl.LOCK_EX | fcntl.LOCK_NB)
+            fcntl.flock(folder, fcntl.LOCK_EX | fcntl.LOCK_NB)
         except BlockingIOError:
             say(f"waiting for another run, which works on {crate.name}, to end")
-            fcntl.flock(held[-1], fcntl.LOCK_EX)
+            fcntl.flock(folder, fcntl.LOCK_EX)
     return held
-
-
-@contextlib.contextmanager
-def locked(crates):
-    held = lock(crates)
-    try:
-        yield
-    finally:
-        for it in held:
-            os.close(it)
 
 
 def say(text):
@@ -245,6 +236,13 @@ def write_files(folder, files):
         (folder / path).write_bytes(text)
 
 
+def lay(top, crates, files_of):
+    """Makes a repository of these crates, each of these files."""
+    for it in crates:
+        write_files(top / "crates" / it.name, files_of(it))
+    write_files(top, {"crates.txt": "".join(f"{it.row}\n" for it in crates).encode()})
+
+
 class Copy:
     """A crate and those below it as a repository of their own, with the work that earlier runs kept."""
 
@@ -257,22 +255,18 @@ class Copy:
     def __enter__(self):
         # A run that was killed may have left one.
         self.clear()
-        for crate in [*self.crate.below, self.crate]:
-            self.add(crate, crate.files if crate is self.crate else crate.sources)
-        rows = [crate.row for crate in [*self.crate.below, self.crate]]
-        (self.top / "crates.txt").write_text("\n".join(rows) + "\n", encoding="utf-8")
+        needed = [*self.crate.below, self.crate]
+        lay(self.top, needed, lambda it: it.files if it is self.crate else it.sources)
+        for crate in needed:
+            out = self.top / "crates" / crate.name / "out"
+            out.mkdir(parents=True)
+            if crate.has_library():
+                # rt removes these files and writes them anew, and never writes into them.
+                shutil.copytree(crate.out / "rlib", out / "rlib", copy_function=os.link)
         kept = self.crate.out / "incremental"
         if kept.is_dir():
             kept.rename(self.out / "incremental")
         return self
-
-    def add(self, crate, files):
-        folder = self.top / "crates" / crate.name
-        (folder / "out").mkdir(parents=True)
-        write_files(folder, files)
-        if crate.has_library():
-            # rt removes these files and writes them anew, and never writes into them.
-            shutil.copytree(crate.out / "rlib", folder / "out/rlib", copy_function=os.link)
 
     def publish(self):
         """Puts what rt made in place of what the crate had."""
@@ -348,15 +342,22 @@ class Run:
             raise Stopped
         return ran.returncode
 
-    def ask(self, words, given=b"", limit=LIMIT):
-        """The status of a command, None where it has not ended in time, what it wrote, and what it said of itself."""
-        pipes = {"stdin": subprocess.PIPE, "stdout": subprocess.PIPE, "stderr": subprocess.PIPE}
-        with self.start(words, TOP, **pipes) as ran:
+    def ask(self, words, given=b"", limit=LIMIT, cwd=TOP, **how):
+        """The status of a command, None if it has not ended in so many seconds, what it wrote, and what it said of itself."""
+        pipes = {"stdin": subprocess.PIPE, "stdout": subprocess.PIPE, "stderr": subprocess.PIPE, **how}
+        # Ctrl-C is for this process alone, which ends the command once, so that rt removes its files.
+        with self.start(words, cwd, start_new_session=True, **pipes) as ran:
             try:
                 wrote, said = ran.communicate(given, limit)
             except subprocess.TimeoutExpired:
-                ran.kill()
-                return None, b"", b""
+                # Also what the command has started.
+                os.killpg(ran.pid, signal.SIGKILL)
+                return None, *ran.communicate()
+            except BaseException:
+                ran.terminate()
+                raise
+        if self.is_stopped:
+            raise Stopped
         return ran.returncode, wrote, said
 
     def output_faults(self, crate, words):
@@ -462,10 +463,6 @@ class Stopped(Exception):
     """Nothing more is to be done, since another step failed or this process is told to end."""
 
 
-class Interrupted(BaseException):
-    pass
-
-
 def run_main(main):
     """Calls main so that it can put things in order where it is told to end, and then ends as the signal asks."""
 
@@ -473,14 +470,14 @@ def run_main(main):
         # What follows is short, and a second signal would cut it off.
         for it in signals:
             signal.signal(it, signal.SIG_IGN)
-        raise Interrupted(number)
+        raise KeyboardInterrupt(number)
 
     signals = [it for it in (signal.SIGINT, signal.SIGTERM, signal.SIGHUP) if signal.getsignal(it) != signal.SIG_IGN]
     for it in signals:
         signal.signal(it, interrupt)
     try:
         sys.exit(main())
-    except Interrupted as interrupted:
+    except KeyboardInterrupt as interrupted:
         number = interrupted.args[0]
     signal.signal(number, signal.SIG_DFL)
     os.kill(os.getpid(), number)

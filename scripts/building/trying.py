@@ -6,7 +6,6 @@ import contextlib
 import pathlib
 import shlex
 import shutil
-import subprocess
 import tempfile
 
 from building import crates
@@ -25,28 +24,21 @@ class NotCompiled(SystemExit):
     """Ends the command, with what `rt try` says, where nothing else is done about it."""
 
 
-def program_of(crate, *words, start=subprocess.Popen):
+def program_of(crate, *words, run=crates.Run([])):
     """The program that `rt try` with these words compiles from the sources as they stand."""
     if not is_kept(crate, *words):
         with keeping_kit(crate) as (rt, program):
-            _, _, said = run(crate, words, rt=rt, start=start)
+            _, _, said = run.ask([rt, "try", *words], limit=None, cwd=crate.folder)
             if not program.exists():
                 raise NotCompiled(f"{said.decode(errors='replace')[-5000:]}{crate.name}: `rt try` does not compile it")
             keep(crate, program, kept(crate, *words))
     return kept(crate, *words)
 
 
-def run(crate, words, given=b"", rt="rt", start=subprocess.Popen):
-    """The status of `rt try`, what the program wrote and what rt said."""
-    pipes = {"stdin": subprocess.PIPE, "stdout": subprocess.PIPE, "stderr": subprocess.PIPE}
-    # Ctrl-C is for this process alone, which ends rt once, so that rt removes its files.
-    with start([rt, "try", *words], cwd=crate.folder, start_new_session=True, **pipes) as ran:
-        try:
-            wrote, said = ran.communicate(given)
-        except BaseException:
-            ran.terminate()
-            raise
-    return ran.returncode, wrote, said
+def told(crate, words=(), given=b"", run=crates.Run([])):
+    """What `rt try` says of a program or its tests: only there a check that stops it names its place."""
+    _, wrote, said = run.ask(["rt", "try", *words], given, limit=None, cwd=crate.folder)
+    return (wrote + said).decode(errors="replace")
 
 
 def kept(crate, *words):
@@ -74,12 +66,9 @@ def laid(crate, files_of=lambda it: it.files):
     """Lays a crate that is no folder of this repository, with those below it, in one of their own."""
     crate.out.mkdir(exist_ok=True)
     with tempfile.TemporaryDirectory(prefix=f"{crate.name}-", dir=crate.out) as room:
-        top, needed = pathlib.Path(room), crates.with_below([crate])
-        for it in needed:
-            files = {path: text for path, text in files_of(it).items() if path.startswith(("src/", "c/"))}
-            crates.write_files(top / "crates" / it.name, files)
-        crates.write_files(top, {"crates.txt": "".join(f"{it.row}\n" for it in needed).encode(), ".git/HEAD": b""})
-        crate.folder = top / "crates" / crate.name
+        compiled = lambda it: {path: text for path, text in files_of(it).items() if path.startswith(("src/", "c/"))}
+        crates.lay(pathlib.Path(room), crates.with_below([crate]), compiled)
+        crate.folder = pathlib.Path(room, "crates", crate.name)
         yield
 
 

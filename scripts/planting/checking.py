@@ -3,7 +3,6 @@ import os
 import pathlib
 import re
 import shutil
-import signal
 import subprocess
 import tempfile
 
@@ -102,7 +101,7 @@ class Desk:
     def lay(self, top):
         """Makes a repository of the crate alone, which lists only libraries of the toolchain, so that no check builds another."""
         copy = top / "crates" / self.crate.name
-        crates.write_files(copy, self.crate.sources)
+        crates.lay(top, [self.crate], lambda it: it.sources)
         if self.kept.is_dir():
             link(self.kept, copy / KEPT)
         name, _, used = self.crate.row.partition(":")
@@ -122,14 +121,5 @@ running = crates.Run([])
 
 def run(words, folder, limit=None, env=None):
     """The status of a command, or none if it did not end in so many seconds, and what it says."""
-    pipes = {"stdin": subprocess.DEVNULL, "stdout": subprocess.PIPE, "stderr": subprocess.STDOUT}
-    with running.start(words, folder, env=env, start_new_session=True, **pipes) as ran:
-        try:
-            said, status = ran.communicate(timeout=limit)[0], ran.returncode
-        except subprocess.TimeoutExpired:
-            # Also what the command has started.
-            os.killpg(ran.pid, signal.SIGKILL)
-            said, status = ran.communicate()[0], None
-    if running.is_stopped:
-        raise crates.Stopped
+    status, said, _ = running.ask(words, limit=limit, cwd=folder, env=env, stderr=subprocess.STDOUT)
     return status, said.decode(errors="replace")

@@ -230,7 +230,7 @@ def run(lines, is_tried=False, refusing=None):
 
     steps = []
     for part in (it for it in parts() if it.kinds in asked):
-        made = crates.Step(lambda _, part=part: make(part, tries.start))
+        made = crates.Step(lambda _, part=part: make(part, tries))
         shares = [asked[part.kinds][it :: crates.CORES] for it in range(crates.CORES)]
         steps += [made, *(crates.Step(lambda _, it=it, part=part: answer(part, it), [made]) for it in shares)]
     try:
@@ -265,9 +265,9 @@ def reached(sources, main):
     return {**files, "src/main.rt": kept.encode()}
 
 
-def make(part, start):
+def make(part, run):
     with trying.laid(part):
-        trying.program_of(part, start=start)
+        trying.program_of(part, run=run)
 
 
 def answered(crate, path, lines, is_tried=False, env=None):
@@ -280,7 +280,7 @@ def answered(crate, path, lines, is_tried=False, env=None):
     said = ran.stdout.decode(errors="replace").split("\n")[:-1]
     if ran.returncode != 0 or len(said) != len(lines):
         # Where a check stopped the program, only `rt try` names the place.
-        told = trying.run(crate, [], given)[2] if is_tried else ran.stderr
+        told = trying.told(crate, given=given) if is_tried else ran.stderr.decode(errors="replace")
         counts = f"{len(said)} of {len(lines)} rows are answered"
-        raise BadRow(f"{PROGRAM}: status {ran.returncode}, {counts}\n{told.decode(errors='replace')[-2000:]}")
+        raise BadRow(f"{PROGRAM}: status {ran.returncode}, {counts}\n{told[-2000:]}")
     return [it.split("\t") for it in said], ran.stderr

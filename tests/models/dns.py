@@ -1,20 +1,13 @@
 """Lines of `example_dns_query`, one in three spoiled, and the message of each, by the definition of a message.
 
 It is a header of twelve bytes, the name as labels, each after its length, and a zero, then the type and the class. A carriage
-return at a line's end is no part of the line. If dnspython is there (Debian's python3-dnspython), each message has to be its
-message too, as far as both read the name alike.
+return at a line's end is no part of the line.
 """
 import pathlib
-
-try:
-    import dns.message as peer
-except ImportError:
-    peer = None
 
 CRATE = pathlib.Path(__file__).resolve().parent.parent.parent / "crates/example_dns_query"
 TYPES = {b"A": 1, b"NS": 2, b"CNAME": 5, b"SOA": 6, b"PTR": 12, b"MX": 15, b"TXT": 16, b"AAAA": 28}
 PRINTED = bytes(it for it in range(33, 127) if it != ord("."))
-# Spellings that no other reader takes as it is.
 PLAIN = b"abcdefghijklmnopqrstuvwxyzABCDEFGHIJKLMNOPQRSTUVWXYZ0123456789-_"
 
 
@@ -31,14 +24,13 @@ def compared(draw, count, run):
     stored = (CRATE / "stdin").read_bytes().removesuffix(b"\n").split(b"\n")
     wrong = faults(lines, wrote) + faults(stored, (CRATE / "stdout").read_bytes())
     print("".join(f"{it}\n" for it in wrong), end="")
-    return f"{count} lines of queries{', also by dnspython' if peer else ''}", len(wrong)
+    return f"{count} lines of queries", len(wrong)
 
 
 def faults(lines, wrote):
     wanted, found = [answer(it) for it in lines], wrote.decode("ascii", "replace").splitlines()
     told = [f"{it!r}: {wants} is wanted" for it, wants, has in zip(lines, wanted, found) if wants != has]
-    told += [f"{len(found)} answers to {len(lines)} lines"] if len(found) != len(lines) else []
-    return told + [it for line, wants in zip(lines, wanted) for it in disagrees(line, wants)]
+    return told + [f"{len(found)} answers to {len(lines)} lines"] * (len(found) != len(lines))
 
 
 def answer(text):
@@ -49,7 +41,7 @@ def answer(text):
 
 
 def message(text):
-    words = words_of(text)
+    words = text.removesuffix(b"\r").split(b" ")
     if len(words) != 3:
         raise Refused("a line is a number, a name and a type, with one blank between two")
     digits = words[0].removeprefix(b"+")
@@ -59,10 +51,6 @@ def message(text):
         raise Refused("the third word is none of A, NS, CNAME, SOA, PTR, MX, TXT and AAAA")
     header = int(digits).to_bytes(2, "big") + bytes([1, 0, 0, 1, 0, 0, 0, 0, 0, 0])
     return header + wire(words[1]) + TYPES[words[2]].to_bytes(2, "big") + (1).to_bytes(2, "big")
-
-
-def words_of(text):
-    return text.removesuffix(b"\r").split(b" ")
 
 
 def wire(name):
@@ -78,17 +66,6 @@ def wire(name):
     if len(encoded) > 255:
         raise Refused("the name has more than 255 bytes on the wire")
     return encoded
-
-
-def disagrees(text, wants):
-    """What dnspython has otherwise. It reads some bytes of a name otherwise, and those names are left out."""
-    words = words_of(text)
-    if peer is None or wants.startswith("error") or words[1].strip(PLAIN + b"."):
-        return []
-    query = peer.make_query(words[1].decode(), words[2].decode(), use_edns=False)
-    query.id = int(words[0])
-    has = query.to_wire().hex()
-    return [f"{text!r}: dnspython has {has}"] if has != wants else []
 
 
 def drawn_line(draw):

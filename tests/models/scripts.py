@@ -6,9 +6,8 @@ block is freed.
 """
 import copy
 import math
-import re
 
-from rows.commands import COMMANDS, INDEX, NUMBER, bad
+from rows.commands import COMMANDS, bad, read
 from models.iterators import Splice, removed
 from models.texts import Text
 from models.vector_calls import move_to_the_heap, put, shrink_to_fit, swap_remove, take, with_len
@@ -68,31 +67,15 @@ class Model:
             return b"bad: a line has at most 128 bytes"
         name, blank, rest = line.partition(b" ")
         name, text = name.decode("latin-1"), rest.decode("latin-1")
-        word = text.split(" ")[0]
-        if name == "X" and blank:
-            answer = self.answer_text(rest)
-        else:
-            names, pattern = COMMANDS.get(word, ("", ""))
-            found = blank and name in self.held and name in names and re.fullmatch(pattern, text)
-            numbers = read(word, found) if found else None
-            answer = None if numbers is None else CALLS[word](self.held[name], *numbers)
-        return bad(name, text) if answer is None else f"{answer} {self.state(name)}".encode()
+        given = read(name, text) if blank else None
+        if given is None:
+            return bad(name, text)
+        return f"{CALLS[text.split(' ')[0]](self.held[name], *given)} {self.state(name)}".encode()
 
     def state(self, name):
         v = self.held[name]
         place = v.shown(v.spare) if name in "AS" else "inline" if v.is_inline else "heap"
         return f"{f'[{v.text()}]' if name == 'X' else v.shown(v.list)} {place}"
-
-    def answer_text(self, rest):
-        t, index = self.held["X"], re.fullmatch(rb"cut " + INDEX.encode(), rest)
-        if rest.startswith(b"add ") and len(rest) > 4:
-            try:
-                return "memory" if t.adds([rest[4:].decode("utf-8")]) is None else "ok"
-            except UnicodeDecodeError:
-                return None
-        if index and int(index[1]) < 2**64:
-            return t.becomes(t.list[: int(index[1])]) or "ok" if int(index[1]) in t.boundaries() else "range"
-        return None
 
     def refused(self, line):
         """What may be answered where memory is refused: `memory`, and nothing is changed, or what a splice has no room for. With
@@ -149,18 +132,9 @@ CALLS = {
     "reserve": reserve,
     "heap": lambda v: "memory" if move_to_the_heap(v) is None else "ok",
     "shrink": lambda v: shrink_to_fit(v) or "ok",
+    "cut": lambda t, i: t.becomes(t.list[:i]) or "ok" if i in t.boundaries() else "range",
+    "add": lambda t, text: "memory" if t.adds([text]) is None else "ok",
 }
-
-
-def read(word, found):
-    """The numbers of a call, and the letters of a splice; none where an index is no `usize`, or a number no `i32`."""
-    words = found[0].split(" ")[1:]
-    of_items = {"push": 0, "insert": 1, "splice": 3}.get(word, len(words))
-    numbers = [it if it.strip("fb-") == "" else int(it) for it in words]
-    are_right = all(
-        isinstance(it, str) or (-(2**31) <= it < 2**31 if i >= of_items else it < 2**64) for i, it in enumerate(numbers)
-    )
-    return numbers if are_right else None
 
 
 def drawn_script(draw, count):
@@ -187,8 +161,8 @@ def drawn_call(draw, name):
         return f"drain {start} {start + draw.randrange(4)}"
     if word == "reserve":
         return f"reserve {draw.choice([0, 1, 2, 3, 5, 50, REFUSED, 2**64 - 1, 2**64])}"
-    operands = COMMANDS[word][1].replace(INDEX, "{0}").replace(NUMBER, "{1}")
-    return operands.format(drawn_index(draw), drawn_number(draw))
+    operands = {"INDEX": str(drawn_index(draw)), "I32": str(drawn_number(draw))}
+    return " ".join([word, *(operands[it] for it in COMMANDS[word][1].split())])
 
 
 def drawn_text_call(draw):
