@@ -295,14 +295,14 @@ class Copy:
 
 
 class Run:
-    """Runs rt for some crates side by side. `expected` is how many seconds that may take."""
+    """Runs rt for some crates side by side."""
 
-    def __init__(self, crates, expected=None):
+    def __init__(self, crates):
         self.read_at = time.time()
         for crate in crates:
             # One state of all sources is proved, and not of each crate when its turn comes.
             _ = crate.files
-        self.number, self.expected, self.begun, self.begun_at = len(crates), expected, time.monotonic(), {}
+        self.number, self.begun, self.begun_at = len(crates), time.monotonic(), {}
         self.started, self.is_stopped, self.ended = [], False, set()
         self.guard = threading.RLock()
 
@@ -412,8 +412,7 @@ class Run:
         say(f"{crate.name}: {how} in {duration(time.monotonic() - self.begun_at[crate])}; {self.so_far()}")
 
     def so_far(self):
-        expected = f" of some {minutes(self.expected)}" if self.expected else ""
-        return f"{len(self.ended)} of {self.number} crates, {minutes(time.monotonic() - self.begun)} so far{expected}"
+        return f"{len(self.ended)} of {self.number} crates, {duration(time.monotonic() - self.begun)} so far"
 
     def print(self, line):
         """Writes a line of its own to standard output."""
@@ -449,10 +448,6 @@ def jobs_of(step, beside):
 def duration(seconds):
     minutes, seconds = divmod(round(seconds), 60)
     return f"{minutes} min {seconds} s" if minutes else f"{seconds} s"
-
-
-def minutes(seconds):
-    return f"{round(seconds / 60)} min" if seconds >= 60 else f"{round(seconds)} s"
 
 
 class NotProved(Exception):

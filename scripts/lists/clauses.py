@@ -221,12 +221,8 @@ def file_of(path):
 @functools.cache
 def edits_by_function():
     """Each function that edits may change, with one of its edits, or with none."""
-    found, folders = [], sorted(it.name for it in edits.FOLDER.iterdir() if it.is_dir())
-    all_edits, _ = edits.read_all(folders)
-    for crate in folders:
-        known = functions.of_crate(TOP / "crates" / crate)
-        texts = edits.reader(TOP / "crates" / crate)
-        found += [(f"edits {crate} {it.path()}", None) for it in known]
-        for edit in (it for it in all_edits if it.crate == crate and not edits.misfit(it, texts)):
-            found += [(f"edits {crate} {it}", edit) for it in {one.path() for one in edits.owners(edit, known, texts)}]
+    folders = sorted(it.name for it in edits.FOLDER.iterdir() if it.is_dir())
+    found = [(f"edits {crate} {it.path()}", None) for crate in folders for it in functions.of_crate(TOP / "crates" / crate)]
+    for edit, owners, _ in functions.owned(edits.read_all(folders)[0]):
+        found += [(f"edits {edit.crate} {it}", edit) for it in {one.path() for one in owners}]
     return found

@@ -54,15 +54,19 @@ class Edit:
 
 
 def read_all(crates):
-    """The edits of the crates, file by file, and what is wrong with those that cannot be read."""
+    """The edits of the crates, file by file, and why others cannot be read or applied."""
     edits, broken = [], []
     for crate in crates:
+        texts = reader(TOP / "crates" / crate)
         for path in sorted(it for it in (FOLDER / crate).rglob("*") if it.is_file()):
             name = path.relative_to(FOLDER / crate)
             try:
-                edits += read(crate, f"src/{name.with_suffix('.rt')}", path)
+                found = {it: misfit(it, texts) for it in read(crate, f"src/{name.with_suffix('.rt')}", path)}
             except BadEdit as why:
-                broken.append((f"{crate}/{name}", str(why)))
+                broken.append(f"{crate}/{name}: {why}")
+                continue
+            edits += [it for it, why in found.items() if not why]
+            broken += [f"{it}: {why}" for it, why in found.items() if why]
     return edits, broken
 
 

@@ -38,7 +38,7 @@ __attribute__((weak)) unsigned planted(void)
 def find(found, room, jobs):
     """Tells which test finds which edit, and returns the status to end with."""
     known = crates.read_crates()
-    numbered, others = bodies(found, known)
+    numbered, others = bodies(found)
     lay(room, numbered)
     left = dict(enumerate((edit for edit, *_ in numbered), 1))
     for it in (it for it in others if it.is_tested):
@@ -60,18 +60,15 @@ def find(found, room, jobs):
     return 1 if 100 * (count - len(left)) < FLOOR * count or not count else 0
 
 
-def bodies(found, known):
+def bodies(found):
     """The edits that change one body, each with its function and the new body, and the others."""
     numbered, others = [], []
-    for crate in dict.fromkeys(it.crate for it in found):
-        inside, texts = functions.of_crate(known[crate].folder), edits.reader(known[crate].folder)
-        for edit in (it for it in found if it.crate == crate):
-            owners = edits.owners(edit, inside, texts)
-            body = len(owners) == 1 and new_body(edit, owners[0], texts)
-            if body:
-                numbered.append((edit, owners[0], body))
-            else:
-                others.append(edit)
+    for edit, owners, texts in functions.owned(found):
+        body = len(owners) == 1 and new_body(edit, owners[0], texts)
+        if body:
+            numbered.append((edit, owners[0], body))
+        else:
+            others.append(edit)
     return numbered, others
 
 

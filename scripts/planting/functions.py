@@ -1,9 +1,11 @@
 """The functions of a crate's sources: where each stands, and how a check names it."""
 import dataclasses
+import functools
 import itertools
 import pathlib
 import re
 
+from planting import edits
 from reading import exports
 
 # A type one of whose parameters has a default.
@@ -56,6 +58,15 @@ class Function:
         return [*modules, name] == self.path().split("::")
 
 
+def owned(found):
+    """Each edit, crate by crate, with the functions that it changes, and what reads the texts of its crate."""
+    for crate in dict.fromkeys(it.crate for it in found):
+        folder = exports.TOP / "crates" / crate
+        texts = edits.reader(folder)
+        yield from ((it, edits.owners(it, of_crate(folder), texts), texts) for it in found if it.crate == crate)
+
+
+@functools.cache
 def of_crate(folder):
     """The functions of a formatted crate."""
     texts = {str(it.relative_to(folder)): it.read_text(encoding="utf-8") for it in sorted((folder / "src").rglob("*.rt"))}

@@ -15,28 +15,21 @@ class Run:
     """The edits that are tried, and what became of them."""
 
     def __init__(self, room, known, jobs, broken):
-        self.room, self.crates, self.jobs = room, known, jobs
-        self.broken = [f"{name}: {why}" for name, why in broken]
+        self.room, self.crates, self.jobs, self.broken = room, known, jobs, broken
         self.refused = {it: [] for it in checking.KINDS}
-        self.survived, self.unseen, self.left = [], [], []
-        self.rounds, self.owners, self.desks = [], {}, {}
+        self.survived, self.left = [], []
+        self.rounds, self.desks = [], {}
         self.libraries = checking.Libraries(room)
         # Only one crate or library is made ready at a time, with all jobs: more would need too much memory.
         self.guard, self.began, self.ended = threading.Lock(), time.monotonic(), 0
 
     def plan(self, found):
         """Puts the edits into rounds, the named ones first. One outside every function can only be tried alone."""
-        numbered = []
+        numbered, self.owners = [], {edit: owners for edit, owners, _ in functions.owned(found)}
+        self.unseen = [it for it, owners in self.owners.items() if not owners]
         for crate in dict.fromkeys(it.crate for it in found):
-            inside, texts = functions.of_crate(self.crates[crate].folder), self.texts(crate)
-            for edit in (it for it in found if it.crate == crate):
-                try:
-                    self.owners[edit] = edits.owners(edit, inside, texts)
-                except edits.BadEdit as why:
-                    self.broken.append(f"{edit}: {why}")
-            fit = [it for it in self.owners if it.crate == crate]
-            self.unseen += [it for it in fit if not self.owners[it]]
-            numbered += enumerate(self.grouped(sorted(fit, key=lambda it: not it.is_named)))
+            its = (it for it in self.owners if it.crate == crate)
+            numbered += enumerate(self.grouped(sorted(its, key=lambda it: not it.is_named)))
         # The crates take turns, so that one is made ready while edits of another are tried.
         self.rounds = [it for _, it in sorted(numbered, key=lambda it: it[0])]
 

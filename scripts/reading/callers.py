@@ -151,12 +151,7 @@ def receiver_start(text, at):
     while at > 0:
         letter = text[at - 1]
         if letter in ")]":
-            depth = 0
-            while at > 0:
-                at -= 1
-                depth += (text[at] in ")]") - (text[at] in "([")
-                if depth == 0:
-                    break
+            at -= contracts.end_of(text[:at][::-1], 0, ")]", "([")
         elif re.match(r"[\w.?!:]", letter) or letter.isspace() and text[at:].lstrip().startswith("."):
             at -= 1
         else:

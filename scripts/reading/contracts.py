@@ -30,21 +30,23 @@ def function(text):
     return signature, clauses, text[at:].strip(), is_short
 
 
-def end_of(text, at=0):
-    """Where the bracket ends that is there in a text."""
+def depths(text, at=0, opens="([{⟦", closes=")]}⟧"):
+    """Each place of a text, with the number of brackets that are open after its letter. The `>` of an arrow closes none."""
     depth = 0
-    for end in range(at, len(text)):
-        depth += (text[end] in "([{⟦") - (text[end] in ")]}⟧")
-        if depth == 0:
-            return end + 1
-    return len(text)
+    for at in range(at, len(text)):
+        depth += (text[at] in opens) - (text[at] in closes and text[at - 1 : at + 1] != "->")
+        yield at, depth
 
 
-def parts_of(text, separator, opens="([{⟦", closes=")]}⟧"):
-    """A text split at each separator that is in no brackets. The `>` of an arrow closes none."""
-    parts, depth, start = [], 0, 0
-    for at, letter in enumerate(text):
-        depth += (letter in opens) - (letter in closes and text[at - 1 : at + 1] != "->")
+def end_of(text, at=0, *brackets):
+    """Where the bracket ends that is there in a text."""
+    return next((end + 1 for end, depth in depths(text, at, *brackets) if depth == 0), len(text))
+
+
+def parts_of(text, separator, *brackets):
+    """A text split at each separator that is in no brackets."""
+    parts, start = [], 0
+    for at, depth in depths(text, 0, *brackets):
         if depth == 0 and at >= start and text.startswith(separator, at):
             parts.append(text[start:at].strip())
             start = at + len(separator)

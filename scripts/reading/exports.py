@@ -239,14 +239,8 @@ def impl_of(item):
 
 def split_angles(text):
     """A text that begins with parameters in angles: these, and the rest."""
-    if not text.startswith("<"):
-        return "", text
-    depth = 0
-    for at, letter in enumerate(text):
-        depth += (letter == "<") - (letter == ">" and text[at - 1] != "-")
-        if depth == 0:
-            return text[1:at], text[at + 1 :]
-    raise ValueError(text)
+    end = contracts.end_of(text, 0, "<", ">") if text.startswith("<") else 0
+    return text[1 : end - 1], text[end:]
 
 
 def head_of(type_):

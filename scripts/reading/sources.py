@@ -68,10 +68,7 @@ def faults(asked=()):
     documents = {word for text in texts for word in SPACE.split(text)}
     found = (it for it in Workspace(sources, documents).faults() if it[0].crate in asked)
     yield from sorted(f"crates/{source.crate}/{source.path}: {what}" for source, what in found)
-    changes, broken = edits.read_all([it for it in asked if (edits.FOLDER / it).is_dir()])
-    texts = {name: edits.reader(known[name].folder) for name in asked}
-    broken += [(str(it), why) for it in changes for why in [edits.misfit(it, texts[it.crate])] if why]
-    yield from sorted(f"tests/mutations: {name}: {why}" for name, why in broken)
+    yield from sorted(f"tests/mutations: {it}" for it in edits.read_all([it for it in asked if (edits.FOLDER / it).is_dir()])[1])
 
 
 def untold():

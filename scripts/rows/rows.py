@@ -1,4 +1,5 @@
 """Rows of calls: how they are read, given to the program that does them, and written as it writes what it answers."""
+import concurrent.futures
 import os
 import re
 import subprocess
@@ -7,13 +8,6 @@ from building import crates, trying
 
 TOP = crates.TOP
 PROGRAM = "tinyvec_cases"
-
-# The first words of the lines that each part of the program answers. From its main the arms of others are left out, so that
-# `rt try` takes about as long for one part as for another.
-PARTS = ("streams", "script", "errors", "InlineText", "Run"), ("TinyVec",), ("ArrayVec", "SliceVec")
-ARM = re.compile(r'^        "(\w+)" => .*,\n', re.M)
-MODULE = re.compile(r"^mod (\w+);\n", re.M)
-WORD = re.compile(r"\w*")
 
 # A text in quotes, or what is no part of one.
 QUOTED = re.compile(r'"(?:[^"\\]|\\.)*"')
@@ -217,57 +211,16 @@ def run(lines, is_tried=False, refusing=None):
         env = {**os.environ, "LD_PRELOAD": refusing.library} if refusing else None
         answers, told = answered(crate, crate.out / PROGRAM, lines, env=env)
         return (answers, [int(it) for it in WINDOW.findall(told)]) if refusing else answers
-    said = [None] * len(lines)
-    tries, asked = crates.Run([]), {}
-    for at, line in enumerate(lines):
-        word = WORD.match(line)[0]
-        asked.setdefault(next((it for it in PARTS if word in it), PARTS[0]), []).append(at)
-
-    def answer(part, share):
-        given = answered(crate, trying.kept(part), [lines[it] for it in share], is_tried)[0]
-        for at, it in zip(share, given):
-            said[at] = it
-
-    steps = []
-    for part in (it for it in parts() if it.kinds in asked):
-        made = crates.Step(lambda _, part=part: make(part, tries))
-        shares = [asked[part.kinds][it :: crates.CORES] for it in range(crates.CORES)]
-        steps += [made, *(crates.Step(lambda _, it=it, part=part: answer(part, it), [made]) for it in shares)]
+    shares, said = [slice(it, None, crates.CORES) for it in range(crates.CORES)], [None] * len(lines)
     try:
-        tries.do(steps)
+        program = trying.program_of(crate)
+        with concurrent.futures.ThreadPoolExecutor(crates.CORES) as pool:
+            answers = pool.map(lambda it: answered(crate, program, lines[it], is_tried)[0], shares)
+            for share, its in zip(shares, answers):
+                said[share] = its
     except (trying.NotCompiled, subprocess.TimeoutExpired) as why:
         raise BadRow(f"no answer: {why}")
     return said
-
-
-def parts():
-    """The crates that answer as the program does, each the lines of some kinds."""
-    whole = crates.read_crates()[PROGRAM]
-    main = whole.sources["src/main.rt"].decode()
-    if sorted(ARM.findall(main)) != sorted(it for kinds in PARTS for it in kinds):
-        raise BadRow(f"the arms of {PROGRAM} are {ARM.findall(main)}, and PARTS names others")
-    for kinds in PARTS:
-        name = f"{PROGRAM}_{kinds[0].lower()}"
-        files = reached(whole.sources, ARM.sub(lambda it: it[0] if it[1] in kinds else "", main))
-        uses = [it for it in whole.uses if any(f"{it.name}::".encode() in text for text in files.values())]
-        part = crates.Crate(name, f"{name}: {' '.join(it.name for it in uses)}", uses)
-        part.kinds, part.out, part.files = kinds, whole.out, files
-        yield part
-
-
-def reached(sources, main):
-    """A main with those modules that it names, or that these name."""
-    modules, files = MODULE.findall(main), {"src/main.rt": MODULE.sub("", main).encode()}
-    for _ in modules:
-        named = {it for it in modules for text in files.values() if re.search(rf"\b{it}(?:::|;)".encode(), text)}
-        files |= {f"src/{it}.rt": sources[f"src/{it}.rt"] for it in named}
-    kept = MODULE.sub(lambda it: it[0] if it[1] in named else "", main)
-    return {**files, "src/main.rt": kept.encode()}
-
-
-def make(part, run):
-    with trying.laid(part):
-        trying.program_of(part, run=run)
 
 
 def answered(crate, path, lines, is_tried=False, env=None):
