@@ -23,14 +23,10 @@ class Refusing:
 
     def run(self, words, number, given=b""):
         """Refuses the request of that number, none where it is 0."""
-        environment = {**os.environ, "LD_PRELOAD": self.library, "REFUSED": str(number)}
-        try:
-            ran = subprocess.run(words, input=given, env=environment, capture_output=True, timeout=LIMIT)
-        except subprocess.TimeoutExpired:
-            return Ran(None, b"", b"it had not ended after %d seconds\n" % LIMIT)
-        if ran.returncode >= 0 and not TOLD.search(ran.stderr):
-            return Ran(None, ran.stdout, ran.stderr + b"the library that refuses memory was not loaded\n")
-        return Ran(ran.returncode, ran.stdout, ran.stderr)
+        ran = run(words, given, LD_PRELOAD=self.library, REFUSED=str(number))
+        if ran.status is not None and ran.status >= 0 and not ran.is_counted:
+            ran.status, ran.error = None, ran.error + b"the library that refuses memory was not loaded\n"
+        return ran
 
 
 class Ran:
@@ -38,5 +34,14 @@ class Ran:
 
     def __init__(self, status, out, error):
         told = TOLD.search(error)
-        self.status, self.out, self.error = status, out, TOLD.sub(b"", error)
+        self.status, self.out, self.error, self.is_counted = status, out, TOLD.sub(b"", error), bool(told)
         self.requests, self.blocks = (int(told[1]), int(told[2])) if told else (0, 0)
+
+
+def run(words, given=b"", **environment):
+    """Runs a program with so much more in its environment."""
+    try:
+        ran = subprocess.run(words, input=given, env={**os.environ, **environment}, capture_output=True, timeout=LIMIT)
+    except subprocess.TimeoutExpired:
+        return Ran(None, b"", b"it had not ended after %d seconds\n" % LIMIT)
+    return Ran(ran.returncode, ran.stdout, ran.stderr)

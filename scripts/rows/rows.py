@@ -18,6 +18,8 @@ TIMES = re.compile(r"(.+)\*(\d+)")
 COMMA = re.compile(r",(?![^()]*\))")
 UP_TO = re.compile(r"(.*?)(-?\d+)\.\.(-?\d+)(.*)")
 WORD_UP_TO = re.compile(r"(?<!\S)([^\s\[\]]*?)(-?\d+)\.\.(-?\d+)([^\s\[\]]*) ")
+# In what is wanted, after a space: whatever it is, as the calls of a reader and a writer.
+ANY = ".."
 # After what a refused call answers and leaves: what it does when it is made again.
 AGAIN = ", then "
 # Marks of a start, formulas of letters, and the place that a heading gives to the lists of a row, whose state is at its end.
@@ -197,6 +199,13 @@ def sent(text):
 def unquoted(text):
     text = re.sub(r"\\u\{([0-9a-fA-F]+)\}", lambda it: chr(int(it[1], 16)), text[1:-1])
     return re.sub(r"\\(.)", lambda it: ESCAPES.get(it[1], it[1]), text)
+
+
+def difference(wanted, requests, got, made):
+    """What is told of a call that answers otherwise, or makes another number of requests. What is None is not known."""
+    if wanted is not None and not re.fullmatch(re.escape(wanted).replace(re.escape(f" {ANY}"), " .*"), got or ""):
+        return f"\n    wanted {short(wanted)}\n    got    {short(got or 'nothing')}"
+    return f": it made {made} requests for memory, and not {requests}" if None not in (requests, made) and requests != made else ""
 
 
 def short(text):

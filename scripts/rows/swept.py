@@ -3,10 +3,9 @@
 Where the input of a script fails, its complete lines are answered; where the output fails, its first bytes are written. A value
 of the Borsh form that is cut is told as the end of the input, and any failure but an interruption as a fault."""
 from rows import commands, rows
+from rows.rows import ANY
 
 MARK, CUT = "each byte", " cut"
-# In what is wanted: whatever the calls of the reader and the writer were.
-ANY = ".."
 # So many bytes are told in digits, where they are no text.
 MOST_DIGITS = 40
 

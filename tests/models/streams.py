@@ -1,5 +1,5 @@
 """Values of the Borsh form, read and written one after the other, over readers and writers that move a few bytes or fail."""
-from rows import borsh_form, swept
+from rows import borsh_form, rows, swept
 from models.texts import LETTERS, hexed
 
 NUMBERS = ("u8", "i8", "u16", "i16", "u32", "i32", "u64", "i64", "u128", "i128")
@@ -84,13 +84,14 @@ def drawn_chain(draw, _library):
         except Fault as fault:
             answer = str(fault)
         moved = (reader if name == "get" else writer).moved()
-        wanted.append(answer and f"{answer}, {reader.faults + writer.faults} faults / {moved}")
+        # Which calls the reader and the writer got is not in the model.
+        wanted.append(answer and f"{answer}, {reader.faults + writer.faults} faults / {rows.ANY} / {moved}")
     return start, [(" ".join([*call[:2], *map(sent, call[2:])]), want, None) for call, want in zip(calls, wanted)]
 
 
 def sent(value):
     """A value as the program reads it."""
-    return hexed(borsh_form.rows.unquoted(value)) if value.startswith('"') else value
+    return hexed(rows.unquoted(value)) if value.startswith('"') else value
 
 
 def drawn_value(draw, kind):
