@@ -131,20 +131,16 @@ def programs():
     return {it.out.name: it for it in made}
 
 
-def begin_with(base, crate):
-    """The functions that the other words leave as they were are proved once, with the program as it is."""
-    kept = "incremental"
-    if (base.out / kept).is_dir() and not (crate.out / kept).exists():
-        shutil.copytree(base.out / kept, crate.out / kept)
-
-
 def main():
     crates.lock(crates.with_below([base()]))
     for name, crate in programs().items():
         if crate.is_built():
             continue
         crate.out.mkdir(parents=True, exist_ok=True)
-        begin_with(crate.base, crate)
+        kept = "incremental"
+        # The functions that the other words leave as they were are proved once, with the program as it is.
+        if (crate.base.out / kept).is_dir() and not (crate.out / kept).exists():
+            shutil.copytree(crate.base.out / kept, crate.out / kept)
         crates.say(f"{NAME}, {name}: proved and built now")
         if not Run([crate]).build(crate, crates.CORES):
             sys.exit(f"{crate.out}/build.log: not proved")

@@ -78,34 +78,27 @@ def draw(folder, measured, micros, peaks):
 
 
 def write(folder, name, title, panels):
-    width = LEFT + len(panels) * (WIDTH + GAP)
-    width, height = max(width, 420), TOP + HEIGHT + 62
+    width, height = max(LEFT + len(panels) * (WIDTH + GAP), 420), TOP + HEIGHT + 62
     drawn = [f'<rect x="0.5" y="0.5" width="{width - 1}" height="{height - 1}" rx="8" class="page"/>', text(16, 24, title)]
-    ranges = [reach(lines) for _, lines in panels]
-    for i, ((words, lines), (xs, ys)) in enumerate(zip(panels, ranges)):
-        drawn += panel(LEFT + i * (WIDTH + GAP), words, lines, xs, ys)
+    for i, (words, lines) in enumerate(panels):
+        drawn += panel(LEFT + i * (WIDTH + GAP), words, lines)
     drawn += legend(height - 16, list(dict.fromkeys(it for _, lines in panels for it in lines)))
-    shapes = "\n".join(f"  {it}" for it in drawn)
-    size = f'width="{width}" height="{height}" viewBox="0 0 {width} {height}"'
-    svg = f'<svg xmlns="http://www.w3.org/2000/svg" {size} role="img">\n'
-    svg += f"  <title>{html.escape(title)}</title>\n  <style>{STYLE}  </style>\n{shapes}\n</svg>\n"
+    lines = "\n".join(f"  {it}" for it in drawn)
+    head = f'<svg xmlns="http://www.w3.org/2000/svg" width="{width}" height="{height}" viewBox="0 0 {width} {height}" role="img">'
+    svg = f"{head}\n  <title>{html.escape(title)}</title>\n  <style>{STYLE}  </style>\n{lines}\n</svg>\n"
     (pathlib.Path(folder) / f"{name}.svg").write_text(svg, encoding="utf-8")
 
 
-def reach(lines):
-    """The least and greatest power of ten of each axis."""
-    counts = [count for values in lines.values() for count in values]
-    heights = [value for values in lines.values() for value in values.values()]
-    return powers(counts), powers(heights)
-
-
 def powers(numbers):
+    """The least and greatest power of ten of an axis."""
     # A million in powers of four is a little more than that in powers of ten.
     least, most = math.floor(math.log10(min(numbers))), math.ceil(math.log10(max(numbers)) - 0.05)
     return least, max(most, least + 1)
 
 
-def panel(left, words, lines, xs, ys):
+def panel(left, words, lines):
+    xs = powers([count for values in lines.values() for count in values])
+    ys = powers([value for values in lines.values() for value in values.values()])
     drawn = [f'<rect x="{left}" y="{TOP}" width="{WIDTH}" height="{HEIGHT}" class="frame"/>']
     drawn.append(text(left + WIDTH / 2, TOP - 10, words, "title"))
     for power in range(xs[0], xs[1] + 1, 2 if xs[1] - xs[0] > 4 else 1):

@@ -91,23 +91,24 @@ def print_programs(measured):
     print(flush=True)
 
 
-def print_groups(measured, unit):
+def groups(measured):
+    """Each group of rows that a peer has, with its rows, and these peers."""
     for group in GROUPS:
         keys = [key for key in measured["here"] if group_of(key[0]) == group]
-        if peers_of(measured, keys):
-            print_group(group, keys, measured, unit)
+        if peers := peers_of(measured, keys):
+            yield group, keys, peers
 
 
-def print_group(group, keys, measured, unit):
-    peers = peers_of(measured, keys)
-    names = [name_of(it, group) for it in peers]
-    capacities = sorted({capacity for _, capacity in keys})
-    print(f"**{group}**: {unit}{OVER}{', '.join(names)}\n")
-    print_head("Row", [*capacities, WHY] if unit == COUNTED else capacities)
-    for row in dict.fromkeys(row for row, _ in keys):
-        cells = [cell(measured, peers, (row, it)) for it in capacities]
-        print_line(row, [*cells, why(row, slow(names, cells))] if unit == COUNTED else cells)
-    print(flush=True)
+def print_groups(measured, unit):
+    for group, keys, peers in groups(measured):
+        names = [name_of(it, group) for it in peers]
+        capacities = sorted({capacity for _, capacity in keys})
+        print(f"**{group}**: {unit}{OVER}{', '.join(names)}\n")
+        print_head("Row", [*capacities, WHY] if unit == COUNTED else capacities)
+        for row in dict.fromkeys(row for row, _ in keys):
+            cells = [cell(measured, peers, (row, it)) for it in capacities]
+            print_line(row, [*cells, why(row, slow(names, cells))] if unit == COUNTED else cells)
+        print(flush=True)
 
 
 def why(row, peers):
@@ -128,9 +129,8 @@ def is_above(ratio):
 def print_means(measured):
     """A line for each vector and peer: the geometric mean at each capacity, and the cells above the limit."""
     print_head("Instructions of", [*CAPACITIES, f"cells above {LIMIT}"])
-    for group in GROUPS:
-        keys = [key for key in measured["here"] if group_of(key[0]) == group]
-        for peer in peers_of(measured, keys):
+    for group, keys, peers in groups(measured):
+        for peer in peers:
             ratios = {key: ratio(measured, peer, key) for key in keys if key in measured[peer]}
             known = ([it for key, it in ratios.items() if key[1] == capacity] for capacity in CAPACITIES)
             means = [statistics.geometric_mean(it) if it else None for it in known]

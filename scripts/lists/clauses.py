@@ -2,14 +2,13 @@
 
 A line `clauses CALL: SUM NAMES` has the names of the call's clauses and a sum of what they state. A clause that cites a
 relation has the fields of that too, as proofs cite them: `room.place` is in `room(place)`. The fields of a clause without a
-name stand alone. What each `ArrayVec` states, and a `SliceVec` as well, is in a line of both: `clauses ArrayVec::pop, of
-SliceVec: ..`. The sum is of the clauses and ghost items, and of the definitions in `specs/` that these cite, and those that
-those cite, without comments and white space; std's words count by their names.
+name stand alone. A line of a call and its form is of both: `clauses ArrayVec::pop, of SliceVec: ..`. The sum is of the clauses
+and ghost items, and of the definitions in `specs/` that these cite, and those that those cite, without comments and white space;
+std's words count by their names.
 
-`tests/docs` names what the lock lacks and each sum that differs, which this writes, so that its diff has each call that
-states something else. It also names each clause that the sources lack, unless a line of the first part of CHANGELOG.md has
-it and its call in backticks (of a call that is gone, the call alone), and each edit that is gone while its function is
-there. This keeps the names of both: where an edit is replaced, its name is removed by hand.
+`tests/docs` names what the lock lacks and each sum that differs, which this writes, each clause that the sources lack, unless a
+line of the first part of CHANGELOG.md has it and its call in backticks (of a call that is gone, the call alone), and each edit
+that is gone while its function is there. This keeps the names of both: where an edit is replaced, its name is removed by hand.
 """
 import copy
 import functools

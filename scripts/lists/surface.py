@@ -8,8 +8,8 @@ each that only these crates have:
     NAME not TEXT             it is not here: a line of docs/DIFFERENCES.md, without its bar, begins with this text, or its last
                               column names this call
 
-and, for a crate of the toolchain that a library uses, `CRATE of the kit in CRATE`. What `pub use` passes on is there as of the
-crate that passes it on. Nothing here takes a line away, or lowers the number of a heading.
+and `CRATE of the kit in CRATE` for a crate of the toolchain that a library uses. What `pub use` passes on is there as of the crate
+that passes it on. Nothing here takes a line away, or lowers the number of a heading.
 """
 import functools
 import re

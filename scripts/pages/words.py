@@ -74,8 +74,6 @@ class Words:
             self.cited.update(dict.fromkeys(it for it in named if it in self.examples))
         self.define()
         self.above = PAGE.read_text(encoding="utf-8").partition(MARK)[0]
-        # The first word whose row says this.
-        self.first = {}
 
     def define(self):
         self.files = sorted({path for path, _ in self.cited if not path.startswith("std.")}, key=lambda it: (exports.LIBRARIES.index(it.split(".")[0]), it))
@@ -92,24 +90,7 @@ class Words:
         shown = sorted({self.examples[it][0] for it in rows if it in self.examples})
         links = " and ".join(f"[`{it.relative_to(TOP)}`](../../{it.relative_to(TOP)})" for it in shown)
         head = f"\n\n## `{stem}` of `{crate}`\n\n{title[1] if title else ''} In [`{file.name}`](../../{file.relative_to(TOP)})" + f", examples in {links}" * bool(shown) + ".\n"
-        own = [it for it in rows if self.first.setdefault(self.said(it), it) == it]
-        again = [it for it in rows if it not in own]
-        table = "\n| Word | Means | For example |\n|---|---|---|\n" + "\n".join(self.row(it) for it in own) if own else ""
-        return head + table + "".join(self.same(again))
-
-    def same(self, rows):
-        """Words whose rows would be those of another crate's words."""
-        found = {}
-        for it in rows:
-            found.setdefault(self.first[self.said(it)], it)
-        for of in dict.fromkeys(path for path, _ in found):
-            names = ", ".join(f'<a id="{exports.word_anchor(*it)}"></a>[`{it[1]}`](#{exports.word_anchor(*other)})' for other, it in found.items() if other[0] == of)
-            crate, _, stem = of.partition(".specs.")
-            yield f"\n\nAs in `{stem}` of `{crate}`: {names}."
-
-    def said(self, word):
-        """What the row of a word says."""
-        return self.defined[word].shown, self.defined[word].meaning, self.example(word)
+        return f"{head}\n| Word | Means | For example |\n|---|---|---|\n" + "\n".join(map(self.row, rows))
 
     def example(self, word):
         """The example of a word as it is shown."""

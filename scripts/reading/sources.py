@@ -2,10 +2,8 @@
 that nothing reaches from the contracts, the answers to goals and the documents; a name that a file imports and does not
 use, or that an item imports and its file has at its top; a header, the first line `//!` of a file, with a name in backticks
 that is nowhere, in a library also one that says `inserted` where its file has no `insert`, or a noun of NOUNS for an impl
-that its file lacks.
-
-Names are compared as words, so one that two things share is told of neither. First it looks for a fault of each kind in
-PLANTED, and fails where it does not tell one.
+that its file lacks. Names are compared as words, so one that two things share is told of neither. First it looks for a fault of
+each kind in PLANTED.
 """
 import collections
 import functools
