@@ -10,7 +10,6 @@ std's words count by their names.
 line of the first part of CHANGELOG.md has it and its call in backticks (of a call that is gone, the call alone), and each edit
 that is gone while its function is there. This keeps the names of both: where an edit is replaced, its name is removed by hand.
 """
-import copy
 import functools
 import hashlib
 import re
@@ -26,9 +25,6 @@ SUM = re.compile(r"([0-9a-f]{8})(?: |$)")
 CLAUSE = re.compile(r"ensures\*?(?: (\w+))? \{(.*)\}", re.S)
 GHOST = re.compile(r"ghost (\w+)")
 WORD = re.compile(r"(?<![\w.'-])[A-Za-z][\w'-]*")
-# The forms of a type that have lines of their own, and what stands between a call and its form in a line of both.
-FORMS = {"SliceVec": "ArrayVec", "SliceVecDrain": "ArrayVecDrain"}
-ALIAS = ", of "
 
 
 def write():
@@ -60,7 +56,7 @@ def kept(locked, current):
     gone = {line: [it for it in names if it not in current.get(line, ())] for line, names in locked.items()}
     for line, names in gone.items():
         if line.startswith("clauses "):
-            call = re.findall(r"\w+", line)[-1]
+            call = re.findall(r"\w+", line.partition(",")[0])[-1]
             needed = {it: {call, *[it.split(".")[-1]] * (line in current)} for it in names}
             gone[line] = [it for it in names if not any(needed[it] <= row for row in told)]
         elif line not in there:
@@ -72,27 +68,15 @@ def read():
     """The names of each line of the lock, and the sums."""
     names, sums = {}, {}
     for line, _, text in (it.rpartition(": ") for it in LOCK.read_text(encoding="utf-8").splitlines()):
-        line, _, alias = line.partition(ALIAS)
         summed = SUM.match(text) if line.startswith("clauses ") else None
-        for one in [line, form_of(line, alias)] if alias else [line]:
-            names[one] = list(unfolded(text[summed.end() :] if summed else text))
-            sums.update({one: summed[1]} if summed else {})
+        names[line] = list(unfolded(text[summed.end() :] if summed else text))
+        sums.update({line: summed[1]} if summed else {})
     return names, sums
 
 
 def written(names, sums):
     lines = {line: f"{sums[line]} {folded(names[line])}".rstrip() if line in sums else " ".join(names[line]) for line in names}
-    lines = {line: text for line, text in lines.items() if text}
-    for line, text in sorted(lines.items()):
-        for alias in (it for it in FORMS if text == lines.get(form_of(line, it)) and form_of(line, it) != line):
-            del lines[form_of(line, alias)]
-            lines[line + ALIAS + alias] = lines.pop(line)
-    return "".join(f"{line}: {lines[line]}\n" for line in sorted(lines))
-
-
-def form_of(line, alias):
-    """The line of a form of a type: of `SliceVec` that of `ArrayVec`."""
-    return re.sub(rf"\b{FORMS[alias]}(?=::|: )", alias, line, count=1)
+    return "".join(f"{line}: {text}\n" for line, text in sorted(lines.items()) if text)
 
 
 def folded(names):
@@ -130,25 +114,16 @@ def found():
 def stated(crate):
     """The public calls of a crate, each with the names of its clauses, and with what these state."""
     for export in exports.Crate(crate).exports():
-        found = list(stated_by(export))
-        yield from found
-        for alias in export.also:
-            it = copy.copy(export)
-            it.of = re.sub(r"\w+$", alias, export.of)
-            yield from ((key.replace(export.key(), it.key(), 1), names, text) for key, names, text in found)
-
-
-def stated_by(export):
-    """The calls of one export, each with the names of its clauses, and with what these state."""
-    scope = Scope(export.source.file)
-    for it in export.functions():
-        yield export.key() if it is export.item else f"{export.key()}::{it.name}", *clauses_of(it, scope)
-    # The laws of a trait are promises, and those of an impl proofs.
-    is_proof = lambda line: line.startswith("ghost use") or export.kind == "impl" and reference.PROOFS.match(line)
-    ghosts = [it for it in exports.item_members(export.item) if it.kind == "ghost" and not is_proof(it.lines[0])]
-    if ghosts:
-        texts = [contracts.without_comments("\n".join(it.lines) + "\n") for it in ghosts]
-        yield f"{export.key()}::ghost", [GHOST.match(it.lines[0])[1] for it in ghosts], scope.whole(texts)
+        scope, forms = Scope(export.source.file), "".join(f", of {it}" for it in export.also)
+        for it in export.functions():
+            inside = f"::{it.name}" * (it is not export.item)
+            yield export.key() + inside + forms, *clauses_of(it, scope)
+        # The laws of a trait are promises, and those of an impl proofs.
+        is_proof = lambda line: line.startswith("ghost use") or export.kind == "impl" and reference.PROOFS.match(line)
+        ghosts = [it for it in exports.item_members(export.item) if it.kind == "ghost" and not is_proof(it.lines[0])]
+        if ghosts:
+            texts = [contracts.without_comments("\n".join(it.lines) + "\n") for it in ghosts]
+            yield f"{export.key()}::ghost{forms}", [GHOST.match(it.lines[0])[1] for it in ghosts], scope.whole(texts)
 
 
 def clauses_of(item, scope):
