@@ -1,6 +1,6 @@
 """Edits that plant a bug: read from tests/mutations/CRATE, applied to the texts of a crate's files."""
+import contextlib
 import dataclasses
-import os
 import pathlib
 
 from building.crates import TOP
@@ -107,28 +107,13 @@ def applied(edit, texts):
 
 
 def merged(edits, texts):
-    """The texts of the files that some edits change, with all their changes. One that overlaps another is left out."""
-    found = {}
-    for edit in edits:
-        for file, new in applied(edit, texts)[1].items():
-            found.setdefault(file, []).append(changed_range(texts(file), new))
-    return {file: spliced(texts(file), ranges) for file, ranges in found.items()}
-
-
-def changed_range(text, new):
-    """Where a changed text differs from what it was, up to where, and what stands there."""
-    start = len(os.path.commonprefix([text, new]))
-    same = len(os.path.commonprefix([text[start:][::-1], new[start:][::-1]]))
-    return start, len(text) - same, new[start : len(new) - same]
-
-
-def spliced(text, ranges):
-    parts, at = [], 0
-    for start, end, new in sorted(ranges):
-        if start >= at:
-            parts += [text[at:start], new]
-            at = end
-    return "".join([*parts, text[at:]])
+    """The texts of the files that some edits change, with the changes of all but those for which others leave no place."""
+    changed = {}
+    # From the end of a file on, so that what precedes an edit is as it was.
+    for edit in sorted(edits, key=lambda it: applied(it, texts)[0], reverse=True):
+        with contextlib.suppress(BadEdit):
+            changed |= applied(edit, lambda file: changed.get(file) or texts(file))[1]
+    return changed
 
 
 def misfit(edit, texts):

@@ -99,8 +99,9 @@ class Run:
         return self.desk(crate).check(edits.merged(batch, self.texts(crate)), [] if is_whole else self.paths(batch), 1)
 
     def try_round(self, batch):
-        started = time.monotonic()
-        unseen = self.settle(batch)
+        started, said = time.monotonic(), self.check(batch)
+        # A check that gives no verdict, as of an edit that does not compile, shows none of them.
+        unseen = [it for it in batch if not (said.is_judged and self.takes_refusal(it, said))]
         self.unseen += unseen
         self.ended += 1
         print(
@@ -108,17 +109,6 @@ class Run:
             f"alone, {time.monotonic() - started:.0f} s",
             flush=True,
         )
-
-    def settle(self, batch):
-        """Checks a round, and returns what was not refused at its own function. One that gives no verdict is cut in two
-        until it is known which edit is to be tried alone."""
-        said = self.check(batch)
-        if said.is_judged:
-            return [it for it in batch if not self.takes_refusal(it, said)]
-        if len(batch) == 1:
-            return batch
-        half = len(batch) // 2
-        return self.settle(batch[:half]) + self.settle(batch[half:])
 
     def takes_refusal(self, edit, said):
         """Notes how the edit is refused at a function that it changes, or at a closure in it, where it is."""

@@ -137,6 +137,8 @@ class Crate:
         self.names, self.passed_on = {}, []
         # Other names under which something of these is exported: `pub use runs::{run_array as run_slice}`.
         self.renamed = {}
+        items = ((source, it) for source in self.sources.values() for it in source.items)
+        self.public = {it.name: (source, it) for source, it in items if it.is_public and it.kind in (*TYPES, "fn")}
         self.export(())
         self.declared = {it.name: it for source in self.sources.values() for it in source.items if it.kind in TYPES}
         named = {it.name: re.search(r"= (.*);", it.signature())[1] for it in self.declared.values() if it.kind == "type"}
@@ -145,34 +147,23 @@ class Crate:
         self.forms = {plain(of): alias for alias, of in named.items() if head_of(of) in self.declared}
 
     def export(self, module):
-        """Exports what a module makes public."""
-        source = self.sources[module]
-        for item in source.items:
-            if item.kind == "use" and item.is_public:
-                found = USED.match("\n".join(item.lines))
-                for name, other in NAMED.findall(found[2] or ""):
-                    self.resolve(module, found[1].split("::"), name)
+        """Exports what a module makes public. No two public items of a crate have one name."""
+        for item in (it for it in self.sources[module].items if it.is_public):
+            if item.kind == "use":
+                path, names = USED.match("\n".join(item.lines)).groups()
+                first = path.split("::")[0]
+                for name, other in NAMED.findall(names or ""):
+                    if first != "crate" and (first,) not in self.sources:
+                        self.passed_on.append((first, name))
+                    elif name in self.public:
+                        self.names[name] = self.public[name]
                     self.renamed |= {other: name} if other else {}
-            elif item.kind == "mod" and item.is_public:
+            elif item.kind == "mod":
                 self.export((*module, item.name))
-            elif item.is_public and item.kind in (*TYPES, "fn"):
-                self.names[item.name] = (source, item)
-        if module == ():
-            macros = ((source, it) for source in self.sources.values() for it in source.items if it.kind == "macro_rules!")
-            self.names.update({it.name: (source, it) for source, it in macros if it.is_public})
-
-    def resolve(self, module, path, name):
-        above = () if path[0] == "crate" else module
-        inner = (*above, *(it for it in path if it not in ("crate", "self")))
-        source = self.sources.get(inner)
-        if source is None:
-            self.passed_on.append((path[0], name))
-            return
-        for item in source.items:
-            if item.name == name and item.is_public and item.kind in (*TYPES, "fn"):
-                self.names[name] = (source, item)
-            elif item.kind == "use" and item.is_public and name in re.findall(r"\w+", item.lines[0]):
-                self.resolve(inner, USED.match("\n".join(item.lines))[1].split("::"), name)
+            elif item.name in self.public:
+                self.names[item.name] = self.public[item.name]
+        macros = ((source, it) for source in self.sources.values() for it in source.items if it.kind == "macro_rules!")
+        self.names.update({it.name: (source, it) for source, it in macros if it.is_public})
 
     def exports(self):
         """All that a caller can name, file by file."""
