@@ -62,11 +62,11 @@ def keep(crate, program, to):
 
 
 @contextlib.contextmanager
-def laid(crate, files_of=lambda it: it.files):
+def laid(crate):
     """Lays a crate that is no folder of this repository, with those below it, in one of their own."""
     crate.out.mkdir(exist_ok=True)
     with tempfile.TemporaryDirectory(prefix=f"{crate.name}-", dir=crate.out) as room:
-        compiled = lambda it: {path: text for path, text in files_of(it).items() if path.startswith(("src/", "c/"))}
+        compiled = lambda it: {path: text for path, text in it.files.items() if path.startswith(("src/", "c/"))}
         crates.lay(pathlib.Path(room), crates.with_below([crate]), compiled)
         crate.folder = pathlib.Path(room, "crates", crate.name)
         yield
