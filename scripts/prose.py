@@ -16,7 +16,7 @@ import sys
 TOP = pathlib.Path(__file__).resolve().parent.parent
 MOST, MOST_IN_ALL, ALONE = 13500, 30000, {"README.md": 1300}
 LONGEST = 35
-WHERE = ("*.md", "docs/*.md", "crates/*/*.md")
+WHERE, PAGES = ("*.md", "docs/*.md", "crates/*/*.md"), "docs/reference/*.md"
 # What follows this on a page of docs/reference is not written by hand.
 WRITTEN = "<!-- scripts/pages/"
 # A list of what has changed grows with each version.
@@ -55,12 +55,8 @@ def main():
     sys.exit(any(too_long()))
 
 
-def documents():
-    return [str(it.relative_to(TOP)) for pattern in WHERE for it in sorted(TOP.glob(pattern))]
-
-
-def references():
-    return [str(it.relative_to(TOP)) for it in sorted(TOP.glob("docs/reference/*.md"))]
+def documents(*where):
+    return [str(it.relative_to(TOP)) for pattern in where or WHERE for it in sorted(TOP.glob(pattern))]
 
 
 def read(name):
@@ -68,19 +64,16 @@ def read(name):
     return re.sub(r"(?<=\d)<!--.*?-->|<!-- (?:test|rows|run) .*?-->", "", (TOP / name).read_text(encoding="utf-8"))
 
 
-def total():
-    return sum(words_in(read(it)) for it in documents() if it not in UNCOUNTED)
-
-
 def in_all(names=None):
     """How many words with a letter or a digit are written by hand."""
-    texts = (read(it).partition(WRITTEN)[0] for it in names or [*documents(), *references()])
+    texts = (read(it).partition(WRITTEN)[0] for it in names or documents(*WHERE, PAGES))
     return sum(bool(re.search(r"\w", it)) for text in texts for it in text.split())
 
 
 def too_long():
     """What has more words than a maintainer reads in a morning, or a newcomer in ten minutes."""
-    for name, words, most in (("sentences", total(), MOST), ("documents", in_all(), MOST_IN_ALL), *((it, in_all([it]), most) for it, most in ALONE.items())):
+    counts = [("sentences", total(), MOST), ("documents", in_all(), MOST_IN_ALL)]
+    for name, words, most in [*counts, *((it, in_all([it]), most) for it, most in ALONE.items())]:
         if words > most:
             yield f"{name}: {words} words, and {most} at most: scripts/prose.py counts them"
 
@@ -88,6 +81,10 @@ def too_long():
 def words_in(text):
     """How many words its sentences have."""
     return len(TABLE.sub("", CODE.sub("", text)).split())
+
+
+def total():
+    return sum(words_in(read(it)) for it in documents() if it not in UNCOUNTED)
 
 
 def unended():
@@ -104,7 +101,7 @@ def unended():
 
 def named():
     """The hard sentences of the documents and of the pages that show the comments of the sources."""
-    yield from (f"{name}: hard to read: {it}" for name in [*documents(), *references()] for it in hard(read(name)))
+    yield from (f"{name}: hard to read: {it}" for name in documents(*WHERE, PAGES) for it in hard(read(name)))
 
 
 def faults():

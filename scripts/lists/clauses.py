@@ -120,7 +120,7 @@ def stated(crate):
             yield export.key() + inside + forms, *clauses_of(it, scope)
         # The laws of a trait are promises, and those of an impl proofs.
         is_proof = lambda line: line.startswith("ghost use") or export.kind == "impl" and reference.PROOFS.match(line)
-        ghosts = [it for it in exports.item_members(export.item) if it.kind == "ghost" and not is_proof(it.lines[0])]
+        ghosts = [it for it in export.item.members() if it.kind == "ghost" and not is_proof(it.lines[0])]
         if ghosts:
             texts = [contracts.without_comments("\n".join(it.lines) + "\n") for it in ghosts]
             yield f"{export.key()}::ghost{forms}", [GHOST.match(it.lines[0])[1] for it in ghosts], scope.whole(texts)

@@ -360,7 +360,7 @@ class Entry(exports.Export):
 
     def prose(self):
         yield from paragraphs(self.item.comment)
-        for it in self.item.members() if self.item.kind in ("impl", "trait") else ():
+        for it in self.item.members():
             if it.kind in ("fn", "type", "const") and it.comment:
                 yield from (f"`{it.name}`: {said}" for said in paragraphs(it.comment))
 

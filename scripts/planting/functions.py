@@ -82,7 +82,7 @@ def of_file(file, text, defaults):
     for block in items:
         # A trait is the type of its own functions.
         trait, type_, _ = exports.impl_of(block) if block.kind == "impl" else ("", block.name * (block.kind == "trait"), "")
-        for it in [block] if block.kind == "fn" else exports.item_members(block):
+        for it in [block] if block.kind == "fn" else block.members():
             if it.kind == "fn" and not it.lines[-1].endswith(";"):
                 start, end = span(it, starts)
                 head = len(it.head())

@@ -47,9 +47,11 @@ class Item:
 
     def members(self):
         """What stands in an impl or a trait."""
+        if self.kind not in ("impl", "trait"):
+            return []
         above = len(self.head()) + (len(self.head()) < len(self.lines) and self.lines[len(self.head())] == "{")
         lines = [it[4:] if it.startswith("    ") else it for it in self.lines[above:]]
-        return items_in(lines[:-1] if lines and lines[-1] == "}" else lines, self.at + above)
+        return list(items_in(lines[:-1] if lines and lines[-1] == "}" else lines, self.at + above))
 
     def signature(self):
         return " ".join(" ".join(self.head()).split())
@@ -99,10 +101,6 @@ class Source:
         self.begins = [at for at, line in enumerate(text.splitlines(), 1) if BEGINS.match(line)]
 
 
-def item_members(item):
-    return list(item.members()) if item.kind in ("impl", "trait") else []
-
-
 class Export:
     """What a caller can name: where it is, what it is called, and what is shown of it. `also` are the aliases of a form of its type
     that has it too, as `SliceVec` has what each `ArrayVec` has."""
@@ -124,7 +122,7 @@ class Export:
 
     def functions(self):
         """What can be called of it."""
-        return [self.item] if self.item.kind == "fn" else [it for it in item_members(self.item) if it.kind == "fn"]
+        return [self.item] if self.item.kind == "fn" else [it for it in self.item.members() if it.kind == "fn"]
 
 
 @functools.cache
@@ -197,21 +195,15 @@ class Crate:
 
     def lost(self):
         """What the sources export as far as a look at single lines tells, and what this did not find."""
-        found = {(it.source, it.item.at) for it in self.exports()}
         for source in self.sources.values():
             # Lines that begin a declaration, and that no item begins at.
-            read = {it.at for item in source.items for it in (item, *item_members(item))}
+            read = {it.at for item in source.items for it in (item, *item.members())}
             inside = [range(it.at + 1, it.at + len(it.lines)) for it in source.items if it.kind in ("fn", "macro_rules!")]
-            unread = (at for at in source.begins if at not in read and not any(at in it for it in inside))
-            yield from (f"{source.path}:{at}: scripts/reading/exports.py does not read what begins here" for at in unread)
-            for item in source.items:
-                named = set(re.findall(r"\w+", re.sub(r"\bwhere\b.*", "", item.signature()))) & self.declared.keys()
-                members = [it for it in item_members(item) if it.is_public] if item.kind == "impl" else []
-                is_shown = (source, item.at) in found or members and all((source, it.at) in found for it in members)
-                if item.kind == "impl" and not is_shown and named <= self.names.keys() and (members or " for " in item.signature()):
-                    yield f"{source.path}:{item.at}: an impl of what is exported, and scripts/reading/exports.py gives it to no page"
-                if item.kind == "macro_rules!" and "#[macro_export]" in item.attributes and (source, item.at) not in found:
-                    yield f"{source.path}:{item.at}: a macro that scripts/reading/exports.py gives to no page"
+            lost = [at for at in source.begins if at not in read and not any(at in it for it in inside)]
+            # What an impl has that is public and no function.
+            members = (it for item in source.items if item.kind == "impl" for it in item.members())
+            lost += [it.at for it in members if it.is_public and it.kind != "fn"]
+            yield from (f"{source.path}:{at}: scripts/reading/exports.py does not read what begins here" for at in lost)
         text = (TOP / "crates" / self.name / "src/lib.rt").read_text(encoding="utf-8")
         listed = {name for path, names in USED.findall(text) for name, _ in NAMED.findall(names)}
         yield from (f"crates/{self.name}/src/lib.rt: {it} is exported, and not found" for it in listed - self.names.keys() - {it for _, it in self.passed_on})
