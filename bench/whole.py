@@ -3,15 +3,14 @@ import concurrent.futures
 import filecmp
 import os
 import resource
-import shutil
 import subprocess
 import sys
 import tempfile
-import time
 
 import inputs
 import instructions
 import programs
+from rows import refusing
 
 
 def measure(lines, runs, cores):
@@ -76,14 +75,5 @@ def seconds_of(command, source, answers):
 
 
 def peak_of(command, source):
-    """The most memory of a run in KiB, seen from outside once the program has read its input and waits for more."""
-    with open(source, "rb") as lines, open(os.devnull, "wb") as nowhere:
-        child = subprocess.Popen(command, stdin=subprocess.PIPE, stdout=nowhere)
-        shutil.copyfileobj(lines, child.stdin)
-        child.stdin.flush()
-        time.sleep(0.1)
-        with open(f"/proc/{child.pid}/status", encoding="ascii") as status:
-            peak = next(int(line.split()[1]) for line in status if line.startswith("VmHWM"))
-        child.stdin.close()
-        child.wait()
-    return peak
+    with open(source, "rb") as lines:
+        return refusing.peak(command, iter(lambda: lines.read(1 << 16), b""))

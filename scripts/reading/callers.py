@@ -28,8 +28,6 @@ class Caller:
         inside = exports.split_angles(head[head.index(item.name) + len(item.name) :])[1]
         self.types = {name: known.type_named(of) for name, of in parameters(inside)}
         body = exports.OPAQUE.sub('""', "\n".join(item.lines[len(item.head()) :]))
-        while (at := body.find("::<")) >= 0:
-            body = body[:at] + exports.split_angles(body[at + 2 :])[1]
         for found in BOUND.finditer(body):
             self.types[found[1]] = known.type_named(found[2]) if found[2] else self.type_of(found[3])
         # By each call, the line that makes it last.

@@ -4,6 +4,7 @@ import os
 import pathlib
 import re
 import subprocess
+import time
 
 SOURCE = pathlib.Path(__file__).resolve().parent / "refusing.c"
 
@@ -36,6 +37,19 @@ class Ran:
         told = TOLD.search(error)
         self.status, self.out, self.error, self.is_counted = status, out, TOLD.sub(b"", error), bool(told)
         self.requests, self.blocks = (int(told[1]), int(told[2])) if told else (0, 0)
+
+
+def peak(command, pieces):
+    """The most memory of a run in KiB, seen from outside once the program has read its input and waits for more. It is 0 where
+    the run fails."""
+    with subprocess.Popen(command, stdin=subprocess.PIPE, stdout=subprocess.DEVNULL) as ran:
+        for it in pieces:
+            ran.stdin.write(it)
+        ran.stdin.flush()
+        time.sleep(0.1)
+        status = pathlib.Path(f"/proc/{ran.pid}/status").read_text(encoding="utf-8")
+        ran.stdin.close()
+    return int(re.search(r"^VmHWM:\s+(\d+) kB$", status, re.M)[1]) if ran.returncode == 0 else 0
 
 
 def run(words, given=b"", **environment):
