@@ -15,65 +15,12 @@ AFTER = re.compile(r"\.new\b|\.exit\b|^λ (?!_\.)")
 # A statement of more letters is left to its clause.
 LONGEST = 130
 
-# The words of generic code as a caller writes them that names the vector's type.
-BY_NAME = [
-    (re.compile(pattern), word)
-    for pattern, word in (
-        (r"view_capacity \(tiny_view_of (?:\w+\.Slots )?([^()\s]+)\)", r"tiny_capacity \1"),
-        (r"view_len \(tiny_view_of (?:\w+\.Slots )?([^()\s]+)\)", r"tiny_len \1"),
-        (r"view_inline \(tiny_view_of (?:\w+\.Slots )?([^()\s]+)\)", r"is_inline \1"),
-        (r"ViewInline \(tiny_view_of (?:\w+\.Slots )?([^()\s]+)\)", r"IsInline \1"),
-        (r"\b(tiny_(?:items|spare|len|capacity|view)|items|spare|view)_of (?:\w+\.Slots )?", r"\1 "),
-        (r"\blen_of (?:\w+\.Slots )?([^()\s]+)", r"length (items \1)"),
-        (r"\bslots_of A\.Slots ", "all_slots "),
-        (r"\bslots_of (?:S\.Slots )?", "slots "),
-    )
-]
-
-# Facts as English says them.
-PHRASES = [
-    (re.compile(pattern), english)
-    for pattern, english in (
-        (r"(?:self|vec)\.new ≡ (?:self|vec)\.old|Unchanged \(t\w+_view self\.old\) \(t\w+_view self\.new\)", "nothing changes"),
-        (r"other\.new ≡ other\.old", "`other` is unchanged"),
-        (r"(?:tiny_)?items self\.new ≡ (?:tiny_)?items self\.old", "the list is unchanged"),
-        (r"list_of (\(?.*)self\.new\)? ≡ list_of \1self\.old\)?", "the list is unchanged"),
-        (r"spare self\.new ≡ \[\]|length \(spare self\.old\) ≡ 0", "the list is full"),
-        (r"length \(items self\.new\) ≡ length \(slots self\.new\)", "the list is full"),
-        (r"tiny_len self\.(old|new) ≡ tiny_capacity self\.\1", "the list is full"),
-        (r"(?:length \(items self\.old\)|tiny_len self(?:\.old|\.now)?) ≡ 0", "the list is empty"),
-        (r"text_len self\.entry ≡ 0", "the text is empty"),
-        (r"IsInline self(?:\.old|\.now)?", "the list is inline"),
-        (r"is_inline self(?:\.old|\.now)? ≡ false", "the list is on the heap"),
-        (r"IsTrue \(lies_inline self\.\w+\.place\)", "the text is inline"),
-        (r"lies_inline self\.\w+\.place ≡ false|¬ \(IsTrue \(lies_inline self\.\w+\.place\)\)", "the text is on the heap"),
-        (r"All [\w.]+\.is_infallible (\S+|\(.*\))", "no clone of an item of `{}` can fail"),
-        (r"[\w.]+\.is_infallible (\w+)", "no clone of `{}` can fail"),
-        (r"\(j : ℕ\) × RefusedAt [\w.]+\.is_infallible (\S+|\(.*\)) j", "a clone of an item of `{}` can fail"),
-        (r"IntoIterYields \S+ \S+ (\w+) (\w+)", "`{}` is known to yield `{}`"),
-        (r"R\.has_bounds range", "`range` has bounds"),
-        (r"IsRangeOf \(.*self\.old\) \(R\.start_bound range\) \(R\.end_bound range\)", "`range` is in the list"),
-        (r"range_start \(R\.start_bound range\) ≤ range_end \(R\.end_bound range\) \(text_len self\.old\)", "it does not end before it starts"),
-        (r"IsBoundary \(text_chars self\.old\) \(range_start \(R\.start_bound range\)\)", "it starts at a boundary"),
-        (r"IsBoundary \(text_chars self\.old\) \(range_end \(R\.end_bound range\) \(text_len self\.old\)\)", "it ends at a boundary"),
-        (
-            r"\(x : \S+\) → slice_get .* ≡ Some x → FnOnceTakesAtMut F\.FnOnce (\w+) x",
-            "`{}` may be called with the last item, if there is one",
-        ),
-        (r"SpliceCanNext V\.items I\.can_next(?:_back)? self(?:\.old)?", "the replacement may be iterated"),
-        (
-            r"MatchBool V\.must_end \(FusedFinite I\.remaining \(splice_replacement self\)\) ⊤",
-            "the replacement ends, if the vector is a `TinyVec`",
-        ),
-        (r"\w+\.IsAlwaysCallable (\w+)(?:\.old)?", "`{}` may be called with each argument, again and again"),
-        (r"\(it : (\w+)\.IntoIter\) → \1\.into_iter_gives (\w+) it → \1\.IntoIter\.can_next it", "`{1}` may be iterated"),
-        (
-            r"\(it : (\w+)\.IntoIter\) → \1\.into_iter_gives (\w+) it → \1\.IntoIter\.can_next it"
-            r" × IsFinite \(\1\.IntoIter\.remaining it\)( × HoldsAlong \1\.IntoIter\.next_gives it \(λ _\. ⊤\))?",
-            "`{1}` may be iterated, and ends",
-        ),
-    )
-]
+# The words of generic code as a caller writes them that names the vector's type, and facts as English says them.
+PHRASES = exports.TOP / "docs/reference/phrases.txt"
+BY_NAME, IN_ENGLISH = (
+    [(re.compile(pattern), said) for pattern, said in (it.split(" => ") for it in block.splitlines() if not it.startswith("#"))]
+    for block in PHRASES.read_text(encoding="utf-8").split("\n\n")
+)
 
 
 class Outcomes:
@@ -246,7 +193,7 @@ def english(fact):
     for pattern, word in BY_NAME:
         fact = pattern.sub(word, fact)
     fact = tidy(fact.replace(" + 0", ""))
-    for pattern, said in PHRASES:
+    for pattern, said in IN_ENGLISH:
         if found := pattern.fullmatch(fact):
             return said.format(*(bare(it or "") for it in found.groups()))
     return f"`{fact}`"
