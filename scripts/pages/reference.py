@@ -8,6 +8,7 @@ import re
 
 from pages import costs, examples, outcomes
 from reading import callers, exports
+from reading.exports import PAGES
 
 TOP = exports.TOP
 FOLDER = TOP / "docs/reference"
@@ -15,20 +16,6 @@ MARK = "<!-- scripts/pages/reference.py writes what follows -->"
 
 # A page has at most so many lines.
 MOST = 2000
-
-# The crate of each page, and the type whose methods are named without it. Of a crate of two pages the first has what is of no other's.
-PAGES = {
-    "ARRAY_VEC": ("tinyvec_array", "ArrayVec"),
-    "ARRAY_VEC_BULK": ("tinyvec_array", "ArrayVec"),
-    "SLICE_VEC": ("tinyvec_array", "SliceVec"),
-    "TINY_VEC": ("tinyvec", "TinyVec"),
-    "TINY_VEC_BULK": ("tinyvec", "TinyVec"),
-    "INLINE_TEXT": ("tinyvec_text", "InlineText"),
-    "BORSH": ("tinyvec_borsh", None),
-    "COUNTED": ("tinyvec_io", "Counted"),
-    "SCRIPT": ("tinyvec_script", None),
-    "SLOTS": ("tinyvec_slots", None),
-}
 
 # The page of the table of calls, and the types that it has.
 INDEX = "README"
@@ -44,38 +31,11 @@ BULK = ("extending", "drain", "splice", "filters", "clones", "into_iter")
 # A note is shown on the first of its pages in this order.
 ORDER = ("TINY_VEC", "TINY_VEC_BULK", "ARRAY_VEC", "ARRAY_VEC_BULK", "SLICE_VEC", "INLINE_TEXT", "BORSH", "COUNTED", "SCRIPT", "SLOTS")
 
-# The sections of all pages, in the order of std's pages: what makes a value, its capacity, what reads it, what changes it,
-# what takes it apart, the types that calls return, errors, traits.
-SECTIONS = (
-    *("form", "serialize", "deserialize", "making", "capacity", "reading", "writing", "edits", "extending", "drain"),
-    *("splice", "filters", "extracting", "clones", "taking", "call", "command", "runs", "driving", "in_array", "in_slice"),
-    *("script", "slots", "into_iter", "owned", "no_room", "no_memory", "capacity_error", "try_from_slice_error", "from_utf8_error"),
-    "borsh_error",
-    *("array_vec", "tiny_vec", "inline_text", "numbers", "traits", "parts"),
-)
+# The sections of all pages, each with its title, if it has one of its own.
+LINES = (FOLDER / "sections.txt").read_text(encoding="utf-8").splitlines()
+SECTIONS = {it.split(" | ")[0]: it.partition(" | ")[2] for it in LINES if it and not it.startswith("#")}
 # The modules whose section is another's.
 TOGETHER = {"array": "slots", "bound": "slots", "takes_clones": "slots"}
-TITLES = {
-    "slots": "What a vector is over",
-    "making": "Making one",
-    "edits": "Pushing, inserting, removing",
-    "extending": "Growing",
-    "drain": "Moving a range out",
-    "splice": "Replacing a range",
-    "filters": "Keeping some items",
-    "capacity": "Room, and moves to the heap and back",
-    "clones": "Cloning",
-    "borsh_error": "Errors",
-    "reading": "Looking at it",
-    "writing": "Lending it for writing",
-    "taking": "Taking it apart",
-    "traits": "The type and its traits",
-    "extracting": "Removing what a closure chooses",
-    "owned": "The iterator that owns its items",
-    "no_room": "What an item without room is returned in",
-    "no_memory": "What an item without memory is returned in",
-    "parts": "For those who write vectors",
-}
 
 # Ghost items that are proofs. A reader needs the definitions beside them.
 PROOFS = re.compile(
@@ -121,7 +81,7 @@ def faults():
     yield from costs.faults(library.calls)
     yield from examples.faults(library.keys, library.calls)
     sections = {it.section(main_of(page)) for page, found in library.pages.items() for it in found}
-    yield from (f"scripts/pages/reference.py: in which place is the section {it}?" for it in sorted(sections - set(SECTIONS)))
+    yield from (f"docs/reference/sections.txt: in which place is the section {it}?" for it in sorted(sections - set(SECTIONS)))
     for page, found in library.pages.items():
         for it in (it for it in found if it.key() in library.calls - library.uncalled - library.examples.keys()):
             entry = written[page].partition(it.mark(main_of(page)))[2].partition("\n##")[0]
@@ -423,7 +383,7 @@ class Page:
         for found in self.sections.values():
             # The calls of the page's type, then what they return.
             found.sort(key=self.place)
-        self.order = sorted(self.sections, key=lambda it: SECTIONS.index(it) if it in SECTIONS else len(SECTIONS))
+        self.order = [*(it for it in SECTIONS if it in self.sections), *(it for it in self.sections if it not in SECTIONS)]
 
     def place(self, it):
         is_own = it.kind == "method" and it.of == self.main
@@ -431,7 +391,7 @@ class Page:
         return (not is_own, it.name != "new", is_elsewhere, it.kind in ("impl", "method"), self.entries.index(it)) if self.main else ()
 
     def title(self, section):
-        title = TITLES.get(section) or self.sections[section][0].source.title.replace("`", "")
+        title = SECTIONS.get(section) or self.sections[section][0].source.title.replace("`", "")
         return title.partition(". ")[0]
 
     def contents(self, place=""):

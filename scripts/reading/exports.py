@@ -7,6 +7,21 @@ from reading import contracts
 
 LIBRARIES = "tinyvec_slots tinyvec_array tinyvec tinyvec_text tinyvec_io tinyvec_borsh tinyvec_script".split()
 
+# The pages of docs/reference: the crate of each, and the type whose methods are named without it. Of a crate of two pages the
+# first has what is of no other's.
+PAGES = {
+    "ARRAY_VEC": ("tinyvec_array", "ArrayVec"),
+    "ARRAY_VEC_BULK": ("tinyvec_array", "ArrayVec"),
+    "SLICE_VEC": ("tinyvec_array", "SliceVec"),
+    "TINY_VEC": ("tinyvec", "TinyVec"),
+    "TINY_VEC_BULK": ("tinyvec", "TinyVec"),
+    "INLINE_TEXT": ("tinyvec_text", "InlineText"),
+    "BORSH": ("tinyvec_borsh", None),
+    "COUNTED": ("tinyvec_io", "Counted"),
+    "SCRIPT": ("tinyvec_script", None),
+    "SLOTS": ("tinyvec_slots", None),
+}
+
 # Text in which a bracket is none: strings, characters and comments.
 OPAQUE = re.compile(r'"(?:\\.|[^"\\])*"|\'(?:\\.|[^\'\\])\'|//.*')
 DECLARED = re.compile(
