@@ -3,6 +3,7 @@ plots side by side, both axes by powers. A picture has its own background, and i
 import html
 import math
 import pathlib
+import textwrap
 
 import tables
 
@@ -21,29 +22,7 @@ CLASSES = {
     "here": "here", "tv": "here", "tinyvec": "one", "plain Rust": "one", "smallvec": "two", "arrayvec": "two", "vec": "three",
 }
 
-STYLE = """
-  .page { fill: #ffffff; stroke: #c4cad2 }
-  text { font: 12px sans-serif; fill: #1c2026 }
-  .title { font-weight: bold; text-anchor: middle }
-  .mark { font-size: 10px; fill: #4d5661; text-anchor: middle }
-  .left { text-anchor: end }
-  .frame { fill: none; stroke: #c4cad2 }
-  polyline { fill: none; stroke-width: 1.6 }
-  .here { stroke: #1458c4; stroke-width: 2.6 }
-  .one { stroke: #c2410c }
-  .two { stroke: #15803d; stroke-dasharray: 5 2 }
-  .three { stroke: #7e22ce; stroke-dasharray: 2 2 }
-  @media (prefers-color-scheme: dark) {
-    .page { fill: #1b1f25; stroke: #4a525d }
-    text { fill: #eef1f5 }
-    .mark { fill: #b4bdc9 }
-    .frame { stroke: #4a525d }
-    .here { stroke: #6ea8ff }
-    .one { stroke: #fb923c }
-    .two { stroke: #4ade80 }
-    .three { stroke: #d8b4fe }
-  }
-"""
+STYLE = textwrap.indent((tables.TOP / "docs/pictures/growth.css").read_text(encoding="utf-8"), "  ")
 
 
 def lines_of(measured, row):
@@ -85,7 +64,7 @@ def write(folder, name, title, panels):
     drawn += legend(height - 16, list(dict.fromkeys(it for _, lines in panels for it in lines)))
     lines = "\n".join(f"  {it}" for it in drawn)
     head = f'<svg xmlns="http://www.w3.org/2000/svg" width="{width}" height="{height}" viewBox="0 0 {width} {height}" role="img">'
-    svg = f"{head}\n  <title>{html.escape(title)}</title>\n  <style>{STYLE}  </style>\n{lines}\n</svg>\n"
+    svg = f"{head}\n  <title>{html.escape(title)}</title>\n  <style>\n{STYLE}  </style>\n{lines}\n</svg>\n"
     (pathlib.Path(folder) / f"{name}.svg").write_text(svg, encoding="utf-8")
 
 
