@@ -14,60 +14,14 @@ from building import crates
 NAME = "tinyvec_bench"
 CPU = "x86-64-v3"
 
-# The toolchain's vectors cannot be emptied without a write, so beside them each side begins a row by `clear`.
-CLEARED = {r"(?s)(fn empty\(&mut self\) \{\n).*?\n    \}": r"\1        self.clear();\n    }"}
+WORDS = crates.TOP / "bench/toolchain.txt"
 
-# Their `extend_from_slice` copies, so their items are numbers alone.
-COPIED = CLEARED | {
-    r"T: Item \+ Clone": "T: Item + Copy + Clone",
-    # A call that they lack, in a row that is left out.
-    r"self\.extract_if\(.*\)": "0..0",
-}
-
-# The toolchain's vectors in an array: `arrayvec`, `smallvec` and `ArrayString`.
-INLINE = COPIED | {
-    # Calls that they lack, in rows that are left out.
-    r"(self|vec)\.(splice|replace_range)\(.*\)": "false",
-    r"(?s)(fn splice_more<[^{]*\{\n).*?\n\}": r"\1    0\n}",
-    r"ArrayVec::dedup\(self\);": "",
-    r"(ArrayVec|TinyVec)(::)?<\[(\w+); (\w+)\]>": r"\1\2<\3, \4>",
-    # Its `len` says that a list fits, these three calls do not.
-    r"( +)(self\.(?:pop\(\)|remove\(i\)|swap_remove\(i\))\n)": r"\1let _len = self.len();\n\1\2",
-    r"\btinyvec_array::": "arrayvec::",
-    r"(capacity\(\) (&&|\|\|) \w+\.)extend_from_slice": r"\1try_extend_from_slice",
-    r"\.extend_exact_size\(": ".extend(",
-    r"\btinyvec::": "smallvec::",
-    r"vec\.move_to_the_heap\(\)": "vec.reserve(1)",
-    r"\bTinyVec\b": "SmallVec",
-    r"is_odd\(item: &u64\)": "is_odd(item: &mut u64)",
-    r"\btinyvec_text::InlineText": "arrayvec::ArrayString",
-    r"InlineText::new\(alloc\)": "ArrayString::new()",
-    r"InlineText": "ArrayString",
-    # Its errors have two types, of which `?` takes neither.
-    r"type Refused = .*;": "type Refused = arrayvec::CapacityError;",
-    r"\bmade\.push(.*)\?;": r"made.try_push\1.map_err(|error| error.simplify())?;",
-    r"\bmade\.push": "made.try_push",
-    r"\bmade\.as_bytes\(\)": "made.as_str().as_bytes()",
-}
 # Rows that the toolchain's vectors do not have.
 OF_OWN = r"\bof_(front_half|lent|long_lists|slice_edits|slots|text_forms|text_own|tiny_calls|tiny_forms)\b|mod (long|slot_calls|text_own|tiny_(calls|own));"
 NOT_INLINE = OF_OWN + (
     r"|mod (calls|form|growth|nodes|prints|slices|splicing|text_calls|text_more);|\bof_(arrays|forms|lists|nodes|slices|text_calls)\b"
     r"|of_cuts::<R, ArrayVec|\bsplices\b|\"(extract_half|splice_more)\"|of_texts::<R, (2|8|32)>"
 )
-
-# std's `Vec` and `String`. What the others do in an array, they do on the heap.
-STD = COPIED | {
-    r"\buse tinyvec(_text)?::\w+;\n": "",
-    r"(ArrayVec|TinyVec)(::)?<\[(\w+); \w+\]>": r"Vec\2<\3>",
-    r"let _ = vec\.move_to_the_heap\(\);": "",
-    r"TinyVec::": "Vec::",
-    r"\.finish\(\)(\.is_(ok|err)\(\))": r"\1",
-    r"\.extend_exact_size\(": ".extend(",
-    r"self\.replace_range\((.*), numbers\)": r"self.splice(\1, numbers.iter().copied())",
-    r"alloc, Place::Inline\b": "alloc, Place::Heap",
-    r"InlineText<\w+>|InlineText": "String",
-}
 NOT_STD = OF_OWN + r"|mod (arrays|form|growth|nodes|slices);|\bof_(arrays|forms|lists|nodes|slices)\b|\"extract_half\""
 
 # Texts are printed into an `ArrayVec` of this library on each side.
@@ -114,18 +68,29 @@ class Run(crates.Run):
         return status
 
 
+def words():
+    """What each block of WORDS puts in the place of which patterns."""
+    found = {}
+    for block in WORDS.read_text(encoding="utf-8").split("\n\n")[1:]:
+        head, *lines = (it for it in block.splitlines() if not it.startswith("#"))
+        name, _, above = head.partition(" over ")
+        pairs = (it.partition(" =>")[::2] for it in lines)
+        found[name] = found.get(above, {}) | {pattern: word.removeprefix(" ") for pattern, word in pairs}
+    return found
+
+
 def base():
     return crates.read_crates()[NAME]
 
 
 def programs():
     """What is made, by name."""
-    ours = base()
+    ours, others = base(), words()
     uses = ours.row.partition(":")[2]
     made = [
-        Made("cleared", ours, CLEARED, uses),
-        Made("inline", ours, INLINE, "tinyvec_slots tinyvec_array arrayvec smallvec", NOT_INLINE),
-        Made("std", ours, STD, "tinyvec_slots tinyvec_array", NOT_STD),
+        Made("cleared", ours, others["cleared"], uses),
+        Made("inline", ours, others["inline"], "tinyvec_slots tinyvec_array arrayvec smallvec", NOT_INLINE),
+        Made("std", ours, others["std"], "tinyvec_slots tinyvec_array", NOT_STD),
         Made(CPU, ours, {}, uses, flags=("--cpu", CPU)),
     ]
     return {it.out.name: it for it in made}
