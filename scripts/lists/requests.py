@@ -22,35 +22,17 @@ SHOWN = {
 
 
 def faults():
-    table = Table()
-    yield from table.faults
-    found = {it for crate in exports.LIBRARIES for it in calls_of(crate)}
-    yield from (f"{'::'.join(it)} is in no line of tests/requests.txt" for it in sorted(found - table.named))
-    yield from (f"tests/requests.txt: {'::'.join(it)} is no public call" for it in sorted(table.named - found))
-    lacking = sorted(table.walks - shown_by_rows())
+    lines = exports.lines_of(TABLE)
+    named = [f"{kind}::{it}" for kind, _, names, _ in lines for it in names.split()]
+    yield from exports.table_faults(TABLE, named, {"::".join(it) for crate in exports.LIBRARIES for it in calls_of(crate)})
+    walks = {(kind, it) for kind, how, names, by in lines if how == "never" for it in (by or names).split()}
+    lacking = sorted(walks - shown_by_rows())
     yield from (f"no row of tests/cases wants `0 requests` of {call} of a {kind}" for kind, call in lacking)
     tests = "".join(it.read_text(encoding="utf-8") for it in (exports.TOP / "crates").glob("*_tests/src/**/no_memory.rt"))
-    lacking = sorted(it for it in table.texts if it not in re.sub(r"\s", "", tests))
+    tested = ((names, by) for _, how, names, by in lines if how == "tested")
+    texts = {it for names, by in tested for it in (by.split() if by else (f"{it}(" for it in names.split()))}
+    lacking = sorted(it for it in texts if it not in re.sub(r"\s", "", tests))
     yield from (f"no test in a module no_memory has {it}" for it in lacking)
-
-
-class Table:
-    """The calls that tests/requests.txt names, and those that rows and tests have to show."""
-
-    def __init__(self):
-        self.named, self.walks, self.texts, self.faults = set(), set(), set(), []
-        for line in TABLE.read_text(encoding="utf-8").splitlines():
-            if line and not line.startswith("#"):
-                self.add(*line.partition(" by ")[::2])
-
-    def add(self, calls, by):
-        kind, what, *names = calls.split()
-        self.faults += [f"tests/requests.txt: {kind}::{it} is there twice" for it in names if (kind, it) in self.named]
-        self.named |= {(kind, it) for it in names}
-        if what == "never":
-            self.walks |= {(kind, it) for it in by.split() or names}
-        elif what == "tested":
-            self.texts |= set(by.split() or (f"{it}(" for it in names))
 
 
 def calls_of(crate):

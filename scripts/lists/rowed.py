@@ -1,8 +1,6 @@
 """Whether each public call of the libraries has a row of the benchmarks at 64 and 16,384 items, by bench/calls.txt.
 
 What the vectors share, the crate of slots and the traits of slots and arrays, is measured by the vectors' calls."""
-import re
-
 from reading import exports
 
 TABLE = exports.TOP / "bench/calls.txt"
@@ -17,27 +15,19 @@ PREFIXES = {
     "InlineText": ("text_ heap_text_", "text_"),
 }
 SIZES = ("64", "16384")
-LINE = re.compile(r"(\S+) (rows|none) (.*?)(?: since (.*))?")
 
 
 def faults():
     rows = {tuple(it.split()[:2]) for it in (BENCH / "stdout").read_text(encoding="utf-8").splitlines()}
-    named, found = {}, set(calls())
-    for kind, how, names, reason in lines():
+    named = {}
+    for kind, how, names, reason in exports.lines_of(TABLE):
         for name in names.split():
             call, _, row = name.partition("=")
-            if named.setdefault((kind, call), how) and (kind, call) not in found:
-                yield f"bench/calls.txt: {kind}::{call} is no public call"
-            if how == "rows":
+            named[f"{kind}::{call}"] = how
+            if how != "none":
                 yield from (f"no row of the benchmarks is {it}, which bench/calls.txt names" for it in lacking(kind, row or call, rows))
         yield from [f"bench/calls.txt: no reason why {names} have no row"] * (how == "none" and not reason)
-    yield from (f"{kind}::{call} has no row, and no reason in bench/calls.txt" for kind, call in sorted(found - named.keys()))
-
-
-def lines():
-    """The table's lines, with those joined that go on."""
-    text = re.sub(r"\n +", " ", TABLE.read_text(encoding="utf-8"))
-    return [LINE.fullmatch(it).groups() for it in text.splitlines() if it and not it.startswith("#")]
+    yield from exports.table_faults(TABLE, list(named), set(calls()))
 
 
 def lacking(kind, row, rows):
@@ -50,4 +40,4 @@ def lacking(kind, row, rows):
 def calls():
     for crate in exports.LIBRARIES:
         for it in exports.Crate(crate).exports():
-            yield from ((it.holder(), one.name) for one in it.functions() if it.holder() not in SHARED)
+            yield from (f"{it.holder()}::{one.name}" for one in it.functions() if it.holder() not in SHARED)

@@ -28,12 +28,3 @@ def costs():
         cost = Cost(line)
         # A macro is of no type, nor are the functions of a page, whose name is in capitals.
         yield from (((name if name.endswith("!") or of.isupper() else f"{of}::{name}"), cost) for name in cost.names)
-
-
-def faults(calls):
-    """What the file lacks of these calls, and what it says of no call or twice."""
-    named = [it for it, _ in costs()]
-    where = FILE.relative_to(exports.TOP)
-    yield from (f"{where}: what does {it} cost?" for it in sorted(calls - set(named)))
-    yield from (f"{where}: no such call: {it}" for it in dict.fromkeys(named) if it not in calls)
-    yield from (f"{where}: {it} has two costs" for it in dict.fromkeys(named) if named.count(it) > 1)

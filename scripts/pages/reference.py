@@ -78,7 +78,7 @@ def faults():
                 yield f"{it.source.path}: {it.key()} has no `///`"
             if it.key() in library.uncalled and not it.is_part:
                 yield f"docs/reference/{page}.md: no caller of {it.key()}: write one in crates/tinyvec_examples/src"
-    yield from costs.faults(library.calls)
+    yield from exports.table_faults(costs.FILE, [it for it, _ in costs.costs()], library.calls)
     yield from examples.faults(library.keys, library.calls)
     sections = {it.section(main_of(page)) for page, found in library.pages.items() for it in found}
     yield from (f"docs/reference/sections.txt: in which place is the section {it}?" for it in sorted(sections - set(SECTIONS)))

@@ -305,3 +305,18 @@ def home(path):
 def word_anchor(path, name):
     """What a link names a word on the page of words by. std's are named by their name alone."""
     return f"std-{name}" if path.startswith("std.") else path.replace(".specs.", "-") + f"-{name}"
+
+
+def lines_of(table):
+    """The lines of a table of calls, as `TYPE HOW CALLS by TEXT` or `TYPE HOW CALLS since TEXT`, with those joined that go on."""
+    text = re.sub(r"\n +", " ", table.read_text(encoding="utf-8"))
+    line = re.compile(r"(\S+) (\w+) (.*?)(?: (?:by|since) (.*))?")
+    return [line.fullmatch(it).groups() for it in text.splitlines() if it and not it.startswith("#")]
+
+
+def table_faults(table, named, calls):
+    """What a table names that is no public call, or twice, and the calls that it lacks."""
+    where = table.relative_to(TOP)
+    yield from (f"{where}: no such call: {it}" for it in dict.fromkeys(named) if it not in calls)
+    yield from (f"{where}: {it} is there twice" for it in dict.fromkeys(named) if named.count(it) > 1)
+    yield from (f"{where}: it lacks {it}" for it in sorted(calls) if it not in named)
