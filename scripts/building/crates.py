@@ -302,7 +302,7 @@ class Run:
         for crate in crates:
             # One state of all sources is proved, and not of each crate when its turn comes.
             _ = crate.files
-        self.number, self.begun, self.begun_at = len(crates), time.monotonic(), {}
+        self.number, self.begun = len(crates), time.monotonic()
         self.started, self.is_stopped, self.ended = [], False, set()
         self.guard = threading.RLock()
 
@@ -320,10 +320,9 @@ class Run:
         """Proves and builds the crates, each after those that it uses, up to the first that is not proved."""
 
         def build_one(crate, jobs):
-            self.begins(crate)
-            if not self.build(crate, jobs):
-                raise NotProved(crate)
-            self.ends(crate, "proved and built")
+            with self.telling(crate, "proved and built"):
+                if not self.build(crate, jobs):
+                    raise NotProved(crate)
 
         try:
             self.do(steps_of(crates, build_one).values())
@@ -403,13 +402,14 @@ class Run:
                 self.stop()
                 raise
 
-    def begins(self, crate):
-        self.begun_at[crate] = time.monotonic()
+    @contextlib.contextmanager
+    def telling(self, crate, how):
+        """Says when what is done of a crate begins, and when it has come to this."""
+        began = time.monotonic()
         say(f"{crate.name}: begun")
-
-    def ends(self, crate, how):
+        yield
         self.ended.add(crate)
-        say(f"{crate.name}: {how} in {duration(time.monotonic() - self.begun_at[crate])}; {self.so_far()}")
+        say(f"{crate.name}: {how} in {duration(time.monotonic() - began)}; {self.so_far()}")
 
     def so_far(self):
         return f"{len(self.ended)} of {self.number} crates, {duration(time.monotonic() - self.begun)} so far"

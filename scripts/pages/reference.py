@@ -313,10 +313,8 @@ class Entry(exports.Export):
         return next(it.failure() for _, it in self.outcomes())
 
     def words(self):
-        """The words that its contract cites, with the path that defines each, but for operators, variants, proofs and std's prelude."""
-        known = exports.imported(self.source.file.read_text(encoding="utf-8"))
-        cited = (known[it] for it in dict.fromkeys(re.findall(r"[^\s(){}.,;:\[\]]+", self.code())) if it in known)
-        return [it for it in cited if re.fullmatch(r"[\w-]+", it[1]) and not NO_WORDS.search(it[0])]
+        """The words that its contract cites."""
+        return cited(self.source.file, self.code())
 
     def prose(self):
         yield from paragraphs(self.item.comment)
@@ -350,6 +348,13 @@ class Entry(exports.Export):
             inside = [*item.lines[:1], *fields, "}"] if fields else [item.lines[0] + " .. }"]
             lines = [*(it for it in item.attributes if "derive" in it), *inside]
         return "\n".join(it for it in lines if it.strip())
+
+
+def cited(file, text):
+    """The words that a text of a file cites, with the path that defines each, but for operators, variants, proofs and std's prelude."""
+    known = exports.imported(file.read_text(encoding="utf-8"))
+    found = (known[it] for it in dict.fromkeys(re.findall(r"[^\s(){}.,;:\[\]]+", text)) if it in known)
+    return [it for it in found if re.fullmatch(r"[\w-]+", it[1]) and not NO_WORDS.search(it[0])]
 
 
 def has_contract(item):

@@ -46,10 +46,8 @@ def faults():
 
 def words_of_caller(caller):
     """The words of the libraries that the contract of a caller cites, which names the types of its vectors."""
-    known = exports.imported((TOP / caller.path).read_text(encoding="utf-8"))
     clauses = re.findall(r"^ *(?:requires|ensures).*?(?=^ *(?:requires|ensures|\{$))", caller.text, re.M | re.S)
-    cited = (known[it] for it in dict.fromkeys(re.findall(r"[^\s(){}.,;:\[\]]+", "".join(clauses))) if it in known)
-    return [it for it in cited if it[0].split(".")[0] in exports.LIBRARIES and re.fullmatch(r"[\w-]+", it[1]) and not reference.NO_WORDS.search(it[0])]
+    return [it for it in reference.cited(TOP / caller.path, "".join(clauses)) if it[0].split(".")[0] in exports.LIBRARIES]
 
 
 class Words:
