@@ -70,13 +70,9 @@ class Crate:
     @functools.cached_property
     def files(self):
         """The contents of the crate's files but documents by their paths, as they are when this is first asked."""
-        found = {}
-        for folder, folders, names in os.walk(self.folder):
-            if folder == str(self.folder):
-                folders[:] = [it for it in folders if it != "out"]
-            for path in (pathlib.Path(folder, name) for name in names if not name.endswith(".md")):
-                found[str(path.relative_to(self.folder))] = path.read_bytes()
-        return dict(sorted(found.items()))
+        inside = (it for it in self.folder.iterdir() if it.name != "out")
+        paths = (path for it in inside for path in [it, *it.rglob("*")] if path.is_file() and path.suffix != ".md")
+        return dict(sorted((str(it.relative_to(self.folder)), it.read_bytes()) for it in paths))
 
     @functools.cached_property
     def sources(self):
@@ -320,7 +316,7 @@ class Run:
         """Proves and builds the crates, each after those that it uses, up to the first that is not proved."""
 
         def build_one(crate, jobs):
-            with self.telling(crate, "proved and built"):
+            with self.timed(crate, "proved and built"):
                 if not self.build(crate, jobs):
                     raise NotProved(crate)
 
@@ -403,7 +399,7 @@ class Run:
                 raise
 
     @contextlib.contextmanager
-    def telling(self, crate, how):
+    def timed(self, crate, how):
         """Says when what is done of a crate begins, and when it has come to this."""
         began = time.monotonic()
         say(f"{crate.name}: begun")
