@@ -117,19 +117,14 @@ def stated(crate):
         scope, forms = Scope(export.source.file), "".join(f", of {it}" for it in export.also)
         for it in export.functions():
             inside = f"::{it.name}" * (it is not export.item)
-            yield export.key() + inside + forms, *clauses_of(it, scope)
+            clauses = contracts.function(contracts.without_comments("\n".join(it.head()) + "\n"))[1]
+            yield export.key() + inside + forms, list(names_of(clauses, scope)), scope.whole(clauses.values())
         # The laws of a trait are promises, and those of an impl proofs.
         is_proof = lambda line: line.startswith("ghost use") or export.kind == "impl" and reference.PROOFS.match(line)
         ghosts = [it for it in export.item.members() if it.kind == "ghost" and not is_proof(it.lines[0])]
         if ghosts:
             texts = [contracts.without_comments("\n".join(it.lines) + "\n") for it in ghosts]
             yield f"{export.key()}::ghost{forms}", [GHOST.match(it.lines[0])[1] for it in ghosts], scope.whole(texts)
-
-
-def clauses_of(item, scope):
-    """The names of a function's clauses, and what these state."""
-    _, clauses, _, _ = contracts.function(contracts.without_comments("\n".join(item.head()) + "\n"))
-    return list(names_of(clauses, scope)), scope.whole(clauses.values())
 
 
 def names_of(clauses, scope):

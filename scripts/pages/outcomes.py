@@ -53,14 +53,15 @@ class Outcomes:
         head, *values = contracts.parts_of(fact, " ")
         if fact == "IsOk result" and not premises:
             self.always = path
-        elif len(sides) == 2 and not premises and (found := IS.fullmatch(sides[0])):
-            self.exact.append((path, found[1], sides[1]))
-        elif len(sides) == 2 and not premises and (found := IS_ERROR.fullmatch(sides[0])):
+        elif len(sides) == 2 and not premises and (found := IS.fullmatch(sides[0]) or IS_ERROR.fullmatch(sides[0])):
             self.exact.append((path, found[1], sides[1]))
         elif premises and (found := IS_ERROR.fullmatch(premises[0])):
             (self.then if AFTER.search(fact) else self.only).append((path, found[1], fact))
         elif found := ON.fullmatch(fact):
-            self.read_failure(path, premises, found[1], bare(found[2]))
+            # A `Some` is a failure only if the clause says so.
+            if found[1] != "IfSome" or path == "refused":
+                said = " → ".join([*premises, bare(found[2])])
+                (self.then if AFTER.search(bare(found[2])) else self.only).append((path, "", said))
         elif premises and (found := IS.match(fact)) and found[1] in ("IsOk", "IsErr"):
             (self.never if found[1] == "IsOk" else self.exact).append((path, "if", " → ".join(premises)))
         elif found := MATCH.fullmatch(fact):
@@ -70,13 +71,6 @@ class Outcomes:
         elif word := self.word(head, len(values)):
             for field, text in word.fields:
                 self.read(".".join(filter(None, (path, field))), premises, filled(text, dict(zip(word.given, values))))
-
-    def read_failure(self, path, premises, form, said):
-        """A clause on what is returned if the call fails. A `Some` is a failure only if the clause says so."""
-        if form == "IfSome" and path != "refused":
-            return
-        known = self.then if AFTER.search(said) else self.only
-        known.append((path, "", " → ".join([*premises, said])))
 
     def word(self, name, count):
         """The record of a name that is given so many values."""

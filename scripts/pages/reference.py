@@ -81,7 +81,7 @@ def faults():
     yield from exports.table_faults(costs.FILE, [it for it, _ in costs.costs()], library.calls)
     yield from examples.faults(library.keys, library.calls)
     sections = {it.section(main_of(page)) for page, found in library.pages.items() for it in found}
-    yield from (f"docs/reference/sections.txt: in which place is the section {it}?" for it in sorted(sections - set(SECTIONS)))
+    yield from (f"docs/reference/sections.txt: {it} is only there, or only on a page" for it in sorted(sections ^ set(SECTIONS)))
     for page, found in library.pages.items():
         for it in (it for it in found if it.key() in library.calls - library.uncalled - library.examples.keys()):
             entry = written[page].partition(it.mark(main_of(page)))[2].partition("\n##")[0]

@@ -52,7 +52,9 @@ class Caller:
         made, last = self.calls[call], len(self.lines) - 1
         at = min(max(made, first + 1), last - 2)
         parts = ((start, end) for start in range(first, made + 1) for end in range(max(made + 1, start + 3), last + 1))
-        closed = (it for it in parts if is_closed(self.lines[slice(*it)]))
+        depths = lambda part: list(itertools.accumulate(exports.balance(it) for it in self.lines[slice(*part)]))
+        # Those that open each bracket that they close, and close each that they open.
+        closed = (it for it in parts if min(depths(it)) >= 0 == depths(it)[-1])
         shown = min(closed, key=lambda it: abs(it[0] - at + 1) + abs(it[1] - at - 2), default=(first, last))
         return textwrap.dedent("\n".join(self.lines[slice(*shown)]))
 
@@ -129,12 +131,6 @@ class Known:
     def type_named(self, text):
         head = exports.head_of(text or "")
         return self.aliases.get(head, head)
-
-
-def is_closed(lines):
-    """Whether the lines open each bracket that they close, and close each that they open."""
-    depths = list(itertools.accumulate(exports.balance(it) for it in lines))
-    return not any(it < 0 for it in depths) and depths[-1] == 0
 
 
 def parameters(text):
