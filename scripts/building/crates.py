@@ -454,6 +454,10 @@ class Stopped(Exception):
     """Nothing more is to be done, since another step failed or this process is told to end."""
 
 
+class Interrupted(BaseException):
+    """As KeyboardInterrupt, but what was started is waited for."""
+
+
 def run_main(main):
     """Calls main so that it can put things in order where it is told to end, and then ends as the signal asks."""
 
@@ -461,14 +465,14 @@ def run_main(main):
         # What follows is short, and a second signal would cut it off.
         for it in signals:
             signal.signal(it, signal.SIG_IGN)
-        raise KeyboardInterrupt(number)
+        raise Interrupted(number)
 
     signals = [it for it in (signal.SIGINT, signal.SIGTERM, signal.SIGHUP) if signal.getsignal(it) != signal.SIG_IGN]
     for it in signals:
         signal.signal(it, interrupt)
     try:
         sys.exit(main())
-    except KeyboardInterrupt as interrupted:
+    except Interrupted as interrupted:
         number = interrupted.args[0]
     signal.signal(number, signal.SIG_DFL)
     os.kill(os.getpid(), number)

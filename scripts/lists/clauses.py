@@ -145,7 +145,8 @@ class Scope:
 
     def __init__(self, file):
         known = exports.imported(file.read_text(encoding="utf-8"))
-        self.imported = {name: (source, own) for name, (path, own) in known.items() if (source := file_of(path))}
+        sources = {name: (definitions.source_of(path), own) for name, (path, own) in known.items() if ".specs." in path}
+        self.imported = {name: it for name, it in sources.items() if it[0].is_file()}
         words = definitions.words_of(file) if file.suffix == ".antt" else []
         # A variant is its type's.
         self.definitions = {name: word for word in words for name in (word.name, *word.variants)}
@@ -178,13 +179,6 @@ class Scope:
             reached |= {word: squeezed(word.whole) for _, word in new}
             left += [(home, word.whole) for home, word in new]
         return "\n".join([*map(squeezed, texts), *sorted(set(reached.values()))])
-
-
-@functools.cache
-def file_of(path):
-    """The file of specs/ that the words of a path stand in, if it is here."""
-    file = definitions.source_of(path)
-    return file if ".specs." in path and file.is_file() else None
 
 
 @functools.cache

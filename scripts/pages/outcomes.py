@@ -186,7 +186,10 @@ def outcome(fact):
 def english(fact):
     for pattern, word in BY_NAME:
         fact = pattern.sub(word, fact)
-    fact = tidy(fact.replace(" + 0", ""))
+    fact = fact.replace(" + 0", "")
+    # A comparison has no parentheses around a whole side.
+    pairs = ((sign, contracts.parts_of(fact, sign)) for sign in (" ≤ ", " < ", " ≡ "))
+    fact = next((sign.join(map(bare, sides)) for sign, sides in pairs if len(sides) == 2), fact)
     for pattern, said in IN_ENGLISH:
         if found := pattern.fullmatch(fact):
             return said.format(*(bare(it or "") for it in found.groups()))
@@ -199,15 +202,6 @@ def listed(names):
 
 def article(name):
     return "an" if name[:1] in "AEIOaeio" else "a"
-
-
-def tidy(fact):
-    """A comparison without parentheses around a whole side."""
-    for sign in (" ≤ ", " < ", " ≡ "):
-        sides = contracts.parts_of(fact, sign)
-        if len(sides) == 2:
-            return sign.join(bare(it) for it in sides)
-    return fact
 
 
 def filled(text, values):

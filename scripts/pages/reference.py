@@ -449,7 +449,10 @@ class Page:
         # A comment at its end is of what follows.
         head = re.sub(r"(?:\n +//[^\n]*)+$", "", CONTRACT.split(code, maxsplit=1)[0])
         yield f"\n```\n{head}\n```\n"
-        yield from (f"\n{said}\n" for said in it.prose() if self.is_new(said))
+        for said in it.prose():
+            # One that begins with the label of a clause is told once.
+            yield f"\n{said}\n" * (said not in self.told or not said.startswith("`"))
+            self.told.add(said)
         yield from self.aliased(it) if it.kind == "type" else ()
         notes = self.notes(it) if twin is it or it.kind == "impl" else ()
         yield from (f"\n{note}\n" for note in notes)
@@ -498,12 +501,6 @@ class Page:
         else:
             self.shown.add(caller.text)
             yield f"\nA caller, in {caller.link()}:\n\n```\n{caller.text}\n```\n"
-
-    def is_new(self, said):
-        """Whether a paragraph is on no line above. One that begins with the label of a clause is told once."""
-        is_told = said in self.told and said.startswith("`")
-        self.told.add(said)
-        return not is_told
 
     def twin(self, it):
         """The entry above that has the same contract but for its name, as a call and its `try_` form, and what differs otherwise."""

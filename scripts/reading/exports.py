@@ -199,7 +199,8 @@ class Crate:
 
     def also(self, of, parameters):
         """The aliases whose form has what an impl of a generic type has: its parameter is that of the form, whose traits suffice."""
-        bounds = {name: {head_of(it) for it in bound.split(" + ")} for name, bound in bounds_of(parameters)}
+        bounds = (it.partition(": ") for it in filter(None, contracts.parts_of_types(parameters, ",")))
+        bounds = {name: {head_of(it) for it in plain(bound).strip(" +").split(" + ")} for name, _, bound in bounds}
         for form, alias in self.forms.items():
             argument = re.search(r"<(.*)>$", form)[1]
             impls = (impl_of(it) for source in self.sources.values() for it in source.items if it.kind == "impl")
@@ -253,13 +254,6 @@ SHOWN_ARGUMENTS = ("From", "TryFrom", "PartialEq", "PartialOrd", "Extend", "From
 def plain(type_):
     """A type without its lifetimes."""
     return re.sub(r"'\w+(?:, | ?)", "", type_)
-
-
-def bounds_of(parameters):
-    """The type parameters of an impl, each with its bound."""
-    for one in filter(None, contracts.parts_of_types(parameters, ",")):
-        name, _, bound = one.partition(": ")
-        yield name, plain(bound).strip(" +")
 
 
 def shortened(type_, forms):
