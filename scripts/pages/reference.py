@@ -6,12 +6,13 @@ on two, comments that are missing, and calls without a caller. What precedes the
 import functools
 import re
 
-from pages import costs, examples, outcomes
+from pages import examples, outcomes
 from reading import callers, exports
 from reading.exports import PAGES
 
 TOP = exports.TOP
 FOLDER = TOP / "docs/reference"
+COSTS = FOLDER / "costs.txt"
 MARK = "<!-- scripts/pages/reference.py writes what follows -->"
 
 # A page has at most so many lines.
@@ -78,7 +79,7 @@ def faults():
                 yield f"{it.source.path}: {it.key()} has no `///`"
             if it.key() in library.uncalled and not it.is_part:
                 yield f"docs/reference/{page}.md: no caller of {it.key()}: write one in crates/tinyvec_examples/src"
-    yield from exports.table_faults(costs.FILE, [it for it, _ in costs.costs()], library.calls)
+    yield from exports.table_faults(COSTS, [it for it, _ in costs()], library.calls)
     yield from examples.faults(library.keys, library.calls)
     sections = {it.section(main_of(page)) for page, found in library.pages.items() for it in found}
     yield from (f"docs/reference/sections.txt: {it} is only there, or only on a page" for it in sorted(sections ^ set(SECTIONS)))
@@ -169,7 +170,7 @@ class Library:
                 self.callers[it] = min(self.callers.get(it, caller), caller, key=lambda one: len(one.text))
         self.uncalled = {it for it in self.keys if is_call(it)} - self.callers.keys()
         self.calls = {it.key() for found in self.pages.values() for it in found if is_call(it.key()) and not it.is_part}
-        self.costs, self.examples = dict(costs.costs()), dict(examples.examples())
+        self.costs, self.examples = dict(costs()), dict(examples.examples())
         self.notes = notes()
         # Where a note is shown.
         self.noted = {}
@@ -219,6 +220,17 @@ def page_of(crate, export):
 
 def is_call(key):
     return ": " not in key and ("::" in key or key.endswith("!") or key.islower())
+
+
+def costs():
+    """Each call, as `TinyVec::push`, `tiny_vec!` or `run`, with its line of COSTS: what takes its time, what it allocates, and names."""
+    of = ""
+    for line in (it for it in COSTS.read_text(encoding="utf-8").splitlines() if it and not it.startswith("#")):
+        *cost, names = (it.strip() for it in line.split("|"))
+        of = of if cost else names
+        for name in names.split() if cost else ():
+            # A macro is of no type, nor are the functions of a page, whose name is in capitals.
+            yield name if name.endswith("!") or of.isupper() else f"{of}::{name}", (*cost, names)
 
 
 def notes():
@@ -427,8 +439,8 @@ class Page:
         for key, cost in self.library.costs.items():
             if key in calls:
                 it = calls[key]
-                rows.setdefault((cost, it.failure()), []).append(f"[`{it.heading(self.main).strip('`')}`](#{it.anchor(self.main)})")
-        lines = [f"| {', '.join(links)} | {cost.time} | {cost.allocates} | {failure} |\n" for (cost, failure), links in rows.items()]
+                rows.setdefault((*cost, it.failure()), []).append(f"[`{it.heading(self.main).strip('`')}`](#{it.anchor(self.main)})")
+        lines = [f"| {', '.join(links)} | {time} | {allocates} | {failure} |\n" for (time, allocates, _, failure), links in rows.items()]
         return "| Calls | Time for | Allocate | Fail |\n|---|---|---|---|\n" + "".join(lines) + "\n## Contents\n\n" if lines else ""
 
     def parts(self, found):
@@ -491,8 +503,12 @@ class Page:
         for name, found in it.outcomes():
             own = [found.conditions(), found.fails(), found.cannot_fail() if it.kind != "impl" or found.can_fail() else ""]
             lines += [re.sub(r"^- \*[^*]*\*", rf"\g<0> (`{name}`)", line) if it.kind == "impl" else line for line in own if line]
-        if cost := self.library.costs.get(it.key()):
-            lines.append(f"- *Cost*: {cost.said()}\n")
+        if it.key() in self.library.costs:
+            time, allocates, _ = self.library.costs[it.key()]
+            # That a call never allocates is in the table alone.
+            said = f" It allocates {allocates}." * (allocates != "never")
+            said = f" {allocates.capitalize()} allocate." if allocates.startswith("only ") else said
+            lines.append(f"- *Cost*: {time}.{said}\n")
         yield from ["\n", *lines] if lines else ()
 
     def caller(self, it, caller):
