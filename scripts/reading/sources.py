@@ -121,17 +121,9 @@ def last(path):
     return re.split(r"::|\.", path)[-1]
 
 
-class Definition:
-    def __init__(self, source, name, start):
-        self.source, self.name, self.start, self.end = source, name, start, len(source.code)
-
-    def text(self):
-        return self.source.code[self.start : self.end]
-
-
 def definitions(source):
-    """The definitions of a file of proofs or specs, each up to the next one."""
-    found, levels, at, closed = [], [0], 0, None
+    """The definitions of a file of proofs or specs, each by its name, with its text up to the next one."""
+    names, starts, levels, at, closed = [], [], [0], 0, None
     for line in source.code.splitlines(keepends=True):
         text, indent = line.strip(), len(line) - len(line.lstrip())
         # The lines of a `record` or `data` declare fields.
@@ -143,12 +135,11 @@ def definitions(source):
             if CONTAINER.match(text):
                 levels.append(indent + 2)
             elif named and named[2] not in ("use", "open", "module", "_"):
-                if found:
-                    found[-1].end = at
-                found.append(Definition(source, named[2], at))
+                names.append(named[2])
+                starts.append(at)
                 closed = indent if re.search(r"record|data", named[1]) else None
         at += len(line)
-    return found
+    return zip(names, (source.code[start:end] for start, end in zip(starts, [*starts[1:], at])))
 
 
 class Workspace:
@@ -168,24 +159,24 @@ class Workspace:
                 left |= source.words
                 continue
             stands = {name: last(path) for it in source.imports for name, path in it.names.items()}
-            for it in definitions(source):
-                words = words_of(IMPORT.sub("", it.text()), source.kind)
+            for name, text in definitions(source):
+                words = words_of(IMPORT.sub("", text), source.kind)
                 words |= {stands[word] for word in words if word in stands}
                 # rt looks for these by their names.
-                if source.path.endswith("/Proof.antt") and it.name.endswith("_spec") or ANSWER.match(it.text()):
+                if source.path.endswith("/Proof.antt") and name.endswith("_spec") or ANSWER.match(text):
                     left |= words
                 else:
-                    known.append(it)
-                    uses[it.name] |= words
+                    known.append((source, name))
+                    uses[name] |= words
         reached = set()
         while left:
             reached |= left
             left = {word for it in left for word in uses.get(it, ())} - reached
-        for it in known:
+        for source, name in known:
             # A document may name the file as a whole, and an operator is no word.
-            file = f"crates/{it.source.crate}/{it.source.path.removesuffix('.antt')}"
-            if it.name not in reached and "◌" not in it.name and file not in self.documents:
-                yield it.source, f"nothing names {it.name}"
+            file = f"crates/{source.crate}/{source.path.removesuffix('.antt')}"
+            if name not in reached and "◌" not in name and file not in self.documents:
+                yield source, f"nothing names {name}"
 
     def imports_left(self, source):
         at_top = {name: path for it in source.imports if not it.is_inside for name, path in it.names.items()}
