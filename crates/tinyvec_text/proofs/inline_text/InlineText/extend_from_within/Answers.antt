@@ -46,7 +46,7 @@ invariant_of-self-2 g c =
     let part = (IsUtf8-three_parts bs utf8 _ _ cuts.order cuts.first cuts.last).1 in
     let starts = c.resolve_range-part.ensures.start in
     let ends = c.resolve_range-part.ensures.end ∙ ap (range_end end) c.len.ensures.value in
-    let room = c.in_ok-push_part.ensures.room in
+    let room = c.in_ok-push_part.ensures.room.gets in
     let joined : tiny_items c.push_part.new.list ≡ bs ++ removed bs start end = c.in_ok-push_part.ensures.items ∙ (λ i. bs ++ slice_range bs (starts i) (ends i)) in
     text_kept list c.push_part.new.list (λ i. (room.place.0 i).0) (used_rule (λ b. b ≡ 0) (tiny_view list) (tiny_view c.push_part.new.list) (omega (arith, ap length joined, length-append bs (removed bs start end))) room.spare) c.self.invariant
     (subst IsUtf8 (sym joined) (IsUtf8-append _ _ utf8 part))
