@@ -204,7 +204,7 @@ impl<const N: usize> InlineText<N> {
     pub fn is_char_boundary(&self, index: usize) -> bool
         ensures { IsTrue result ↔ IsBoundary (text_chars self.now) index }
     {
-        is_split_point(self.list.as_slice(), index)
+        splits_at(&self.list, index)
     }
 
     /// Keeps the first `new_len` bytes, which end at a character. Does not allocate, and the text stays in its place.
@@ -435,6 +435,19 @@ fn next_byte(bits: u32) -> u8
     ensures { result ≡ 128 + bits % 64 }
 {
     (0x80 + bits % 0x40) as u8
+}
+
+// `is_split_point` of a list's bytes. A branch for each place, in which LLVM knows it for what follows.
+#[inline(always)]
+fn splits_at<const N: usize>(list: &TinyVec<[u8; N]>, i: usize) -> bool
+    requires { 0 < length (tiny_items list.now) → 128 ≤ slice_index (tiny_items list.now) 0
+        → 192 ≤ slice_index (tiny_items list.now) 0 }
+    ensures { IsTrue result ↔ IsSplitPoint (tiny_items list.now) i }
+{
+    match list {
+        TinyVec::Inline(v, _) => is_split_point(v.as_slice(), i),
+        TinyVec::Heap(v) => is_split_point(v.as_slice(), i),
+    }
 }
 
 // Whether a character begins at `i`, or the bytes end there. One begins at 0 if there are bytes.
