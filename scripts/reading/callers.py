@@ -6,10 +6,7 @@ import textwrap
 from reading import contracts, exports
 
 # Whose functions are shown as callers, the shortest first.
-CRATES = (
-    *("tinyvec_examples", "example_fields", "example_tidy", "example_lines", "example_dns_query"),
-    *("example_nodes", "example_records", "example_script"),
-)
+CRATES = ["tinyvec_examples", *sorted(it.name for it in (exports.TOP / "crates").glob("example_*"))]
 
 MADE_BY = {"array_vec!": "ArrayVec", "tiny_vec!": "TinyVec"}
 CALLED = re.compile(r"\.(\w+)\(")
