@@ -2,7 +2,7 @@
 ghost use Rattle.std.specs.Prelude.{◌≡◌, ◌≢◌, ◌+◌, ◌<◌, ◌≤◌, ◌↔◌, ◌++◌, length, drop, ◌==◌, All, IsTrue, OnOk, IfOk, IsOk, OnErr, Some, None, Err};
 ghost use Rattle.std.specs.List.{flat_map};
 ghost use Rattle.std.specs.Option.{option_copied};
-ghost use Rattle.tinyvec_array.specs.SliceVec.{spare, name};
+ghost use Rattle.tinyvec_array.specs.SliceVec.{slice_spare, slice_name};
 ghost use Rattle.tinyvec_array.specs.Appends.{Appends};
 ghost use Rattle.example_dns_query.specs.Message.{two_bytes, header, type_and_class, query};
 ghost use Rattle.example_dns_query.specs.Name.{IsPrinted, IsLabel, IsName, SpellsOnly, body_of as body_in, labels_in, labels_of, first_fault, label_wire, name_wire};
@@ -55,7 +55,7 @@ impl QueryError {
 
 // Appends the bytes.
 fn push_bytes(message: &mut SliceVec<'_, u8>, bytes: &[u8])
-    requires { length bytes.now ≤ length (spare message.old) }
+    requires { length bytes.now ≤ length (slice_spare message.old) }
     ensures { Appends bytes.now message.old message.new }
 {
     let _done = message.extend_from_slice(bytes);
@@ -63,7 +63,7 @@ fn push_bytes(message: &mut SliceVec<'_, u8>, bytes: &[u8])
 
 // Appends a number of two bytes.
 fn push_number(message: &mut SliceVec<'_, u8>, number: u16)
-    requires { 2 ≤ length (spare message.old) }
+    requires { 2 ≤ length (slice_spare message.old) }
     ensures { Appends (two_bytes number) message.old message.new }
 {
     push_bytes(message, &[(number / 256) as u8, (number % 256) as u8]);
@@ -72,7 +72,7 @@ fn push_number(message: &mut SliceVec<'_, u8>, number: u16)
 // Appends a label.
 fn push_label(message: &mut SliceVec<'_, u8>, label: &[u8])
     requires is_label { IsLabel label.now }
-    requires room { length label.now < length (spare message.old) }
+    requires room { length label.now < length (slice_spare message.old) }
     ensures { Appends (label_wire label.now) message.old message.new }
 {
     message.push(label.len() as u8);
@@ -82,7 +82,7 @@ fn push_label(message: &mut SliceVec<'_, u8>, label: &[u8])
 // Appends the labels of a text.
 fn push_labels(message: &mut SliceVec<'_, u8>, body: Option<&[u8]>)
     requires are_labels { All IsLabel (labels_in (option_copied body)) }
-    requires room { length (flat_map label_wire (labels_in (option_copied body))) ≤ length (spare message.old) }
+    requires room { length (flat_map label_wire (labels_in (option_copied body))) ≤ length (slice_spare message.old) }
     ensures { Appends (flat_map label_wire (labels_in (option_copied body.entry))) message.old message.new }
 {
     let mut rest = body;
@@ -152,7 +152,7 @@ fn name_len(body: Option<&[u8]>) -> usize
 
 // Appends the header of a query.
 fn push_header(message: &mut SliceVec<'_, u8>, id: u16)
-    requires { 12 ≤ length (spare message.old) }
+    requires { 12 ≤ length (slice_spare message.old) }
     ensures { Appends (header id) message.old message.new }
 {
     push_number(message, id);
@@ -162,7 +162,7 @@ fn push_header(message: &mut SliceVec<'_, u8>, id: u16)
 // Appends a name.
 fn push_name(message: &mut SliceVec<'_, u8>, body: Option<&[u8]>)
     requires are_labels { All IsLabel (labels_in (option_copied body)) }
-    requires room { length (name_wire (labels_in (option_copied body))) ≤ length (spare message.old) }
+    requires room { length (name_wire (labels_in (option_copied body))) ≤ length (slice_spare message.old) }
     ensures { Appends (name_wire (labels_in (option_copied body.entry))) message.old message.new }
 {
     push_labels(message, body);
@@ -171,7 +171,7 @@ fn push_name(message: &mut SliceVec<'_, u8>, body: Option<&[u8]>)
 
 // Appends a type and the class.
 fn push_type(message: &mut SliceVec<'_, u8>, record_type: RecordType)
-    requires { 4 ≤ length (spare message.old) }
+    requires { 4 ≤ length (slice_spare message.old) }
     ensures { Appends (type_and_class record_type) message.old message.new }
 {
     push_number(message, code(record_type));
@@ -181,7 +181,7 @@ fn push_type(message: &mut SliceVec<'_, u8>, record_type: RecordType)
 // Appends a query.
 fn push_query(message: &mut SliceVec<'_, u8>, id: u16, body: Option<&[u8]>, record_type: RecordType)
     requires are_labels { All IsLabel (labels_in (option_copied body)) }
-    requires room { length (query id (labels_in (option_copied body)) record_type) ≤ length (spare message.old) }
+    requires room { length (query id (labels_in (option_copied body)) record_type) ≤ length (slice_spare message.old) }
     ensures { Appends (query id (labels_in (option_copied body.entry)) record_type) message.old message.new }
 {
     push_header(message, id);

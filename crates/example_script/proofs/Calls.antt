@@ -5,7 +5,7 @@ use Rattle.std.specs.Int.{w32}
 use Rattle.std.specs.Int.Signed.{mag}
 use Rattle.std.proofs.lemmas.Fmt.{signed_decimal_injective}
 use Rattle.std.proofs.lemmas.List.{same_from_push}
-use Rattle.tinyvec_slots.specs.Slots.{Slots, items, spare, items_len, SlotRule}
+use Rattle.tinyvec_slots.specs.Slots.{Slots, items_in, spare_in, len_in, SlotRule}
 use Rattle.tinyvec_slots.proofs.SlotsLemmas.{defaults_are}
 use Rattle.tinyvec_script.specs.Command.{IsCommand, spelling, name_text}
 use Rattle.tinyvec_script.specs.Spelled.{NeedsMemory}
@@ -61,17 +61,17 @@ called old new line text name call is only asks says h = elim h [
 ]
 
 -- what a push and a pop of `A` may be answered
-pub pushed : (old new : Slots ℤ) (n : ℤ) (answer : Answer ℤ) → items_len old < 4 → ArrayStep IsZero 4 old (Push n) answer new
-    → (answer ≡ answers.Done) × (items new ≡ items old ++ n ∷ []) × SlotRule IsZero old new
+pub pushed : (old new : Slots ℤ) (n : ℤ) (answer : Answer ℤ) → len_in old < 4 → ArrayStep IsZero 4 old (Push n) answer new
+    → (answer ≡ answers.Done) × (items_in new ≡ items_in old ++ n ∷ []) × SlotRule IsZero old new
 pushed old new n answers.Done room step = (refl, step.1, step.2)
 pushed old new n answers.Full room step = absurd (omega (arith, room, step.0))
 pushed old new n answer room step = absurd step
 
 -- the spare slots, by the slot rule
 pub spare_is : (old new : Slots ℤ) → SlotRule IsZero old new
-    → spare new ≡ replicate (items_len old - items_len new) (pos 0) ++ drop (items_len new - items_len old) (spare old)
+    → spare_in new ≡ replicate (len_in old - len_in new) (pos 0) ++ drop (len_in new - len_in old) (spare_in old)
 spare_is old new rule =
-    rule.2 ∙ ap (λ zeros. zeros ++ drop (items_len new - items_len old) (spare old)) (defaults_are IsZero (pos 0) (λ x h. h) _ rule.0 rule.1)
+    rule.2 ∙ ap (λ zeros. zeros ++ drop (len_in new - len_in old) (spare_in old)) (defaults_are IsZero (pos 0) (λ x h. h) _ rule.0 rule.1)
 
 -- a command of `A` is none of the text, and allocates only if it is a splice
 module _ (rest : List ℕ) where
@@ -87,7 +87,7 @@ no_pop_asks T asks = differ 0 _ _ asks.named refl
 
 -- What a line with a push to `A` shows, and what it leaves.
 module _ (old new : State) (n : ℤ) (fits : FitsSigned w32 n) (digits : List ℕ) (printed : signed_decimal n ≡ digits)
-    (short : length (codes "A push " ++ digits) ≤ 128) (text : List ℕ) (xs zs : List ℤ) (held : items old.a ≡ xs) (behind : spare old.a ≡ zs)
+    (short : length (codes "A push " ++ digits) ≤ 128) (text : List ℕ) (xs zs : List ℤ) (held : items_in old.a ≡ xs) (behind : spare_in old.a ≡ zs)
     (room : length xs < 4) (answered : Answered old (codes "A push " ++ digits) text new) where
   push_step : (answer : Answer ℤ) × Steps A old (Push n) answer new × (text ≡ answer_text answer ++ codes " " ++ text_of A new)
   push_step =
@@ -101,37 +101,37 @@ module _ (old new : State) (n : ℤ) (fits : FitsSigned w32 n) (digits : List �
       })
       (subst (λ d. SpellsOnly (codes "A push " ++ d) A (Push n)) printed (only_push n (mag_small n fits))) (no_push_asks digits) (λ said is. differ 0 _ _ is.spelled refl) answered
 
-  push_done : (push_step.0 ≡ answers.Done) × (items new.a ≡ items old.a ++ n ∷ []) × SlotRule IsZero old.a new.a
+  push_done : (push_step.0 ≡ answers.Done) × (items_in new.a ≡ items_in old.a ++ n ∷ []) × SlotRule IsZero old.a new.a
   push_done = pushed old.a new.a n push_step.0 (omega (arith, ap length held, room)) push_step.1.0
 
-  pub push_items : items new.a ≡ xs ++ n ∷ []
+  pub push_items : items_in new.a ≡ xs ++ n ∷ []
   push_items = push_done.1 ∙ ap (λ l. l ++ n ∷ []) held
 
-  pub push_spare : spare new.a ≡ drop 1 zs
+  pub push_spare : spare_in new.a ≡ drop 1 zs
   push_spare =
-      let longer : items_len new.a ≡ items_len old.a + 1 = ap length push_done.1 ∙ length-append (items old.a) (n ∷ []) in
-      let none : items_len old.a - items_len new.a ≡ 0 = omega (arith, longer) in
-      let one : items_len new.a - items_len old.a ≡ 1 = omega (arith, longer) in
+      let longer : len_in new.a ≡ len_in old.a + 1 = ap length push_done.1 ∙ length-append (items_in old.a) (n ∷ []) in
+      let none : len_in old.a - len_in new.a ≡ 0 = omega (arith, longer) in
+      let one : len_in new.a - len_in old.a ≡ 1 = omega (arith, longer) in
       spare_is old.a new.a push_done.2
-      ∙ ap (λ k. replicate k (pos 0) ++ drop (items_len new.a - items_len old.a) (spare old.a)) none
-      ∙ ap (λ k. drop k (spare old.a)) one
+      ∙ ap (λ k. replicate k (pos 0) ++ drop (len_in new.a - len_in old.a) (spare_in old.a)) none
+      ∙ ap (λ k. drop k (spare_in old.a)) one
       ∙ ap (drop 1) behind
 
   pub push_text : text ≡ codes "ok " ++ state_text (xs ++ n ∷ []) (drop 1 zs)
   push_text =
       push_step.2
       ∙ ap (λ answer. answer_text answer ++ codes " " ++ vector_text new.a) push_done.0
-      ∙ ap (λ l. codes "ok " ++ state_text l (spare new.a)) push_items
+      ∙ ap (λ l. codes "ok " ++ state_text l (spare_in new.a)) push_items
       ∙ ap (λ l. codes "ok " ++ state_text (xs ++ n ∷ []) l) push_spare
 
-popped : (old new : Slots ℤ) (answer : Answer ℤ) → 0 < items_len old → ArrayStep IsZero 4 old Pop answer new
-    → (x : ℤ) × (answer ≡ answers.Some x) × (items old ≡ items new ++ x ∷ []) × SlotRule IsZero old new
+popped : (old new : Slots ℤ) (answer : Answer ℤ) → 0 < len_in old → ArrayStep IsZero 4 old Pop answer new
+    → (x : ℤ) × (answer ≡ answers.Some x) × (items_in old ≡ items_in new ++ x ∷ []) × SlotRule IsZero old new
 popped old new (answers.Some x) some step = (x, refl, step.0, step.1)
 popped old new answers.None some step = absurd (omega (arith, some, ap length step.0))
 popped old new answer some step = absurd step
 
 -- and a line with a pop
-module _ (old new : State) (text : List ℕ) (xs zs : List ℤ) (last : ℤ) (held : items old.a ≡ xs ++ last ∷ []) (behind : spare old.a ≡ zs)
+module _ (old new : State) (text : List ℕ) (xs zs : List ℤ) (last : ℤ) (held : items_in old.a ≡ xs ++ last ∷ []) (behind : spare_in old.a ≡ zs)
     (answered : Answered old (codes "A pop") text new) where
   pop_step : (answer : Answer ℤ) × Steps A old Pop answer new × (text ≡ answer_text answer ++ codes " " ++ text_of A new)
   pop_step =
@@ -139,28 +139,28 @@ module _ (old new : State) (text : List ℕ) (xs zs : List ℤ) (last : ℤ) (he
       (record { text = codes "pop"; named = refl; called = record { spelled = refl; valid = tt }; has = tt; short = omega arith })
       only_pop no_pop_asks (λ said is. differ 0 _ _ is.spelled refl) answered
 
-  pop_done : (x : ℤ) × (pop_step.0 ≡ answers.Some x) × (items old.a ≡ items new.a ++ x ∷ []) × SlotRule IsZero old.a new.a
+  pop_done : (x : ℤ) × (pop_step.0 ≡ answers.Some x) × (items_in old.a ≡ items_in new.a ++ x ∷ []) × SlotRule IsZero old.a new.a
   pop_done = popped old.a new.a pop_step.0 (omega (arith, ap length held, length-append xs (last ∷ []))) pop_step.1.0
 
-  parts : (items new.a ≡ xs) × (pop_done.0 ≡ last)
-  parts = same_from_push (items new.a) xs pop_done.0 last (sym pop_done.2 ∙ held)
+  parts : (items_in new.a ≡ xs) × (pop_done.0 ≡ last)
+  parts = same_from_push (items_in new.a) xs pop_done.0 last (sym pop_done.2 ∙ held)
 
-  pub pop_items : items new.a ≡ xs
+  pub pop_items : items_in new.a ≡ xs
   pop_items = parts.0
 
-  pub pop_spare : spare new.a ≡ pos 0 ∷ zs
+  pub pop_spare : spare_in new.a ≡ pos 0 ∷ zs
   pop_spare =
-      let longer : items_len old.a ≡ items_len new.a + 1 = ap length pop_done.2 ∙ length-append (items new.a) (pop_done.0 ∷ []) in
-      let one : items_len old.a - items_len new.a ≡ 1 = omega (arith, longer) in
-      let none : items_len new.a - items_len old.a ≡ 0 = omega (arith, longer) in
+      let longer : len_in old.a ≡ len_in new.a + 1 = ap length pop_done.2 ∙ length-append (items_in new.a) (pop_done.0 ∷ []) in
+      let one : len_in old.a - len_in new.a ≡ 1 = omega (arith, longer) in
+      let none : len_in new.a - len_in old.a ≡ 0 = omega (arith, longer) in
       spare_is old.a new.a pop_done.3
-      ∙ ap (λ k. replicate k (pos 0) ++ drop (items_len new.a - items_len old.a) (spare old.a)) one
-      ∙ ap (λ k. pos 0 ∷ drop k (spare old.a)) none
+      ∙ ap (λ k. replicate k (pos 0) ++ drop (len_in new.a - len_in old.a) (spare_in old.a)) one
+      ∙ ap (λ k. pos 0 ∷ drop k (spare_in old.a)) none
       ∙ ap (λ l. pos 0 ∷ l) behind
 
   pub pop_text : text ≡ codes "some " ++ signed_decimal last ++ codes " " ++ state_text xs (pos 0 ∷ zs)
   pop_text =
       pop_step.2
       ∙ ap (λ answer. answer_text answer ++ codes " " ++ vector_text new.a) (pop_done.1 ∙ ap answers.Some parts.1)
-      ∙ ap (λ l. (codes "some " ++ signed_decimal last) ++ codes " " ++ state_text l (spare new.a)) pop_items
+      ∙ ap (λ l. (codes "some " ++ signed_decimal last) ++ codes " " ++ state_text l (spare_in new.a)) pop_items
       ∙ ap (λ l. (codes "some " ++ signed_decimal last) ++ codes " " ++ state_text xs l) pop_spare

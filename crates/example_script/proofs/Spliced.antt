@@ -6,7 +6,7 @@ use Rattle.std.specs.List.{AllByRecursion}
 use Rattle.std.proofs.lemmas.Fmt.{decimal_digit, decimal_injective, signed_decimal_injective}
 use Rattle.std.proofs.lemmas.List.Elements.{All-head, All-tail}
 use denote.RawPtr.{Ptr}
-use Rattle.tinyvec_slots.specs.Slots.{Slots, items, spare, items_len, split_at}
+use Rattle.tinyvec_slots.specs.Slots.{Slots, items_in, spare_in, len_in, split_at}
 use Rattle.tinyvec_io.specs.Lines.{ended}
 use Rattle.tinyvec_script.specs.Command.{IsCommand, splice_text, word_text, numbers_text}
 use Rattle.tinyvec_script.specs.Spelled.{NeedsMemory}
@@ -121,8 +121,8 @@ Shown text = text
     ≡ (codes "items " ++ list_text [] ++ codes " rest " ++ list_text (pos 4 ∷ [])) ++ codes " " ++ state_text (pos 1 ∷ pos 2 ∷ pos 3 ∷ pos 0 ∷ []) []
 
 -- what such a call may be answered, where it finds two zeros
-puts_numbers : (old new : Slots ℤ) (word : Vec End Global) (numbers : Vec ℤ Global) (answer : Answer ℤ) → items old ≡ pos 0 ∷ pos 0 ∷ []
-    → spare old ≡ pos 0 ∷ pos 0 ∷ [] → word.items ≡ [] → numbers.items ≡ pos 1 ∷ pos 2 ∷ pos 3 ∷ pos 4 ∷ []
+puts_numbers : (old new : Slots ℤ) (word : Vec End Global) (numbers : Vec ℤ Global) (answer : Answer ℤ) → items_in old ≡ pos 0 ∷ pos 0 ∷ []
+    → spare_in old ≡ pos 0 ∷ pos 0 ∷ [] → word.items ≡ [] → numbers.items ≡ pos 1 ∷ pos 2 ∷ pos 3 ∷ pos 4 ∷ []
     → ArrayStep IsZero 4 old (Splice 0 1 word numbers) answer new
     → Shown (answer_text answer ++ codes " " ++ vector_text new) ⊎ ((answer ≡ answers.Memory) × (new ≡ old))
 puts_numbers old new word numbers answers.Memory held behind no_letter are step = inr (refl, step.1.1)
@@ -131,17 +131,17 @@ puts_numbers old new word numbers (answers.Items given) held behind no_letter ar
     absurd (omega (arith, step.1.0, ap length held, ap length are))
 puts_numbers old new word numbers (answers.Spliced given rest) held behind no_letter are step =
     let list = rw (held, no_letter, are) at step.1.1.list in
-    let made = splice_computes 4 (pos 0 ∷ pos 0 ∷ []) (items new) 0 1 [] (pos 1 ∷ pos 2 ∷ pos 3 ∷ pos 4 ∷ []) given.items rest.items (omega arith) (omega arith) list in
-    let more : items_len old - items_len new ≡ 0 = omega (arith, ap length held, ap length made.list_is) in
-    let used : items_len new - items_len old ≡ 2 = omega (arith, ap length held, ap length made.list_is) in
-    let none : spare new ≡ [] =
+    let made = splice_computes 4 (pos 0 ∷ pos 0 ∷ []) (items_in new) 0 1 [] (pos 1 ∷ pos 2 ∷ pos 3 ∷ pos 4 ∷ []) given.items rest.items (omega arith) (omega arith) list in
+    let more : len_in old - len_in new ≡ 0 = omega (arith, ap length held, ap length made.list_is) in
+    let used : len_in new - len_in old ≡ 2 = omega (arith, ap length held, ap length made.list_is) in
+    let none : spare_in new ≡ [] =
     spare_is old new step.1.1.grown
-    ∙ ap (λ n. replicate n (pos 0) ++ drop (items_len new - items_len old) (spare old)) more
-    ∙ ap (λ n. drop n (spare old)) used
+    ∙ ap (λ n. replicate n (pos 0) ++ drop (len_in new - len_in old) (spare_in old)) more
+    ∙ ap (λ n. drop n (spare_in old)) used
     ∙ ap (drop 2) behind in
-    inl (ap (λ l. (codes "items " ++ list_text l ++ codes " rest " ++ list_text rest.items) ++ codes " " ++ state_text (items new) (spare new)) made.yields_are
-    ∙ ap (λ l. (codes "items " ++ list_text [] ++ codes " rest " ++ list_text l) ++ codes " " ++ state_text (items new) (spare new)) made.rest_is
-    ∙ ap (λ l. (codes "items " ++ list_text [] ++ codes " rest " ++ list_text (pos 4 ∷ [])) ++ codes " " ++ state_text l (spare new)) made.list_is
+    inl (ap (λ l. (codes "items " ++ list_text l ++ codes " rest " ++ list_text rest.items) ++ codes " " ++ state_text (items_in new) (spare_in new)) made.yields_are
+    ∙ ap (λ l. (codes "items " ++ list_text [] ++ codes " rest " ++ list_text l) ++ codes " " ++ state_text (items_in new) (spare_in new)) made.rest_is
+    ∙ ap (λ l. (codes "items " ++ list_text [] ++ codes " rest " ++ list_text (pos 4 ∷ [])) ++ codes " " ++ state_text l (spare_in new)) made.list_is
     ∙ ap (λ l. (codes "items " ++ list_text [] ++ codes " rest " ++ list_text (pos 4 ∷ [])) ++ codes " " ++ state_text (pos 1 ∷ pos 2 ∷ pos 3 ∷ pos 0 ∷ []) l) none)
 puts_numbers old new word numbers answer held behind no_letter are step = absurd step.1
 
@@ -201,7 +201,7 @@ splice_line alloc old new text held h = elim h [
       let own = subst (λ n. Steps n old call answer new) is.0 steps in
       let shows : text ≡ answer_text answer ++ codes " " ++ vector_text new.a = subst (λ n. text ≡ answer_text answer ++ codes " " ++ text_of n new) is.0 e in
       let step = subst (λ c. ArrayStep IsZero 4 old.a c answer new.a) is.1.call_is own.0 in
-      elim (puts_numbers old.a new.a is.1.word is.1.numbers answer (ap items held) (ap spare held) is.1.no_letter is.1.numbers_are step) [
+      elim (puts_numbers old.a new.a is.1.word is.1.numbers answer (ap items_in held) (ap spare_in held) is.1.no_letter is.1.numbers_are step) [
         | inl made ↦ inl (shows ∙ made ∙ sym shown)
         | inr refused ↦
             inr (shows ∙ ap (λ a. answer_text a ++ codes " " ++ vector_text new.a) refused.0

@@ -1,7 +1,7 @@
 //! Callers of lists of calls, and of splices that a word of ends drives.
 ghost use Rattle.std.specs.Prelude.{◌≡◌, [], ◌∷◌, pos, IfOk, OnErr};
 ghost use Rattle.tinyvec_array.specs.ArrayVec.{items};
-ghost use Rattle.tinyvec_array.specs.SliceVec.{name};
+ghost use Rattle.tinyvec_array.specs.SliceVec.{slice_name};
 
 use std::alloc::{AllocError, Global};
 use tinyvec::{ArrayVec, SliceVec, TinyVec};
@@ -24,7 +24,7 @@ pub fn answers_of_slice(
     v: &mut SliceVec<'_, u8>,
     calls: Vec<Call<u8>>,
 ) -> Result<Vec<Answer<u8>>, AllocError>
-    ensures same_reference { name v.new ≡ name v.old }
+    ensures same_reference { slice_name v.new ≡ slice_name v.old }
     ensures refused { OnErr result (v.new ≡ v.old) }
 {
     Ok(run_array(alloc, v, calls)?)

@@ -7,7 +7,7 @@ use Rattle.std.proofs.lemmas.List.Elements.{AllZip-push, length_all_zip}
 use Rattle.std.specs.Prelude.{All, OnOk, OnErr, IsOk, if◌then◌else◌, is_ok}
 use Rattle.std.specs.List.{AllZip, AppendsClones}
 use Rattle.tinyvec_slots.specs.Clones.{RefusedAt}
-use Rattle.tinyvec_slots.specs.Slots.{Slots, items_len, spare, all_slots}
+use Rattle.tinyvec_slots.specs.Slots.{Slots, len_in, spare_in, all_slots}
 use Rattle.tinyvec_slots.proofs.BorderLemmas.{spare_from}
 use Rattle.tinyvec_slots.proofs.ClonesOverLemmas.{AllZip-cut, all_granted}
 use borrow.Rule.Slice.PartMut.{post_of}
@@ -56,9 +56,9 @@ module _ {T : Type 0} (C : T → T → Type 0) where
       rw h.1 (rw (take_rest other n, front, back, take-append-drop n source) at clones)
 
   -- clones of all slots are clones of the spare ones
-  pub spare_cloned : (v w : Slots T) → items_len w ≡ items_len v → AllZip C (all_slots v) (all_slots w) → AllZip C (spare v) (spare w)
+  pub spare_cloned : (v w : Slots T) → len_in w ≡ len_in v → AllZip C (all_slots v) (all_slots w) → AllZip C (spare_in v) (spare_in w)
   spare_cloned v w long h =
-      rw (spare_from v.len v.slots (items_len v) refl, spare_from w.len w.slots (items_len v) (sym long)) at (AllZip-cut C (items_len v) (all_slots v) (all_slots w) h).1
+      rw (spare_from v.len v.slots (len_in v) refl, spare_from w.len w.slots (len_in v) (sym long)) at (AllZip-cut C (len_in v) (all_slots v) (all_slots w) h).1
 
 -- the clone of the element at i was refused
 pub refused_at : {T : Type 0} (I : T → Type 0) (from : List T) (i : ℕ) (x : T) → i < length from → x ≡ get_or from i x → (I x → ⊥) → (j : ℕ) × RefusedAt I from j

@@ -7,7 +7,7 @@ use Rattle.std.specs.Iterator.{Count, size, Yields, YieldsThen, Drains, AlwaysYi
 use Rattle.tinyvec_slots.specs.Filling.{ShowsItems}
 use Rattle.tinyvec_slots.specs.declared.no_room.NoRoom.{NoRoom}
 use Rattle.tinyvec.specs.Following.{Follows, FillsRoom}
-use Rattle.tinyvec_slots.specs.Slots.{items, spare, split_at}
+use Rattle.tinyvec_slots.specs.Slots.{items_in, spare_in, split_at}
 use Rattle.tinyvec_array.specs.ArrayVec.{view_of, items_of, spare_of, slots_of, len_of, SameLender, Grows}
 use Rattle.tinyvec_array.specs.declared.array_vec.ArrayVec.{ArrayVec}
 use Rattle.tinyvec_array.specs.declared.slots.Slots as Storage
@@ -86,11 +86,11 @@ pub array_filled : {S T L : Type 0} (g : Storage.Ghosts S T L) (v new : ArrayVec
 array_filled g v new xs ws back len shown as_long is more cut lender =
     let long = as_long ∙ ap length shown in
     let over = rw shown at is in
-    let listed = ap items cut ∙ ap (take len) (slots_of-back g v ws long) ∙ items_filled (items_of g v) (spare_of g v) xs ws len over more in
+    let listed = ap items_in cut ∙ ap (take len) (slots_of-back g v ws long) ∙ items_filled (items_of g v) (spare_of g v) xs ws len over more in
     let used : length xs ≡ len_of g new - len_of g v = omega (arith, ap length listed, length-append (items_of g v) xs) in (
       listed,
       record {
         lender = SameLender-then g v (put_back g v ws) new (back_lender g v ws long) lender;
-        spare = ap spare cut ∙ ap (drop len) (slots_of-back g v ws long) ∙ spare_filled (items_of g v) (spare_of g v) xs ws len over more ∙ ap (λ k. drop k (spare_of g v)) used;
+        spare = ap spare_in cut ∙ ap (drop len) (slots_of-back g v ws long) ∙ spare_filled (items_of g v) (spare_of g v) xs ws len over more ∙ ap (λ k. drop k (spare_of g v)) used;
       },
     )

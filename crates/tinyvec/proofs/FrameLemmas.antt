@@ -5,7 +5,7 @@ use Rattle.std.specs.Result.{is_err}
 use Rattle.std.proofs.Math.Seq.{drop-nil}
 use Rattle.std.proofs.Math.Nat.{mul_assoc, pow-succ'}
 use Rattle.std.proofs.lemmas.Bool.{false≢true, cases_lt, eqb-false}
-use Rattle.tinyvec_slots.specs.Slots.{Slots, SlotRule, items}
+use Rattle.tinyvec_slots.specs.Slots.{Slots, SlotRule, items_in}
 use Rattle.tinyvec_slots.specs.Filters.{Shortened}
 use Rattle.tinyvec_slots.proofs.SlotsLemmas.{slots_used, shortened}
 use Rattle.tinyvec_array.specs.CutLaws.{CutOf}
@@ -36,7 +36,7 @@ no_less false need first last (inl less) same grown = let is : last ≡ max (2 *
 no_less exact need first last (inr room) same grown = omega (arith, same room)
 
 -- an array whose slots follow the slot rule
-pub inline_becomes : {T : Type 0} (D : T → Type 0) (v w : Slots T) (xs : List T) → items w ≡ xs → SlotRule D v w → length w.slots ≡ length v.slots
+pub inline_becomes : {T : Type 0} (D : T → Type 0) (v w : Slots T) (xs : List T) → items_in w ≡ xs → SlotRule D v w → length w.slots ≡ length v.slots
     → Becomes D (array_view v) (array_view w) xs
 inline_becomes D v w xs is rule same = record { items = is; place = refl; slot_rule = λ _ _. rule; capacity = same; fits = omega (arith, length-take w.len w.slots) }
 
@@ -220,7 +220,7 @@ module _ {A T L E : Type 0} (g : Storage.Ghosts A T L) (D : T → Type 0) (slots
   pub took_heap : (v w : Vec T Global) → old ≡ Heap v → new ≡ Heap w → length v.items + 1 ≤ vec_capacity v → w.items ≡ put v.items → vec_capacity w ≡ vec_capacity v
       → Took g D slots (put (tiny_items_of g old)) old new E
   took_heap v w was is room items same =
-      rw (is, was) (items, λ i. absurd (false≢true i), had_room false D (length v.items + 1) (heap_view v) (heap_view w) tt room (heap_becomes D v w (put v.items) items same))
+      rw (is, was) (items, λ i. absurd (false≢true i), had_room false D (length v.items + 1) (heap_view v) (heap_view w) tt room (heap_becomes D v w (put v.items) items_in same))
 
   pub took_grown : {X F : Type 0} (mid : TinyVec A T L) (r : Result X F) → false ≡ is_err r → tiny_items_of g mid ≡ tiny_items_of g old
       → OnOk r (is_inline mid ≡ false) → (IsInline old → tiny_capacity_of g old ≡ slots) → MakesRoom false (tiny_len_of g old + 1) (tiny_view_of g old) (tiny_view_of g mid) r

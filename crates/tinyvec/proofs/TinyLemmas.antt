@@ -5,7 +5,7 @@ use Rattle.std.proofs.lemmas.Result.{IfOk-from_err}
 use Rattle.std.proofs.lemmas.List.{drop-drop, nil_from_length, length_push}
 use Rattle.std.proofs.lemmas.List.Edits.{length-insert, length-remove}
 use Rattle.std.proofs.lemmas.List.Elements.{All-drop, All-nil}
-use Rattle.tinyvec_slots.specs.Slots.{Slots, Vacates, SlotRule, items, items_len, spare}
+use Rattle.tinyvec_slots.specs.Slots.{Slots, Vacates, SlotRule, items_in, len_in, spare_in}
 use Rattle.tinyvec_slots.proofs.SlotsLemmas.{slots_used, slots_freed, defaults_are, items-with_slot, spare-with_slot}
 use Rattle.tinyvec.specs.View.{in_array, on_heap, TinyView, view_len, view_inline, ViewInline, TinySlotRule, Unchanged, IsNew}
 use Rattle.tinyvec.specs.Room.{GrowsByPushes, IsCollected}
@@ -20,7 +20,7 @@ pub use Rattle.tinyvec.specs.FrameLaws.{FrameOf, tiny_fits, SameFrame-refl, Same
 
 -- what is seen of an array, and of a list on the heap
 abbrev pub array_view : {T : Type 0} → Slots T → TinyView T
-array_view v = record { items = items v; spare = spare v; place = in_array (length v.slots) }
+array_view v = record { items = items_in v; spare = spare_in v; place = in_array (length v.slots) }
 
 abbrev pub heap_view : {T : Type 0} → Vec T Global → TinyView T
 heap_view v = record { items = v.items; spare = []; place = on_heap (vec_capacity v) }
@@ -32,14 +32,14 @@ view_unchanged old new h i = record { items = h.items i; spare = h.spare i; plac
 module _ {A T L : Type 0} (g : Storage.Ghosts A T L) where
   -- a write of one item writes that item
   pub tiny_items-with_item : (v : TinyVec A T L) (i : ℕ) (x : T) → i < tiny_len_of g v → tiny_items_of g (tiny_with_item g v i x) ≡ slice_set (tiny_items_of g v) i x
-  tiny_items-with_item (Inline v alloc) i x h = ap items (view_of-at g v (slice_set (slots_of g v) i x)) ∙ items-with_slot (view_of g v) i x h
+  tiny_items-with_item (Inline v alloc) i x h = ap items_in (view_of-at g v (slice_set (slots_of g v) i x)) ∙ items-with_slot (view_of g v) i x h
   tiny_items-with_item (Heap v) i x h = refl
 
   -- and leaves spare slots, place and room
   pub tiny_framed-with_item : (v : TinyVec A T L) (i : ℕ) (x : T) → i < tiny_len_of g v → FrameOf g v (tiny_with_item g v i x)
   tiny_framed-with_item (Inline v alloc) i x h = record {
     len = ap length (tiny_items-with_item (Inline v alloc) i x h) ∙ length-set (items_of g v) i x;
-    spare = ap spare (view_of-at g v (slice_set (slots_of g v) i x)) ∙ spare-with_slot (view_of g v) i x h;
+    spare = ap spare_in (view_of-at g v (slice_set (slots_of g v) i x)) ∙ spare-with_slot (view_of g v) i x h;
     place = refl;
     capacity = ap (λ u. length u.slots) (view_of-at g v (slice_set (slots_of g v) i x)) ∙ length-set (slots_of g v) i x;
   }
@@ -47,14 +47,14 @@ module _ {A T L : Type 0} (g : Storage.Ghosts A T L) where
 
 -- the slot rule of a call that pushed, inserted or removed one item
 module _ {T : Type 0} (D : T → Type 0) (old new : Slots T) where
-  pub slots_pushed : (x : T) → items new ≡ items old ++ x ∷ [] → spare new ≡ drop 1 (spare old) → SlotRule D old new
-  slots_pushed x is = slots_used D old new 1 (ap length is ∙ length_push (items old) x)
+  pub slots_pushed : (x : T) → items_in new ≡ items_in old ++ x ∷ [] → spare_in new ≡ drop 1 (spare_in old) → SlotRule D old new
+  slots_pushed x is = slots_used D old new 1 (ap length is ∙ length_push (items_in old) x)
 
-  pub slots_inserted : (i : ℕ) (x : T) → i ≤ items_len old → items new ≡ insert (items old) i x → spare new ≡ drop 1 (spare old) → SlotRule D old new
-  slots_inserted i x in_list is = slots_used D old new 1 (ap length is ∙ length-insert (items old) i x in_list)
+  pub slots_inserted : (i : ℕ) (x : T) → i ≤ len_in old → items_in new ≡ insert (items_in old) i x → spare_in new ≡ drop 1 (spare_in old) → SlotRule D old new
+  slots_inserted i x in_list is = slots_used D old new 1 (ap length is ∙ length-insert (items_in old) i x in_list)
 
-  pub slots_removed : (i : ℕ) → i < items_len old → items new ≡ remove (items old) i → Vacates D 1 old new → SlotRule D old new
-  slots_removed i in_list is = slots_freed D old new 1 (sym (ap (λ l. length l + 1) is ∙ length-remove (items old) i in_list))
+  pub slots_removed : (i : ℕ) → i < len_in old → items_in new ≡ remove (items_in old) i → Vacates D 1 old new → SlotRule D old new
+  slots_removed i in_list is = slots_freed D old new 1 (sym (ap (λ l. length l + 1) is ∙ length-remove (items_in old) i in_list))
 
 -- what `GetsRoom` says of spare slots
 abbrev pub UsesSpare : {T : Type 0} → TinyView T → TinyView T → Type 0

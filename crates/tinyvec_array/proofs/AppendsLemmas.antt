@@ -3,7 +3,7 @@ use Rattle.std.proofs.Common.{◌≡◌, ◌∙◌, ◌-◌, ◌∷◌, List, []
 use Rattle.std.proofs.lemmas.List.{drop-drop, length-drop}
 use Rattle.std.specs.List.{flat_map}
 use Rattle.tinyvec_array.specs.Appends.{LentVec, Appends}
-use Rattle.tinyvec_array.specs.SliceVec.{items, spare, slots}
+use Rattle.tinyvec_array.specs.SliceVec.{slice_items, slice_spare, slice_slots}
 use Rattle.tinyvec_array.proofs.ViewLemmas.{owner_sees}
 
 module _ {T : Type 0} where
@@ -11,12 +11,12 @@ module _ {T : Type 0} where
   Appends-then xs ys u v w first second = record {
     same_reference = second.same_reference ∙ first.same_reference;
     items = second.items ∙ ap (λ l. l ++ ys) first.items ∙ append_assoc _ xs ys;
-    spare = cc (second.spare, first.spare, drop-drop (length ys) (length xs) (spare u), length-append xs ys);
+    spare = cc (second.spare, first.spare, drop-drop (length ys) (length xs) (slice_spare u), length-append xs ys);
   }
 
   -- how many spare slots are left
-  pub length-spare : (xs : List T) (u v : LentVec T) → Appends xs u v → length (spare v) ≡ length (spare u) - length xs
-  length-spare xs u v step = ap length step.spare ∙ length-drop (length xs) (spare u)
+  pub length-spare : (xs : List T) (u v : LentVec T) → Appends xs u v → length (slice_spare v) ≡ length (slice_spare u) - length xs
+  length-spare xs u v step = ap length step.spare ∙ length-drop (length xs) (slice_spare u)
 
   -- Of a loop that appends what `f` says of each of `xs`: what appends the others from now on has appended all.
   pub appends_rest : {X : Type 0} (f : X → List T) (x : X) (all : List T) (xs more : List X) (first now next : LentVec T) → xs ≡ x ∷ more
@@ -27,7 +27,7 @@ module _ {T : Type 0} where
       before end (rw cut (Appends-then (f x) (flat_map f more) now next end step rest))
 
   -- what the owner of the slots sees where all of them were spare
-  pub owner_sees_appended : (xs old : List T) (u v : LentVec T) → items u ≡ [] → spare u ≡ old → Appends xs u v
-      → slots v ≡ xs ++ drop (length xs) old
+  pub owner_sees_appended : (xs old : List T) (u v : LentVec T) → slice_items u ≡ [] → slice_spare u ≡ old → Appends xs u v
+      → slice_slots v ≡ xs ++ drop (length xs) old
   owner_sees_appended xs old u v none all step =
       owner_sees v xs (drop (length xs) old) (step.items ∙ ap (λ list. list ++ xs) none) (step.spare ∙ ap (drop (length xs)) all)

@@ -10,7 +10,7 @@ use Rattle.tinyvec_slots.proofs.SlotsLemmas.{slots_used}
 use Rattle.tinyvec_slots.proofs.Lists.{length-remove_range, length-slice_range}
 use Rattle.tinyvec_array.specs.SliceParts.{with_front, with_back, with_front-as_long, with_back-as_long}
 use Rattle.tinyvec_array.specs.ArrayVec.{view_of, items_of, spare_of, slots_of, len_of, SameLender, VacatesOf, Grows, Shortens, Changes}
-use Rattle.tinyvec_array.specs.SliceVec.{items, spare, slots}
+use Rattle.tinyvec_array.specs.SliceVec.{slice_items, slice_spare, slice_slots}
 use Rattle.tinyvec_array.specs.Lends.{at_slots, with_items_of}
 use Rattle.tinyvec_array.specs.CutLaws.{CutOf}
 use Rattle.tinyvec_array.specs.SpliceLaws.{cut_lender}
@@ -110,5 +110,5 @@ module _ {S T L : Type 0} (g : Storage.Ghosts S T L) (v : ArrayVec S L) (i : ℕ
   items_of-set = ap (take (g.count v.len)) (g.slots_written v.slots (set (g.slots v.slots) i x)) ∙ take-set-lt (g.count v.len) (g.slots v.slots) i x (search (rules, lt, places))
 
 -- what the owner of a slice sees of a vector over it
-pub owner_sees : {T : Type 0} (v : ArrayVec (MutBor (List T)) ℕ) (xs ys : List T) → items v ≡ xs → spare v ≡ ys → slots v ≡ xs ++ ys
+pub owner_sees : {T : Type 0} (v : ArrayVec (MutBor (List T)) ℕ) (xs ys : List T) → slice_items v ≡ xs → slice_spare v ≡ ys → slice_slots v ≡ xs ++ ys
 owner_sees v xs ys listed behind = cc (take-append-drop v.len v.slots.now, listed, behind)

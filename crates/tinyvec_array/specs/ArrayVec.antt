@@ -1,6 +1,6 @@
 -- What a contract sees of a vector over slots.
 use Rattle.std.specs.Prelude.{◌≡◌, ℕ, ◌-◌, ◌≤◌, List, length, drop}
-use Rattle.tinyvec_slots.specs.Slots.{Slots, Vacates, SlotRule, items as items_in, spare as spare_in}
+use Rattle.tinyvec_slots.specs.Slots.{Slots, Vacates, SlotRule, items_in, spare_in}
 use Rattle.tinyvec_array.specs.declared.slots.Slots as Storage
 use Rattle.tinyvec_array.specs.declared.array_vec.ArrayVec.{ArrayVec}
 use Rattle.tinyvec_array.specs.declared.bound.UpTo.{UpTo}

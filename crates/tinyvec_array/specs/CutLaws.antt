@@ -1,7 +1,7 @@
 -- The laws of `CanCut` of a vector over slots.
 use Rattle.std.proofs.Common.{◌≡◌, ℕ, List, ◌++◌, length, take, drop, refl, sym, ap, ◌∙◌, arith, rules}
 use Rattle.std.proofs.lemmas.List.{same_lists, places}
-use Rattle.tinyvec_slots.specs.Slots.{SameSpare, Shortens}
+use Rattle.tinyvec_slots.specs.Slots.{SameSpare, Cuts}
 use Rattle.tinyvec_slots.proofs.SlotsLemmas.{written_shortened}
 use Rattle.tinyvec_array.specs.SliceParts.{with_front, with_front-as_long}
 use Rattle.tinyvec_array.specs.ArrayVec.{view_of, items_of, name_of}
@@ -25,7 +25,7 @@ module _ {S T L : Type 0} (g : Storage.Ghosts S T L) where
 
   -- the same slots are lent, and the list lost items, by the slot rule
   abbrev pub CutOf : (T → Type 0) → ArrayVec S L → ArrayVec S L → Type 0
-  CutOf D old new = (name_of g new ≡ name_of g old) × Shortens D (view_of g old) (view_of g new)
+  CutOf D old new = (name_of g new ≡ name_of g old) × Cuts D (view_of g old) (view_of g new)
 
   pub written_of : (v : ArrayVec S L) (ws : List T) → length ws ≡ length (items_of g v)
       → (items_of g (with_items_of g v ws) ≡ ws) × KeptOf v (with_items_of g v ws)

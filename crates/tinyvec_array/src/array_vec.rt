@@ -17,7 +17,7 @@ mod traits;
 
 use crate::Slots;
 use crate::parts::part_of;
-use crate::places::bounded_index;
+use crate::tuned::indexing::bounded_index;
 use crate::tuned::resetting::fill_default;
 use crate::tuned::shifting::move_to_end_below;
 use std::alloc::AllocError;

@@ -1,7 +1,7 @@
 //! The iterator that owns its items.
 ghost use Rattle.std.specs.Prelude.{codes, All};
 
-use crate::places::{bounded_index, knows_slots};
+use crate::tuned::indexing::{bounded_index, knows_slots};
 use crate::{Array, ArrayVec};
 use std::alloc::AllocError;
 use std::mem;

@@ -10,7 +10,6 @@ mod drain;
 mod into_iter;
 mod macros;
 mod parts;
-mod places;
 mod slots;
 mod splice;
 mod takes_clones;

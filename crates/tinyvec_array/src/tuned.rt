@@ -2,5 +2,6 @@
 
 pub(crate) mod cloning;
 pub(crate) mod filling;
+pub(crate) mod indexing;
 pub(crate) mod resetting;
 pub(crate) mod shifting;

@@ -1,7 +1,7 @@
 -- What the slots of numbers are once a drain of their vector ended.
 use Rattle.std.proofs.Common.{◌≡◌, ℤ, pos, List, [], ◌∷◌, ◌++◌, length, take, drop, slice_range, replicate, refl, ap, ◌∙◌}
 use Rattle.std.specs.Borrow.{MutBor}
-use Rattle.tinyvec_slots.specs.Slots.{split_at, items as items_in, spare as spare_in}
+use Rattle.tinyvec_slots.specs.Slots.{split_at, items_in, spare_in}
 use Rattle.tinyvec_array.specs.ArrayVec.{view, items, all_slots, slots_of}
 use Rattle.tinyvec_array.specs.Drain.{DrainBegins, DrainCanStep, DrainKeeps, DrainLeaves, drain_items, drain_kept, drain_count, drain_spare}
 use Rattle.tinyvec_array.specs.declared.slots.Slots as Storage

@@ -2,7 +2,7 @@
 use Rattle.std.specs.Prelude.{ℕ, List, ℤ}
 use Rattle.std.specs.Borrow.{MutBor}
 use Rattle.tinyvec_array.specs.ArrayVec.{view as array_view, view_of}
-use Rattle.tinyvec_array.specs.SliceVec.{view}
+use Rattle.tinyvec_array.specs.SliceVec.{slice_view}
 use Rattle.tinyvec_array.specs.declared.slots.Slots as Storage
 use Rattle.tinyvec.specs.TinyVec.{tiny_view}
 use Rattle.tinyvec_script.specs.Script.{State}
@@ -14,4 +14,4 @@ state_of g vectors = record { a = array_view vectors.a; s = view_of g vectors.s;
 
 -- the same over a lent slice
 abbrev pub held : Vectors (MutBor (List ℤ)) ℕ → State
-held vectors = record { a = array_view vectors.a; s = view vectors.s; t = tiny_view vectors.t; x = vectors.x }
+held vectors = record { a = array_view vectors.a; s = slice_view vectors.s; t = tiny_view vectors.t; x = vectors.x }

@@ -2,7 +2,7 @@
 use Rattle.std.specs.Prelude.{ℕ, ◌+◌, ◌/◌, ◌%◌, List, [], ◌∷◌, ◌++◌, ℤ, codes, Bool, true, false}
 use Rattle.std.specs.Fmt.{signed_decimal}
 use Rattle.std.specs.List.{join_by}
-use Rattle.tinyvec_slots.specs.Slots.{Slots, items, spare}
+use Rattle.tinyvec_slots.specs.Slots.{Slots, items_in, spare_in}
 use Rattle.tinyvec_text.specs.InlineText.{Text}
 use Rattle.tinyvec.specs.View.{TinyView, lies_inline}
 use Rattle.tinyvec_script.specs.declared.call.Answer.{Answer}
@@ -35,7 +35,7 @@ state_text items spare = list_text items ++ codes " " ++ list_text spare
 
 -- a vector: its list and its spare slots
 abbrev pub vector_text : Slots ℤ → List ℕ
-vector_text v = state_text (items v) (spare v)
+vector_text v = state_text (items_in v) (spare_in v)
 
 -- the place of a list
 abbrev pub place_text : Bool → List ℕ

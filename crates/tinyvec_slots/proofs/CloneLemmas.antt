@@ -3,7 +3,7 @@ use Rattle.std.proofs.Common.{◌≡◌, ℕ, ◌+◌, ◌-◌, ◌<◌, ◌≤�
 use Rattle.std.proofs.lemmas.Slice.{between_is}
 use Rattle.std.proofs.lemmas.List.{drop_more, set_at, drop-drop, drop-append-le, take-take, take_at, drop_at}
 use Rattle.std.proofs.Math.Seq.{take-append-add}
-use Rattle.tinyvec_slots.specs.Slots.{Slots, SlotRule, all_slots, items, spare, split_at}
+use Rattle.tinyvec_slots.specs.Slots.{Slots, SlotRule, all_slots, items_in, spare_in, split_at}
 use Rattle.tinyvec_slots.proofs.SlotsLemmas.{slots_used}
 use borrow.Rule.Slice.PartMut.{post_of}
 
@@ -46,14 +46,14 @@ module _ {X : Type 0} where
 
 -- a list that was made longer by writes over its spare slots
 module _ {T : Type 0} (old : Slots T) (ws xs : List T) (n : ℕ) (fits : old.len ≤ length (all_slots old)) (ends : old.len + length ws ≡ n)
-    (is : xs ≡ items old ++ ws ++ drop n (all_slots old)) where
-  front : length (items old ++ ws) ≡ n
-  front = length-append (items old) ws ∙ ap (λ k. k + length ws) (length-take-le old.len (all_slots old) fits) ∙ ends
+    (is : xs ≡ items_in old ++ ws ++ drop n (all_slots old)) where
+  front : length (items_in old ++ ws) ≡ n
+  front = length-append (items_in old) ws ∙ ap (λ k. k + length ws) (length-take-le old.len (all_slots old) fits) ∙ ends
 
-  pub grown_items : take n xs ≡ items old ++ ws
-  grown_items = rw (is, take_at (items old ++ ws) (drop n (all_slots old)) n front)
+  pub grown_items : take n xs ≡ items_in old ++ ws
+  grown_items = rw (is, take_at (items_in old ++ ws) (drop n (all_slots old)) n front)
 
   pub grown : (D : T → Type 0) → SlotRule D old (split_at n xs)
   grown D =
-      let behind : drop n xs ≡ drop (length ws) (spare old) = rw (is, drop_at (items old ++ ws) (drop n (all_slots old)) n front, drop-drop, ends) in
-      slots_used D old (split_at n xs) (length ws) (ap length grown_items ∙ length-append (items old) ws) behind
+      let behind : drop n xs ≡ drop (length ws) (spare_in old) = rw (is, drop_at (items_in old ++ ws) (drop n (all_slots old)) n front, drop-drop, ends) in
+      slots_used D old (split_at n xs) (length ws) (ap length grown_items ∙ length-append (items_in old) ws) behind

@@ -7,15 +7,15 @@ use Rattle.std.proofs.iter.Yields.{gives_left, gives_Drains}
 use Rattle.std.specs.Iterator.{Yields, YieldsThen, AlwaysYields}
 use Rattle.std.specs.Prelude.{Ok, Err}
 use Rattle.tinyvec_slots.specs.Filling.{YieldsUpTo, ShowsItems, Fills, Extends}
-use Rattle.tinyvec_slots.specs.Slots.{Slots, items, spare, items_len}
+use Rattle.tinyvec_slots.specs.Slots.{Slots, items_in, spare_in, len_in}
 use Rattle.tinyvec_slots.proofs.Lists.{same_at}
 
 -- one more item used up one more spare slot
-pub spare_after : {T : Type 0} (old mid new : Slots T) (x : T) → items_len old ≤ items_len mid → items new ≡ items mid ++ x ∷ []
-    → spare mid ≡ drop (items_len mid - items_len old) (spare old) → spare new ≡ drop 1 (spare mid)
-    → spare new ≡ drop (items_len new - items_len old) (spare old)
+pub spare_after : {T : Type 0} (old mid new : Slots T) (x : T) → len_in old ≤ len_in mid → items_in new ≡ items_in mid ++ x ∷ []
+    → spare_in mid ≡ drop (len_in mid - len_in old) (spare_in old) → spare_in new ≡ drop 1 (spare_in mid)
+    → spare_in new ≡ drop (len_in new - len_in old) (spare_in old)
 spare_after old mid new x le more before after =
-    let used : items_len mid - items_len old + 1 ≡ items_len new - items_len old = omega (arith, ap length more, length_push (items mid) x) in
+    let used : len_in mid - len_in old + 1 ≡ len_in new - len_in old = omega (arith, ap length more, length_push (items_in mid) x) in
     after ∙ rw (before, drop-drop, used)
 
 module _ {S A : Type 0} (steps : S → Option A → S → Type 0) (n : ℕ) (s : S) (xs : List A) (u : S) where

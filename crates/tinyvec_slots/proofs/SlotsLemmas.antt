@@ -3,39 +3,39 @@ use Rattle.std.proofs.Common.{◌≡◌, ℕ, ◌+◌, ◌-◌, List, [], ◌++�
 use Rattle.std.proofs.Math.Seq.{take-set-lt}
 use Rattle.std.proofs.lemmas.List.Elements.{All-nil}
 use Rattle.std.proofs.lemmas.List.{same_lists, places, get_or-replicate, length-replicate}
-use Rattle.tinyvec_slots.specs.Slots.{Slots, AreDefaults, Vacates, SlotRule, Shortens, SameSpare, items_len, all_slots, items, spare, with_slot}
+use Rattle.tinyvec_slots.specs.Slots.{Slots, AreDefaults, Vacates, SlotRule, Cuts, SameSpare, len_in, all_slots, items_in, spare_in, with_slot}
 
 -- the slots are the list and what stands behind it
-pub slots_are : {T : Type 0} (v : Slots T) → all_slots v ≡ items v ++ spare v
+pub slots_are : {T : Type 0} (v : Slots T) → all_slots v ≡ items_in v ++ spare_in v
 slots_are v = sym (take-append-drop v.len v.slots)
 
 -- a write of one slot of the list writes that item
-pub items-with_slot : {T : Type 0} (v : Slots T) (i : ℕ) (x : T) → i < items_len v → items (with_slot v i x) ≡ slice_set (items v) i x
+pub items-with_slot : {T : Type 0} (v : Slots T) (i : ℕ) (x : T) → i < len_in v → items_in (with_slot v i x) ≡ slice_set (items_in v) i x
 items-with_slot v i x h = take-set-lt v.len v.slots i x (search (rules, h, places))
 
 -- and leaves the others alone
-pub spare-with_slot : {T : Type 0} (v : Slots T) (i : ℕ) (x : T) → i < items_len v → spare (with_slot v i x) ≡ spare v
+pub spare-with_slot : {T : Type 0} (v : Slots T) (i : ℕ) (x : T) → i < len_in v → spare_in (with_slot v i x) ≡ spare_in v
 spare-with_slot v i x h = drop-set-lt v.len v.slots i x (search (rules, h, places))
 
 -- the slot rule of a call that made the list longer, shorter, or neither
 module _ {T : Type 0} (D : T → Type 0) (old new : Slots T) where
-  pub slots_used : (k : ℕ) → items_len new ≡ items_len old + k → spare new ≡ drop k (spare old) → SlotRule D old new
+  pub slots_used : (k : ℕ) → len_in new ≡ len_in old + k → spare_in new ≡ drop k (spare_in old) → SlotRule D old new
   slots_used k len behind =
-      let none : items_len old - items_len new ≡ 0 = omega arith in
-      let more : items_len new - items_len old ≡ k = omega arith in
-      ([], (sym none, All-nil D), behind ∙ ap (λ n. drop n (spare old)) (sym more))
+      let none : len_in old - len_in new ≡ 0 = omega arith in
+      let more : len_in new - len_in old ≡ k = omega arith in
+      ([], (sym none, All-nil D), behind ∙ ap (λ n. drop n (spare_in old)) (sym more))
 
-  pub slots_freed : (k : ℕ) → items_len old ≡ items_len new + k → Vacates D k old new → SlotRule D old new
+  pub slots_freed : (k : ℕ) → len_in old ≡ len_in new + k → Vacates D k old new → SlotRule D old new
   slots_freed k len h =
-      let fewer : items_len old - items_len new ≡ k = omega arith in
-      let none : items_len new - items_len old ≡ 0 = omega arith in
-      (h.0, (h.1.0 ∙ sym fewer, h.1.1), h.2 ∙ ap (λ n. h.0 ++ drop n (spare old)) (sym none))
+      let fewer : len_in old - len_in new ≡ k = omega arith in
+      let none : len_in new - len_in old ≡ 0 = omega arith in
+      (h.0, (h.1.0 ∙ sym fewer, h.1.1), h.2 ∙ ap (λ n. h.0 ++ drop n (spare_in old)) (sym none))
 
-  pub shortened : Shortens D old new → SlotRule D old new
-  shortened h = slots_freed (items_len old - items_len new) (omega (arith, h.bound)) h.spare
+  pub shortened : Cuts D old new → SlotRule D old new
+  shortened h = slots_freed (len_in old - len_in new) (omega (arith, h.bound)) h.spare
 
 -- a list that was written and then cut
-pub written_shortened : {T : Type 0} (D : T → Type 0) (u v w : Slots T) → SameSpare u v → Shortens D v w → Shortens D u w
+pub written_shortened : {T : Type 0} (D : T → Type 0) (u v w : Slots T) → SameSpare u v → Cuts D v w → Cuts D u w
 written_shortened D u v w k h = record { bound = rw (sym k.1) h.bound; spare = rw (sym k.0, sym k.1) h.spare }
 
 -- where the item's `Default` answers one value only
@@ -45,8 +45,8 @@ module _ {T : Type 0} (D : T → Type 0) (c : T) (only : (x : T) → D x → x �
       same_lists xs (replicate n c) (h.0 ∙ sym (length-replicate n c))
       (λ k d lt. only _ (h.1 k d lt) ∙ sym (get_or-replicate n k c d (rw (← h.0) lt)))
 
-  pub freed : (n : ℕ) (old new : Slots T) → Vacates D n old new → spare new ≡ replicate n c ++ spare old
-  freed n old new h = h.2 ∙ ap (λ ds. ds ++ spare old) (defaults_are n h.0 h.1)
+  pub freed : (n : ℕ) (old new : Slots T) → Vacates D n old new → spare_in new ≡ replicate n c ++ spare_in old
+  freed n old new h = h.2 ∙ ap (λ ds. ds ++ spare_in old) (defaults_are n h.0 h.1)
 
 -- the vacated slots of numbers hold zeros
 pub zeros_are : {T : Type 0} (zero : T) (n : ℕ) (xs : List T) → AreDefaults (λ x. x ≡ zero) n xs → xs ≡ replicate n zero

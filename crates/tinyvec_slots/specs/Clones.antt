@@ -4,7 +4,7 @@ use Rattle.std.proofs.Common.{sym}
 use Rattle.std.proofs.lemmas.List.Elements.{same_from_all_zip, length_all_zip}
 use Rattle.std.specs.declared.clone.Clone as Clone
 use Rattle.std.specs.List.{HoldsAt, AllZip, AppendsClones}
-use Rattle.tinyvec_slots.specs.Slots.{Slots, AreDefaults, items as list_of, spare as spare_of, items_len}
+use Rattle.tinyvec_slots.specs.Slots.{Slots, AreDefaults, items_in as list_of, spare_in as spare_of, len_in}
 
 -- a clone equals its original, as that of a number does
 abbrev pub ClonesAreEqual : {T : Type 0} → (T → T → Type 0) → Type 0
@@ -52,7 +52,7 @@ pub record WritesClones {T R E : Type 0} (g : Clone.Ghosts T) (Written : List T 
 -- A call that appends clones of xs, over the first spare slots, took `old` to `new` and returned r.
 pub record AddsClones {T R E : Type 0} (g : Clone.Ghosts T) (xs : List T) (r : Result R E) (old new : Slots T) : Type 0 where
   pub items : OnOk r (AppendsClones g.is_clone (list_of old) (list_of new) xs)
-  pub len : OnOk r (items_len new ≡ items_len old + length xs)
+  pub len : OnOk r (len_in new ≡ len_in old + length xs)
   pub if_clones_equal : OnOk r (ClonesAreEqual g.is_clone → list_of new ≡ list_of old ++ xs)
   pub spare : OnOk r (spare_of new ≡ drop (length xs) (spare_of old))
   pub kept : OnErr r (list_of new ≡ list_of old)
@@ -70,13 +70,13 @@ pub record AppendsAllOrNone {T R E : Type 0} (C : T → T → Type 0) (xs : List
 -- A call that makes the list n items long took `old` to `new` and returned r. It truncates the list, or fills it up with clones
 -- of x.
 pub record ResizesByClones {T R E : Type 0} (g : Clone.Ghosts T) (n : ℕ) (x : T) (r : Result R E) (old new : Slots T) : Type 0 where
-  pub items : OnOk r (AppendsClones g.is_clone (take n (list_of old)) (list_of new) (replicate (n - items_len old) x))
-  pub len : OnOk r (items_len new ≡ n)
-  pub if_clones_equal : OnOk r (ClonesAreEqual g.is_clone → list_of new ≡ take n (list_of old) ++ replicate (n - items_len old) x)
-  pub spare : OnOk r (items_len old ≤ n → spare_of new ≡ drop (n - items_len old) (spare_of old))
+  pub items : OnOk r (AppendsClones g.is_clone (take n (list_of old)) (list_of new) (replicate (n - len_in old) x))
+  pub len : OnOk r (len_in new ≡ n)
+  pub if_clones_equal : OnOk r (ClonesAreEqual g.is_clone → list_of new ≡ take n (list_of old) ++ replicate (n - len_in old) x)
+  pub spare : OnOk r (len_in old ≤ n → spare_of new ≡ drop (n - len_in old) (spare_of old))
   pub kept : OnErr r (list_of new ≡ list_of old)
   -- the first `j` spare slots hold the clones made
-  pub refused : OnErr r ((j : ℕ) × (j < n - items_len old) × ¬ (g.is_infallible x) × ClonesOver g.is_clone (replicate j x) j (spare_of old) (spare_of new))
+  pub refused : OnErr r ((j : ℕ) × (j < n - len_in old) × ¬ (g.is_infallible x) × ClonesOver g.is_clone (replicate j x) j (spare_of old) (spare_of new))
   pub succeeds : g.is_infallible x → IsOk r
 
 -- new is clones of xs, followed by `old`
@@ -87,10 +87,10 @@ ClonesBefore {T} C xs old new = (ys : List T) × AllZip C xs ys × (new ≡ ys +
 -- and returned r.
 pub record CutsToClones {T R E : Type 0} (g : Clone.Ghosts T) (n : ℕ) (x : T) (r : Result R E) (old new : Slots T) : Type 0 where
   pub items : OnOk r (list_of new ≡ take n (list_of old))
-  pub spare : OnOk r (ClonesBefore g.is_clone (replicate (items_len old - n) x) (spare_of old) (spare_of new))
-  pub if_clones_equal : OnOk r (ClonesAreEqual g.is_clone → spare_of new ≡ replicate (items_len old - n) x ++ spare_of old)
+  pub spare : OnOk r (ClonesBefore g.is_clone (replicate (len_in old - n) x) (spare_of old) (spare_of new))
+  pub if_clones_equal : OnOk r (ClonesAreEqual g.is_clone → spare_of new ≡ replicate (len_in old - n) x ++ spare_of old)
   -- the list is shorter by the j slots that hold the clones made
-  pub refused : OnErr r ((j : ℕ) × (j < items_len old - n) × ¬ (g.is_infallible x) × (list_of new ≡ take (items_len old - j) (list_of old))
+  pub refused : OnErr r ((j : ℕ) × (j < len_in old - n) × ¬ (g.is_infallible x) × (list_of new ≡ take (len_in old - j) (list_of old))
       × ClonesBefore g.is_clone (replicate j x) (spare_of old) (spare_of new))
   pub succeeds : g.is_infallible x → IsOk r
 

@@ -12,16 +12,16 @@ AreDefaults D n xs = (length xs ≡ n) × All D xs
 
 module _ {T : Type 0} where
   -- the list
-  abbrev pub items : Slots T → List T
-  items v = take v.len v.slots
+  abbrev pub items_in : Slots T → List T
+  items_in v = take v.len v.slots
 
   -- the spare slots after it
-  abbrev pub spare : Slots T → List T
-  spare v = drop v.len v.slots
+  abbrev pub spare_in : Slots T → List T
+  spare_in v = drop v.len v.slots
 
   -- the length of the list
-  abbrev pub items_len : Slots T → ℕ
-  items_len v = length (items v)
+  abbrev pub len_in : Slots T → ℕ
+  len_in v = length (items_in v)
 
   -- the list and the spare slots, one after the other
   abbrev pub all_slots : Slots T → List T
@@ -33,29 +33,22 @@ module _ {T : Type 0} where
 
   -- the n vacated slots hold defaults, and precede the old spare slots
   abbrev pub Vacates : (T → Type 0) → ℕ → Slots T → Slots T → Type 0
-  Vacates D n old new = (ds : List T) × AreDefaults D n ds × (spare new ≡ ds ++ spare old)
+  Vacates D n old new = (ds : List T) × AreDefaults D n ds × (spare_in new ≡ ds ++ spare_in old)
 
   -- The slot rule. If the list lost n items, n defaults precede the old spare slots. If it gained n items, the first n
   -- spare slots are used up. Else they are unchanged.
   abbrev pub SlotRule : (T → Type 0) → Slots T → Slots T → Type 0
-  SlotRule D old new = (ds : List T) × AreDefaults D (items_len old - items_len new) ds
-      × (spare new ≡ ds ++ drop (items_len new - items_len old) (spare old))
-
-  -- A call that added n items took `old` to `new`, whose list is xs: they use up the first n spare slots, and the list fits in
-  -- the slots.
-  pub record Gains (slots n : ℕ) (old new : Slots T) (xs : List T) : Type 0 where
-    pub items : items new ≡ xs
-    pub spare : spare new ≡ drop n (spare old)
-    pub fits : items_len new ≤ slots
+  SlotRule D old new = (ds : List T) × AreDefaults D (len_in old - len_in new) ds
+      × (spare_in new ≡ ds ++ drop (len_in new - len_in old) (spare_in old))
 
   -- A call that only removes items took `old` to `new`: the vacated slots hold defaults, and precede the old spare slots.
-  pub record Shortens (D : T → Type 0) (old new : Slots T) : Type 0 where
-    pub bound : items_len new ≤ items_len old
-    pub spare : Vacates D (items_len old - items_len new) old new
+  pub record Cuts (D : T → Type 0) (old new : Slots T) : Type 0 where
+    pub bound : len_in new ≤ len_in old
+    pub spare : Vacates D (len_in old - len_in new) old new
 
   -- the list is as long, and the spare slots are the same
   abbrev pub SameSpare : Slots T → Slots T → Type 0
-  SameSpare old new = (spare new ≡ spare old) × (items_len new ≡ items_len old)
+  SameSpare old new = (spare_in new ≡ spare_in old) × (len_in new ≡ len_in old)
 
   -- v with its slot i set to x
   abbrev pub with_slot : Slots T → ℕ → T → Slots T

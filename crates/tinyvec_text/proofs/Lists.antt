@@ -6,7 +6,7 @@ use Rattle.std.proofs.lemmas.Result.{on_ok_weaker, on_err_weaker}
 use Rattle.std.proofs.lemmas.List.{drop-drop, same_lists}
 use Rattle.std.proofs.lemmas.List.Elements.{All-append, All-drop, All-take}
 use Rattle.std.proofs.lemmas.Str.{IsUtf8-had}
-use Rattle.tinyvec_slots.specs.Slots.{Slots, AreDefaults, SlotRule, items, items_len, spare}
+use Rattle.tinyvec_slots.specs.Slots.{Slots, AreDefaults, SlotRule, items_in, len_in, spare_in}
 use Rattle.tinyvec_slots.proofs.BorderLemmas.{spare_from}
 use Rattle.tinyvec_array.proofs.Named.{array_slots}
 use Rattle.tinyvec.specs.SpliceLaws.{frame_becomes}
@@ -133,21 +133,21 @@ same_zeros : (xs ys : List ℕ) → length xs ≡ length ys → All (λ b. b ≡
 same_zeros xs ys long zero clear = same_lists xs ys long (λ k d lt. zero k d lt ∙ sym (clear k d (omega (arith, lt, long))))
 
 -- the list of v was cut off at n, and zeros were written over all that follows
-pub cut_zero : (v w : Slots ℕ) (ws : List ℕ) (n : ℕ) → w.len ≡ n → w.slots ≡ take n v.slots ++ ws → n ≤ items_len v → length ws ≡ length (drop n v.slots)
-    → All (λ b. b ≡ 0) ws → All (λ b. b ≡ 0) (spare v) → (items w ≡ take n (items v)) × SlotRule (λ b. b ≡ 0) v w
+pub cut_zero : (v w : Slots ℕ) (ws : List ℕ) (n : ℕ) → w.len ≡ n → w.slots ≡ take n v.slots ++ ws → n ≤ len_in v → length ws ≡ length (drop n v.slots)
+    → All (λ b. b ≡ 0) ws → All (λ b. b ≡ 0) (spare_in v) → (items_in w ≡ take n (items_in v)) × SlotRule (λ b. b ≡ 0) v w
 cut_zero v w ws n at is le long zero clear =
-    let l = items_len v in
+    let l = len_in v in
     let fits : n ≤ length v.slots = omega (arith, le, length-take v.len v.slots) in
     let front : length (take n v.slots) ≡ n = length-take-le n v.slots fits in
-    let listed : items w ≡ take n v.slots = (λ i. take (at i) (is i)) ∙ take_at (take n v.slots) ws n front in
-    let behind : spare w ≡ ws = (λ i. drop (at i) (is i)) ∙ drop_at (take n v.slots) ws n front in
-    let size : items_len w ≡ n = ap length listed ∙ front in
-    let rest : drop (l - n) ws ≡ spare v = same_zeros _ _ (omega (arith, length-drop (l - n) ws, long, length-drop n v.slots, length-drop v.len v.slots, length-take v.len v.slots, le)) (All-drop (λ b. b ≡ 0) _ ws zero) clear in
-    let none : items_len w - l ≡ 0 = omega (arith, size, le) in (
+    let listed : items_in w ≡ take n v.slots = (λ i. take (at i) (is i)) ∙ take_at (take n v.slots) ws n front in
+    let behind : spare_in w ≡ ws = (λ i. drop (at i) (is i)) ∙ drop_at (take n v.slots) ws n front in
+    let size : len_in w ≡ n = ap length listed ∙ front in
+    let rest : drop (l - n) ws ≡ spare_in v = same_zeros _ _ (omega (arith, length-drop (l - n) ws, long, length-drop n v.slots, length-drop v.len v.slots, length-take v.len v.slots, le)) (All-drop (λ b. b ≡ 0) _ ws zero) clear in
+    let none : len_in w - l ≡ 0 = omega (arith, size, le) in (
       listed ∙ sym (take-take n v.len v.slots (omega (arith, le, length-take v.len v.slots))),
       (
         take (l - n) ws,
         (length-take-le (l - n) ws (omega (arith, long, length-drop n v.slots, le, length-take v.len v.slots)) ∙ omega (arith, size), All-take (λ b. b ≡ 0) (l - n) ws zero),
-        behind ∙ sym (take-append-drop (l - n) ws) ∙ ap (λ xs. take (l - n) ws ++ xs) rest ∙ ap (λ k. take (l - n) ws ++ drop k (spare v)) (sym none),
+        behind ∙ sym (take-append-drop (l - n) ws) ∙ ap (λ xs. take (l - n) ws ++ xs) rest ∙ ap (λ k. take (l - n) ws ++ drop k (spare_in v)) (sym none),
       ),
     )

@@ -3,6 +3,7 @@ use Rattle.std.specs.Prelude.{◌≡◌, ℕ, ◌+◌, ◌*◌, ◌<◌, ◌≤�
 use Rattle.std.specs.Char.{IsScalar}
 use Rattle.std.specs.Fn.{Called}
 use Rattle.std.specs.Str.{all_scalars}
+use Rattle.tinyvec_slots.specs.Slots.{Slots, items_in, spare_in, len_in}
 use Rattle.tinyvec_slots.specs.Filters.{IsFilteredTo}
 use denote.Param.Members.{Mut}
 use Rattle.tinyvec_array.specs.declared.bound.UpTo.{UpTo}
@@ -19,6 +20,12 @@ pub record Text : Type 0 where
 -- the list of a text in an array of n bytes
 abbrev pub Bytes : ℕ → Type 0
 Bytes n = TinyVec (List ℕ) ℕ (UpTo n)
+
+-- A call that added n bytes took `old` to `new`, whose list is xs: they use up the first n spare slots, and the list fits in the slots.
+pub record AddsBytes (slots n : ℕ) (old new : Slots ℕ) (xs : List ℕ) : Type 0 where
+  pub items : items_in new ≡ xs
+  pub spare : spare_in new ≡ drop n (spare_in old)
+  pub fits : len_in new ≤ slots
 
 -- a list of bytes as a text
 abbrev pub text_of : {n : ℕ} → Bytes n → Text

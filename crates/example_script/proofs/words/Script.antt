@@ -1,6 +1,6 @@
 -- Examples of calls as values, of runs and of scripts.
 use Rattle.std.proofs.Common.{◌≡◌, ℕ, true, false, List, [], ◌∷◌, ◌++◌, length, refl, rules, arith}
-use Rattle.tinyvec_slots.specs.Slots.{Slots, items, split_at, SlotRule}
+use Rattle.tinyvec_slots.specs.Slots.{Slots, items_in, split_at, SlotRule}
 use Rattle.tinyvec.specs.View.{TinyView, in_array}
 use Rattle.tinyvec_script.specs.declared.call.Call.TheVariants.{Push, Pop}
 use Rattle.tinyvec_script.specs.declared.call.Answer.TheVariants as answers
@@ -39,7 +39,7 @@ example-Run = search rules
 pub example-SpliceComputes : SpliceComputes {T = ℕ} 8 (1 ∷ 2 ∷ 3 ∷ 4 ∷ []) 1 3 (Front ∷ []) (7 ∷ []) (2 ∷ []) [] (1 ∷ 7 ∷ 4 ∷ [])
 example-SpliceComputes = search rules
 
-pub example-DrivenSplices : (yields rest : List ℕ) (new : Slots ℕ) → DrivenSplices items (SlotRule D) 8 (over (1 ∷ 2 ∷ 3 ∷ 4 ∷ []) (0 ∷ [])) 1 3 (Front ∷ []) (7 ∷ []) yields rest new → rest ≡ []
+pub example-DrivenSplices : (yields rest : List ℕ) (new : Slots ℕ) → DrivenSplices items_in (SlotRule D) 8 (over (1 ∷ 2 ∷ 3 ∷ 4 ∷ []) (0 ∷ [])) 1 3 (Front ∷ []) (7 ∷ []) yields rest new → rest ≡ []
 example-DrivenSplices yields rest new h = (h.list.placed (omega arith)).0
 
 pub example-Script : Script [] []

@@ -5,7 +5,7 @@ ghost use Rattle.std.specs.Borrow.{sem};
 ghost use Rattle.std.specs.List.{swap_remove, SwappedAt};
 
 use crate::parts::slot_of;
-use crate::places::{bounded_index, bounded_len, prefers_shifting_in};
+use crate::tuned::indexing::{bounded_index, bounded_len, prefers_shifting_in};
 use crate::tuned::resetting::fill_default;
 use crate::tuned::shifting::{insert_shifting, last_to};
 use crate::{ArrayVec, Slots};

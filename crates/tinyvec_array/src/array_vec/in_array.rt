@@ -7,7 +7,7 @@ ghost use Rattle.tinyvec_slots.specs.Filling.{Collects};
 ghost use Rattle.tinyvec_array.specs.ArrayVec.{view_of, items_of, spare_of, slots_of, len_of, SameLender, Loses};
 
 use crate::parts::part_of;
-use crate::places::knows_slots;
+use crate::tuned::indexing::knows_slots;
 use crate::{
     Array, ArrayVec, ArrayVecIterator, FromIterRest, NoMemory, NoRoom, Slots, TryFromSliceError,
 };

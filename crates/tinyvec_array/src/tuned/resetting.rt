@@ -3,7 +3,7 @@ ghost use Rattle.std.specs.Prelude.{◌≡◌, ◌-◌, ◌*◌, ◌<◌, ◌≤
 ghost use Rattle.tinyvec_slots.specs.Ranges.{Within};
 ghost use Rattle.tinyvec_slots.specs.Slots.{AreDefaults};
 
-use crate::places::prefers_shifting;
+use crate::tuned::indexing::prefers_shifting;
 
 // Writes a default into each slot from `start` up to `end`, which are at most `most`. A constant `most` removes the branches
 // for more slots.

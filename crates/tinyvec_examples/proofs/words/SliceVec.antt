@@ -1,28 +1,28 @@
 -- Examples of a `SliceVec` v over the slots `[1, 2, 0]`, whose list is `[1, 2]`, and of a generic one.
 use Rattle.std.proofs.Common.{◌≡◌, ℕ, List, [], ◌∷◌, drop, refl, rules, ◌∙◌, sym, ap}
-use Rattle.tinyvec_slots.specs.Slots.{items as items_in, spare as spare_in}
+use Rattle.tinyvec_slots.specs.Slots.{items_in, spare_in}
 use Rattle.std.specs.Borrow.{MutBor}
 use Rattle.tinyvec_array.specs.declared.slots.Slots as Storage
 use Rattle.tinyvec_array.specs.declared.array_vec.ArrayVec.{ArrayVec}
 use Rattle.tinyvec_array.specs.ArrayVec.{view_of, items_of, spare_of, len_of, slots_of, name_of, SameLender, Gains, Loses, Grows, Shortens, Changes}
-use Rattle.tinyvec_array.specs.SliceVec.{view, items, spare, slots, name}
+use Rattle.tinyvec_array.specs.SliceVec.{slice_view, slice_items, slice_spare, slice_slots, slice_name}
 use Rattle.tinyvec_array.specs.CutLaws.{CutOf}
 use Rattle.tinyvec_examples.proofs.words.Shown.{D, over}
 
 module _ (v : ArrayVec (MutBor (List ℕ)) ℕ) (lent : v.slots.now ≡ 1 ∷ 2 ∷ 0 ∷ []) (len : v.len ≡ 2) where
-  pub example-view : view v ≡ over (1 ∷ 2 ∷ []) (0 ∷ [])
+  pub example-view : slice_view v ≡ over (1 ∷ 2 ∷ []) (0 ∷ [])
   example-view = rw (lent, len) refl
 
-  pub example-items : items v ≡ 1 ∷ 2 ∷ []
+  pub example-items : slice_items v ≡ 1 ∷ 2 ∷ []
   example-items = rw (lent, len) refl
 
-  pub example-spare : spare v ≡ 0 ∷ []
+  pub example-spare : slice_spare v ≡ 0 ∷ []
   example-spare = rw (lent, len) refl
 
-  pub example-slots : slots v ≡ 1 ∷ 2 ∷ 0 ∷ []
+  pub example-slots : slice_slots v ≡ 1 ∷ 2 ∷ 0 ∷ []
   example-slots = lent
 
-  pub example-name : name v ≡ v.slots.ghost_name
+  pub example-name : slice_name v ≡ v.slots.ghost_name
   example-name = refl
 
 module _ {B L : Type 0} (g : Storage.Ghosts B ℕ L) (v : ArrayVec B L) (lent : g.slots v.slots ≡ 1 ∷ 2 ∷ 0 ∷ []) (len : g.count v.len ≡ 2) where

@@ -5,7 +5,7 @@ ghost use Rattle.std.specs.List.{remove_range};
 ghost use Rattle.tinyvec_array.specs.Slots.{Vacates, SlotRule};
 ghost use Rattle.tinyvec_array.specs.Ranges.{IsRangeOf, before, after};
 ghost use Rattle.tinyvec_array.specs.ArrayVec.{items_of, name_of, view_of};
-ghost use Rattle.tinyvec_array.specs.SliceVec.{items, spare, name};
+ghost use Rattle.tinyvec_array.specs.SliceVec.{slice_items, slice_spare, slice_name};
 
 use std::ops::RangeBounds;
 use tinyvec_array::{ArrayVec, SliceVec, Slots};
@@ -40,21 +40,21 @@ where
 
 /// A caller by name: the items are taken one by one, and what preceded and followed them is left.
 pub fn drop_two(v: &mut SliceVec<'_, i32>)
-    requires { 3 ≤ length (items v.old) }
-    ensures same_reference { name v.new ≡ name v.old }
-    ensures items { items v.new ≡ remove_range (items v.old) 1 3 }
-    ensures spare { spare v.new ≡ pos 0 ∷ pos 0 ∷ spare v.old }
+    requires { 3 ≤ length (slice_items v.old) }
+    ensures same_reference { slice_name v.new ≡ slice_name v.old }
+    ensures items { slice_items v.new ≡ remove_range (slice_items v.old) 1 3 }
+    ensures spare { slice_spare v.new ≡ pos 0 ∷ pos 0 ∷ slice_spare v.old }
 {
     v.drain_each(1..3, &mut |_x| {});
 }
 
 /// A caller by name: the items from the second on move after those of `out`.
 pub fn move_tail(v: &mut SliceVec<'_, i32>, out: &mut Vec<i32>)
-    requires list { 1 ≤ length (items v.old) }
-    requires room { vec_len out.old + length (items v.old) ≤ vec_capacity out.old }
-    ensures same_reference { name v.new ≡ name v.old }
-    ensures items { items v.new ≡ take 1 (items v.old) }
-    ensures moved { out.new.items ≡ out.old.items ++ drop 1 (items v.old) }
+    requires list { 1 ≤ length (slice_items v.old) }
+    requires room { vec_len out.old + length (slice_items v.old) ≤ vec_capacity out.old }
+    ensures same_reference { slice_name v.new ≡ slice_name v.old }
+    ensures items { slice_items v.new ≡ take 1 (slice_items v.old) }
+    ensures moved { out.new.items ≡ out.old.items ++ drop 1 (slice_items v.old) }
 {
     v.drain_into(1.., out);
 }

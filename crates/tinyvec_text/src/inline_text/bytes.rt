@@ -1,8 +1,9 @@
 //! Bytes of a list that are copied to the heap, or replaced by others, by moves of memory.
 ghost use Rattle.std.specs.Prelude.{◌≡◌, ◌+◌, ◌-◌, ◌*◌, ◌≤◌, ◌++◌, ◌∷◌, [], length, take, drop, false, is_ok, if◌then◌else◌, IsOk, IfOk, OnErr, vec_len, vec_capacity, All};
-ghost use Rattle.tinyvec_slots.specs.Slots.{Gains, SlotRule};
+ghost use Rattle.tinyvec_slots.specs.Slots.{AddsBytes, SlotRule};
 ghost use Rattle.tinyvec_array.specs.ArrayVec.{items, items_len, all_slots, spare, view};
 ghost use Rattle.tinyvec.specs.TinyVec.{tiny_items, tiny_len, tiny_spare, tiny_capacity, is_inline, IsInline, tiny_view};
+ghost use Rattle.tinyvec_text.specs.InlineText.{AddsBytes};
 ghost use Rattle.tinyvec.specs.View.{IsTail, Becomes};
 ghost use Rattle.tinyvec.specs.Room.{MakesRoom};
 ghost use Rattle.tinyvec.specs.OnHeap.{HeapBecomes};
@@ -222,7 +223,7 @@ fn put_byte_slow<const N: usize>(
 fn insert_inline<const N: usize>(v: &mut ArrayVec<[u8; N]>, index: usize, bytes: &[u8])
     requires in_list { index ≤ items_len v.old }
     requires room { length bytes.now ≤ length (all_slots v.old) - items_len v.old }
-    ensures gains { Gains (length (all_slots v.old)) (length bytes.now) (view v.old) (view v.new)
+    ensures gains { AddsBytes (length (all_slots v.old)) (length bytes.now) (view v.old) (view v.new)
         (take index (items v.old) ++ bytes.now ++ drop index (items v.old)) }
     ensures slot_count { length (all_slots v.new) ≡ length (all_slots v.old) }
 {
@@ -393,7 +394,7 @@ fn push_part_slow<const N: usize>(
 fn repeat_inline<const N: usize>(v: &mut ArrayVec<[u8; N]>, start: usize, count: usize)
     requires in_list { start + count ≤ items_len v.old }
     requires room { count ≤ length (all_slots v.old) - items_len v.old }
-    ensures gains { Gains (length (all_slots v.old)) count (view v.old) (view v.new)
+    ensures gains { AddsBytes (length (all_slots v.old)) count (view v.old) (view v.new)
         (items v.old ++ take count (drop start (items v.old))) }
     ensures slot_count { length (all_slots v.new) ≡ length (all_slots v.old) }
 {
@@ -487,7 +488,7 @@ fn push_slow<const N: usize>(list: &mut TinyVec<[u8; N]>, bytes: &[u8]) -> Resul
 #[inline(always)]
 fn append_inline<const N: usize>(v: &mut ArrayVec<[u8; N]>, bytes: &[u8])
     requires { length bytes.now ≤ length (all_slots v.old) - items_len v.old }
-    ensures gains { Gains (length (all_slots v.old)) (length bytes.now) (view v.old) (view v.new)
+    ensures gains { AddsBytes (length (all_slots v.old)) (length bytes.now) (view v.old) (view v.new)
         (items v.old ++ bytes.now) }
     ensures slot_count { length (all_slots v.new) ≡ length (all_slots v.old) }
 {

@@ -1,5 +1,5 @@
 use Rattle.std.proofs.Common.{◌≡◌, ◌∙◌, ◌+◌, ◌++◌, ap, arith, rules, length, drop}
-use Rattle.tinyvec_array.specs.SliceVec.{slots}
+use Rattle.tinyvec_array.specs.SliceVec.{slice_slots}
 use Rattle.tinyvec_array.specs.Appends.{Appends}
 use Rattle.example_dns_query.specs.Name.{labels_of, labels_in, name_wire}
 use Rattle.example_dns_query.specs.Message.{query}
@@ -22,8 +22,8 @@ returns-clause-written c =
     let long = c.name_len.ensures ∙ ap (λ body. length (name_wire (labels_in body))) c.body_of-body.ensures in
     let len : length wire ≡ 12 + c.name_len.result + 4 = omega (arith, long, length-query c.args.id labels c.args.record_type) in
     let step : Appends wire c.from_slice_len-message.result v = rw c.body_of-body.ensures at c.push_query.ensures in
-    let whole : slots v ≡ wire ++ drop (length wire) old = owner_sees_appended wire old _ v made.items made.spare step in
-    let seen : slots v ≡ wire ++ drop (12 + c.name_len.result + 4) old = whole ∙ ap (λ n. wire ++ drop n old) len in
+    let whole : slice_slots v ≡ wire ++ drop (length wire) old = owner_sees_appended wire old _ v made.items made.spare step in
+    let seen : slice_slots v ≡ wire ++ drop (12 + c.name_len.result + 4) old = whole ∙ ap (λ n. wire ++ drop n old) len in
     search rules
 
 pub returns-clause-spelling : goal.returns-clause-spelling

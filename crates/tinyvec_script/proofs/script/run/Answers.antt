@@ -1,9 +1,9 @@
 use Rattle.std.proofs.Common.{refl, ◌≡◌, ◌++◌, List, ℕ, [], take, pos, sym, ap, ◌∙◌, arith, le_refl, le_trans, append-nil, inl, inr, IsTrue}
-use Rattle.tinyvec_slots.specs.Slots.{spare, split_at}
+use Rattle.tinyvec_slots.specs.Slots.{spare_in, split_at}
 use Rattle.tinyvec_slots.proofs.SlotsLemmas.{defaults_are}
 use Rattle.tinyvec_script.specs.Script.{start, zeros, State, IsZero}
 use Rattle.tinyvec_array.specs.ArrayVec.{view as array_view, all_slots}
-use Rattle.tinyvec_array.specs.SliceVec.{view}
+use Rattle.tinyvec_array.specs.SliceVec.{slice_view}
 use Rattle.tinyvec.specs.TinyVec.{tiny_view}
 use Rattle.tinyvec.specs.View.{Place, in_array, lies_inline}
 use Rattle.std.proofs.KnownBytes.{Appends-nil, Appends-trans, Consumes-nil, Consumes-trans, Consumes-kept}
@@ -19,15 +19,15 @@ pub loop-piece-init : goal.loop-piece-init
 loop-piece-init g c =
     let array = array_view c.new.result in
     let border : array ≡ split_at 0 (all_slots c.new.result) = c.new.ensures.border in
-    let empty = defaults_are IsZero (pos 0) (λ x h. h) 4 (spare array) c.new.ensures.spare in
-    let a_begins : array ≡ zeros = border ∙ ap (split_at 0) (sym (ap spare border) ∙ empty) in
-    let s_begins : view c.from_slice_len.result ≡ zeros = c.from_slice_len.ensures.value in
+    let empty = defaults_are IsZero (pos 0) (λ x h. h) 4 (spare_in array) c.new.ensures.spare in
+    let a_begins : array ≡ zeros = border ∙ ap (split_at 0) (sym (ap spare_in border) ∙ empty) in
+    let s_begins : slice_view c.from_slice_len.result ≡ zeros = c.from_slice_len.ensures.value in
     let tiny = c.new-2 in
     let tiny_spare = defaults_are IsZero (pos 0) (λ x h. h) 4 _ tiny.ensures.spare in
     let t_begins : tiny_view tiny.result ≡ start.t = λ t. record { items = tiny.ensures.items t; spare = tiny_spare t; place = is_in_array _ 4 tiny.ensures.place tiny.ensures.capacity t } in
     let text = c.new-3 in
     let x_begins : text.result ≡ start.x = λ t. record { bytes = text.ensures.bytes t; place = is_in_array _ 4 text.ensures.place text.ensures.capacity t } in
-    let state : State = record { a = array; s = view c.from_slice_len.result; t = tiny_view tiny.result; x = text.result } in
+    let state : State = record { a = array; s = slice_view c.from_slice_len.result; t = tiny_view tiny.result; x = text.result } in
     let begins : state ≡ start = λ t. record { a = a_begins t; s = s_begins t; t = t_begins t; x = x_begins t } in
     record {
       so_far = ([], [], Consumes-nil _, Appends-nil _, rw (begins, c.new-line.ensures) feeds_nothing, le_refl 0);

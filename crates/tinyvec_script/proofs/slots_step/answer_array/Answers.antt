@@ -1,7 +1,7 @@
 use Rattle.std.proofs.Common.{refl, subst, ◌<◌, ◌≤◌, ◌++◌, length, ap, ◌∙◌, arith, rules, length-append}
 use Rattle.std.proofs.lemmas.Grind.{common_steps}
 use Rattle.std.specs.declared.ops.Bound.TheVariants.{Included, Excluded}
-use Rattle.tinyvec_slots.specs.Slots.{items, spare, items_len, all_slots, SlotRule}
+use Rattle.tinyvec_slots.specs.Slots.{items_in, spare_in, len_in, all_slots, SlotRule}
 use Rattle.tinyvec_slots.specs.Ranges.{removed}
 use Rattle.tinyvec_script.specs.Driving.{ListSplices, DrivenSplices}
 use Rattle.tinyvec_script.specs.Step.{ArrayStep}
@@ -17,26 +17,26 @@ use Rattle.tinyvec_script.proofs.slots_step.answer_array.Goals as goal
 pub returns-in-Push-clause-step : goal.returns-in-Push-clause-step
 returns-in-Push-clause-step g c =
     let old = view_of g.S.Slots c.args.vec.now in
-    let some : 0 < length (spare old) = search rules in
-    let whole = ap length (slots_are old) ∙ length-append (items old) (spare old) in
+    let some : 0 < length (spare_in old) = search rules in
+    let whole = ap length (slots_are old) ∙ length-append (items_in old) (spare_in old) in
     let made = c.push.ensures in
     rw c.in-Push.is (omega (arith, some, whole), made.items, slots_pushed g.S.Item.Default.is_default old (view_of g.S.Slots c.push.new.self) c.in-Push.x made.items made.spare)
 
 pub returns-in-Insert-clause-step : goal.returns-in-Insert-clause-step
 returns-in-Insert-clause-step g c =
     let old = view_of g.S.Slots c.args.vec.now in
-    let some : 0 < length (spare old) = search rules in
-    let whole = ap length (slots_are old) ∙ length-append (items old) (spare old) in
+    let some : 0 < length (spare_in old) = search rules in
+    let whole = ap length (slots_are old) ∙ length-append (items_in old) (spare_in old) in
     let made = c.insert.ensures in
-    let in_list : c.in-Insert.i ≤ items_len old = omega (arith, c.len.ensures.value) in
+    let in_list : c.in-Insert.i ≤ len_in old = omega (arith, c.len.ensures.value) in
     rw c.in-Insert.is (in_list, omega (arith, some, whole), made.items, slots_inserted g.S.Item.Default.is_default old (view_of g.S.Slots c.insert.new.self) c.in-Insert.i c.in-Insert.x in_list made.items made.spare)
 
 pub returns-in-Remove-clause-step : goal.returns-in-Remove-clause-step
 returns-in-Remove-clause-step g c =
     let old = view_of g.S.Slots c.args.vec.now in
     let made = c.remove.ensures in
-    let in_list : c.in-Remove.i < items_len old = omega (arith, c.len-in-Remove.ensures.value) in
-    rw c.in-Remove.is (slice_get_read (items old) _ c.in-Remove.i _ refl in_list made.value, made.becomes.items, slots_removed g.S.Item.Default.is_default old (view_of g.S.Slots c.remove.new.self) c.in-Remove.i in_list made.becomes.items made.becomes.spare)
+    let in_list : c.in-Remove.i < len_in old = omega (arith, c.len-in-Remove.ensures.value) in
+    rw c.in-Remove.is (slice_get_read (items_in old) _ c.in-Remove.i _ refl in_list made.value, made.becomes.items, slots_removed g.S.Item.Default.is_default old (view_of g.S.Slots c.remove.new.self) c.in-Remove.i in_list made.becomes.items made.becomes.spare)
 
 pub returns-in-SwapRemove-clause-step : goal.returns-in-SwapRemove-clause-step
 returns-in-SwapRemove-clause-step g c =
@@ -52,8 +52,8 @@ returns-in-Drain-clause-step g c =
     let j = c.in-Drain.end in
     let left = c.drain_into.ensures in
     let in_order : i ≤ j = omega arith in
-    let in_list : j ≤ items_len old = omega arith in
-    let taken = left.moved ∙ ap (λ xs. xs ++ removed (items old) (Included i) (Excluded j)) c.in-Ok.ensures.items in
+    let in_list : j ≤ len_in old = omega arith in
+    let taken = left.moved ∙ ap (λ xs. xs ++ removed (items_in old) (Included i) (Excluded j)) c.in-Ok.ensures.items in
     let made = drains g.S.Item.Default.is_default (length (all_slots old)) old (view_of g.S.Slots c.drain_into.new.self) i j c.drain_into.new.out.items in_order in_list taken left.becomes.items left.becomes.spare in
     rw c.in-Drain.is ((in_order, in_list), made.0, made.1)
 
@@ -83,18 +83,18 @@ returns-in-Ok-drive_splice-clause-step g c =
     let word = c.in-Splice.word in
     let replacement = c.in-Splice.replacement in
     let in_order : start ≤ end = omega arith in
-    let in_list : end ≤ items_len old = omega arith in
+    let in_list : end ≤ len_in old = omega arith in
     let answered = c.answer_driven.ensures in
     let driven = c.in-Ok-drive_splice.driven in
     let made = rw c.as_slice.ensures.value at c.in-Ok-drive_splice.ensures.splices in
     let same = made.grown.lender.slot_count in
-    let did : DrivenSplices items (SlotRule D) capacity old start end word.items replacement.items driven.yields.items driven.rest.items new = record {
-      list = subst (λ n. ListSplices n (items old) start end word.items replacement.items driven.yields.items driven.rest.items (items new)) same made.list;
+    let did : DrivenSplices items_in (SlotRule D) capacity old start end word.items replacement.items driven.yields.items driven.rest.items new = record {
+      list = subst (λ n. ListSplices n (items_in old) start end word.items replacement.items driven.yields.items driven.rest.items (items_in new)) same made.list;
       grown = made.grown.slot_rule;
       no_shorter = λ over. made.no_shorter (omega (arith, same, over));
     } in
-    rw c.in-Splice.is (splice_answers capacity (items old) (items new) start end word.items replacement.items driven.yields driven.rest c.answer_driven.result
+    rw c.in-Splice.is (splice_answers capacity (items_in old) (items_in new) start end word.items replacement.items driven.yields driven.rest c.answer_driven.result
     in_order in_list answered.items answered.spliced did.list
-    (λ yields rest. DrivenSplices items (SlotRule D) capacity old start end word.items replacement.items yields rest new) did
+    (λ yields rest. DrivenSplices items_in (SlotRule D) capacity old start end word.items replacement.items yields rest new) did
     (λ answer. ArrayStep D capacity old (Splice start end word replacement) answer new)
     (λ fits all. ((in_order, in_list), (fits, all))) (λ over some. ((in_order, in_list), (over, some))))

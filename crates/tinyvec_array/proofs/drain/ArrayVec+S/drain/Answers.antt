@@ -1,7 +1,7 @@
 use Rattle.std.proofs.Common.{◌≡◌, ℕ, ◌-◌, ◌≤◌, ◌++◌, length, take, drop, slice_range, refl, sym, ap, subst, ◌∙◌, le_refl, zero-le, arith, rules, length-append}
 use Rattle.std.specs.List.{remove_range}
 use Rattle.tinyvec_slots.specs.Ranges.{range_end}
-use Rattle.tinyvec_slots.specs.Slots.{split_at, items, spare}
+use Rattle.tinyvec_slots.specs.Slots.{split_at, items_in, spare_in}
 use Rattle.tinyvec_slots.proofs.Lists.{first_part, second_part, second_part_within, third_part, length-remove_range, length-slice_range}
 use Rattle.tinyvec_slots.proofs.SlotsLemmas.{slots_are}
 use Rattle.tinyvec_array.specs.ArrayVec.{items_of, spare_of, view_of, slots_of}
@@ -50,13 +50,13 @@ returns g c =
     let moved = c.move_to_end.new.self in
     let after = view c.set_len.new.self in
     let cut : after ≡ split_at k (B ++ M ++ S) =
-    c.set_len.ensures.value ∙ ap (split_at k) (slots_are (view moved) ∙ ap (λ xs. xs ++ spare (view moved)) c.move_to_end.ensures.items
+    c.set_len.ensures.value ∙ ap (split_at k) (slots_are (view moved) ∙ ap (λ xs. xs ++ spare_in (view moved)) c.move_to_end.ensures.items
     ∙ ap (λ xs. B ++ M ++ xs) c.move_to_end.ensures.spare) in
-    let rest : slice_range (spare after) 0 n ≡ M =
-    ap (λ m. take m (spare after)) (minus_zero n) ∙ ap (λ v. take n (spare v)) cut ∙ second_part B M S k n long-B long-M in
-    let fits : n ≤ length (spare after) = subst (λ v. n ≤ length (spare v)) (sym cut) (second_part_within B M S k n long-B long-M) in
-    let kept : items after ≡ B = ap (λ v. items v) cut ∙ first_part B M S k n long-B long-M in
-    let behind : drop n (spare after) ≡ S = ap (λ v. drop n (spare v)) cut ∙ third_part B M S k n long-B long-M in
+    let rest : slice_range (spare_in after) 0 n ≡ M =
+    ap (λ m. take m (spare_in after)) (minus_zero n) ∙ ap (λ v. take n (spare_in v)) cut ∙ second_part B M S k n long-B long-M in
+    let fits : n ≤ length (spare_in after) = subst (λ v. n ≤ length (spare_in v)) (sym cut) (second_part_within B M S k n long-B long-M) in
+    let kept : items_in after ≡ B = ap (λ v. items_in v) cut ∙ first_part B M S k n long-B long-M in
+    let behind : drop n (spare_in after) ≡ S = ap (λ v. drop n (spare_in v)) cut ∙ third_part B M S k n long-B long-M in
     record {
       rest = rw (← start_is, ← end_is) rest;
       len = minus_zero n ∙ sym (ap length rest ∙ long-M);

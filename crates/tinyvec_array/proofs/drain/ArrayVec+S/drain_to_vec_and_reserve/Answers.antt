@@ -1,5 +1,5 @@
 use Rattle.std.proofs.Common.{◌≡◌, length, refl, ap, ◌∙◌, arith, rules, length-append}
-use Rattle.tinyvec_slots.specs.Slots.{items, spare}
+use Rattle.tinyvec_slots.specs.Slots.{items_in, spare_in}
 use Rattle.tinyvec_array.specs.ArrayVec.{items_of, spare_of}
 use Rattle.tinyvec_array.proofs.ViewLemmas.{slots_of-written, parts_of}
 use Rattle.tinyvec_array.proofs.drain.ArrayVec+S.drain_to_vec_and_reserve.Goals as goal
@@ -17,8 +17,8 @@ returns-clause-drained g c =
       exact = search rules;
       emptied = record {
         lender = record { same_reference = search rules; slot_count = omega (arith, c.set_len.ensures.lender.slot_count, count, parts_of g.S.Slots v, taken.0, long) };
-        items = ap items c.set_len.ensures.value;
-        spare = (left, (taken.0 ∙ long, taken.1), ap spare c.set_len.ensures.value ∙ written);
+        items = ap items_in c.set_len.ensures.value;
+        spare = (left, (taken.0 ∙ long, taken.1), ap spare_in c.set_len.ensures.value ∙ written);
       };
       refused = tt;
       succeeds_empty = λ none. refl;

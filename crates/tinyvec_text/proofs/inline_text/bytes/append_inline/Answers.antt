@@ -1,6 +1,6 @@
 use Rattle.std.proofs.Common.{◌≡◌, ◌+◌, ◌-◌, ◌≤◌, ◌++◌, length, take, drop, sym, ap, ◌∙◌, arith, rules, length-append, length-drop}
 use borrow.Rule.Slice.PartMut.{put_mid}
-use Rattle.tinyvec_slots.specs.Slots.{items as listed, spare as left}
+use Rattle.tinyvec_slots.specs.Slots.{items_in as listed, spare_in as left}
 use Rattle.tinyvec_array.specs.ArrayVec.{items, items_len, spare}
 use Rattle.tinyvec_array.proofs.Named.{array_slots}
 use Rattle.tinyvec_array.proofs.ViewLemmas.{slots_of-back, back_lender, SameLender-then, still_fits, parts_of}

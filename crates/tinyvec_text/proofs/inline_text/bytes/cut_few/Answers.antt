@@ -1,5 +1,5 @@
 use Rattle.std.proofs.Common.{◌≡◌, ◌++◌, All, length, drop, sym, ap, subst, ◌∙◌}
-use Rattle.tinyvec_slots.specs.Slots.{spare as left, items as listed}
+use Rattle.tinyvec_slots.specs.Slots.{spare_in as left, items_in as listed}
 use Rattle.tinyvec_array.specs.ArrayVec.{view}
 use Rattle.tinyvec_array.proofs.Named.{array_slots}
 use Rattle.tinyvec_array.proofs.ViewLemmas.{put_back, slots_of-back}

@@ -1,7 +1,7 @@
 use Rattle.std.proofs.Common.{◌≡◌, ◌-◌, ◌++◌, length, take, drop, sym, ap, ◌∙◌, arith, rules}
 use Rattle.std.proofs.Math.Seq.{take-add}
 use Rattle.std.proofs.lemmas.List.{drop-drop}
-use Rattle.tinyvec_slots.specs.Slots.{items as listed, spare as left}
+use Rattle.tinyvec_slots.specs.Slots.{items_in as listed, spare_in as left}
 use Rattle.tinyvec_slots.proofs.BorderLemmas.{list_to, spare_from}
 use Rattle.tinyvec_array.specs.ArrayVec.{items, items_len, spare}
 use Rattle.tinyvec_array.specs.CutLaws.{written_of}

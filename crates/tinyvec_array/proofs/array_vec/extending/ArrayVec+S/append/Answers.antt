@@ -1,5 +1,5 @@
 use Rattle.std.proofs.Common.{◌≡◌, length, ap, ◌∙◌, arith, rules, length-append}
-use Rattle.tinyvec_slots.specs.Slots.{spare}
+use Rattle.tinyvec_slots.specs.Slots.{spare_in}
 use Rattle.tinyvec_array.specs.ArrayVec.{items_of, spare_of}
 use Rattle.tinyvec_array.proofs.ViewLemmas.{slots_of-written, parts_of}
 use Rattle.tinyvec_array.proofs.array_vec.extending.ArrayVec+S.append.Goals as goal
@@ -15,5 +15,5 @@ returns-clause-emptied g c =
     record {
       lender = record { same_reference = search rules; slot_count = omega (arith, c.set_len.ensures.lender.slot_count, count, parts_of g.S.Slots other, made.0, long) };
       items = search rules;
-      spare = (left, (made.0 ∙ long, made.1), ap (λ v. spare v) c.set_len.ensures.value ∙ written);
+      spare = (left, (made.0 ∙ long, made.1), ap (λ v. spare_in v) c.set_len.ensures.value ∙ written);
     }

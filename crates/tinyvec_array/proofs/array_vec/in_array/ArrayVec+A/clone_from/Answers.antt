@@ -1,5 +1,5 @@
 use Rattle.std.proofs.Common.{◌≡◌, ◌+◌, ◌-◌, ◌++◌, length, take, drop, min, refl, sym, ap, subst, ◌∙◌, arith, rules, take_at, drop_at, length-take}
-use Rattle.tinyvec_slots.specs.Slots.{SlotRule, Vacates, items, spare, items_len, split_at}
+use Rattle.tinyvec_slots.specs.Slots.{SlotRule, Vacates, items_in, spare_in, len_in, split_at}
 use Rattle.tinyvec_slots.specs.Clones.{AreClones, are_clones}
 use Rattle.tinyvec_slots.proofs.BorderLemmas.{list_to, spare_from}
 use Rattle.tinyvec_slots.proofs.CloneLemmas.{on_err}
@@ -26,7 +26,7 @@ returns-in_err-clone_over_from-clause-refused g c =
     let written = rw c.as_slice_mut.ensures.value at over.written ∙ ap (λ m. over.made ++ drop m slots) from_start in
     let as_long : length xs ≡ length slots = c.clone_over_from.auto.slots ∙ ap length c.as_slice_mut.ensures.value in
     let now_is : kept ≡ length (take k xs) = length-take k slots ∙ ap (λ m. min k m) (sym as_long) ∙ sym (length-take k xs) in
-    let frees : Vacates D (items_len old - n) old cut = (c.truncate.ensures.spare.0, c.truncate.ensures.spare.1, spare_from k slots kept refl ∙ c.truncate.ensures.spare.2) in
+    let frees : Vacates D (len_in old - n) old cut = (c.truncate.ensures.spare.0, c.truncate.ensures.spare.1, spare_from k slots kept refl ∙ c.truncate.ensures.spare.2) in
     on_err c.from_residual.result (rw (g.A.Slots.slots_written, ← list_to k xs kept now_is, ← spare_from k xs kept now_is, ← c.as_slice.ensures)
     (clones_in_part D g.A.Item.Clone.is_infallible g.A.Item.Clone.is_clone old cut cut source n
     refl long (omega (arith, length-take k slots)) (list_to k slots kept refl ∙ c.truncate.ensures.items) frees h.0 over.made xs h.1 over.clones written))
@@ -48,13 +48,13 @@ returns g c =
     let count = over.count ∙ sym long in
     let from_start : 0 + length source ≡ length source = omega arith in
     let written = rw c.as_slice_mut.ensures.value at over.written ∙ ap (λ m. over.made ++ drop m slots) from_start in
-    let listed : items new ≡ over.made = ap (take n) written ∙ take_at over.made (drop (length source) slots) n count in
-    let behind : spare new ≡ drop (length source) slots = ap (drop n) written ∙ drop_at over.made (drop (length source) slots) n count in
-    let frees : Vacates D (items_len old - n) old cut = (c.truncate.ensures.spare.0, c.truncate.ensures.spare.1, spare_from k slots kept refl ∙ c.truncate.ensures.spare.2) in
+    let listed : items_in new ≡ over.made = ap (take n) written ∙ take_at over.made (drop (length source) slots) n count in
+    let behind : spare_in new ≡ drop (length source) slots = ap (drop n) written ∙ drop_at over.made (drop (length source) slots) n count in
+    let frees : Vacates D (len_in old - n) old cut = (c.truncate.ensures.spare.0, c.truncate.ensures.spare.1, spare_from k slots kept refl ∙ c.truncate.ensures.spare.2) in
     let put : view_of g.A.Slots c.set_len.new.self ≡ new = c.set_len.ensures.value ∙ ap (split_at n) (g.A.Slots.slots_written left.slots c.clone_over_from.new.slots) in
     record {
       lender = search rules;
-      items = rw (← c.as_slice.ensures) (subst (λ l. AreClones g.A.Item.Clone.is_clone source l) (sym (ap items put ∙ listed)) (are_clones g.A.Item.Clone.is_clone source over.made over.clones));
+      items = rw (← c.as_slice.ensures) (subst (λ l. AreClones g.A.Item.Clone.is_clone source l) (sym (ap items_in put ∙ listed)) (are_clones g.A.Item.Clone.is_clone source over.made over.clones));
       slot_rule = subst (λ v. SlotRule D old v) (sym put) (all_cloned D g.A.Item.Clone.is_infallible g.A.Item.Clone.is_clone old cut cut source n
           refl long (omega (arith, length-take k slots)) (list_to k slots kept refl ∙ c.truncate.ensures.items) frees new (ap length listed ∙ over.count) behind);
       refused = tt;

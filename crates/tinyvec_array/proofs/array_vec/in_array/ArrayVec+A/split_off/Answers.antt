@@ -1,7 +1,7 @@
 use Rattle.std.proofs.Common.{◌≡◌, ◌+◌, ◌-◌, ◌≤◌, ◌++◌, length, take, drop, sym, ap, ◌∙◌, arith, rules, append_assoc, take_at, drop_at, length-append, length-drop, length-take-le}
 use Rattle.std.proofs.lemmas.List.{take-take}
 use Rattle.std.proofs.lemmas.List.Elements.{All-drop}
-use Rattle.tinyvec_slots.specs.Slots.{items, spare}
+use Rattle.tinyvec_slots.specs.Slots.{items_in, spare_in}
 use Rattle.tinyvec_slots.proofs.BorderLemmas.{list_to, spare_from}
 use Rattle.std.proofs.lemmas.Slice.{between_is}
 use Rattle.tinyvec_array.specs.SliceParts.{with_part, with_part-as_long}
@@ -59,8 +59,8 @@ returns-clause-becomes g c =
     let first : take m slots ≡ take m L = sym (take-take m n slots within) ∙ ap (take m) (list_to k slots n long) in
     record {
       lender = record { same_reference = search rules; slot_count = omega (arith, c.set_len.ensures.lender.slot_count, count, behind, front, moved, made.0, long, within, parts_of g.A.Slots v) };
-      items = ap items c.set_len.ensures.value ∙ ap (take m) whole ∙ take_at (take m slots) tail m front ∙ first;
-      spare = (left, (made.0 ∙ moved, made.1), ap spare c.set_len.ensures.value ∙ ap (drop m) whole ∙ drop_at (take m slots) tail m front ∙ ap (λ l. left ++ l) (spare_from k slots n long));
+      items = ap items_in c.set_len.ensures.value ∙ ap (take m) whole ∙ take_at (take m slots) tail m front ∙ first;
+      spare = (left, (made.0 ∙ moved, made.1), ap spare_in c.set_len.ensures.value ∙ ap (drop m) whole ∙ drop_at (take m slots) tail m front ∙ ap (λ l. left ++ l) (spare_from k slots n long));
     }
 
 pub returns-clause-tail : goal.returns-clause-tail

@@ -1,4 +1,4 @@
-//! How slots are read and moved.
+//! How slots are indexed, and whether items move one by one.
 ghost use Rattle.std.specs.Prelude.{◌≡◌, ◌<◌, ◌≤◌, length};
 ghost use Rattle.tinyvec_slots.specs.Ranges.{Within};
 
