@@ -61,7 +61,7 @@ returns-in_err-extend_from_slice_copy-clause-refused c =
     let place = tiny_capacity c.loop-end.line in
     let room = tiny_capacity output - tiny_len output in
     let made = c.in_err-extend_from_slice_copy.ensures.room in
-    let held : length line ≤ place = omega (arith, made.keeps.fits, ap length made.refused.items, made.refused.capacity 80) in
+    let held : length line ≤ place = omega (arith, made.keeps.fits, ap length made.refused.items, made.refused.capacity) in
     on_err c.from_residual-in_err-extend_from_slice_copy.result (
       s.1 ++ [],
       _,
