@@ -2,7 +2,7 @@
 ghost use Rattle.std.specs.Prelude.{◌≡◌, ◌≢◌, ◌+◌, ◌<◌, ◌≤◌, ◌↔◌, ◌++◌, length, drop, ◌==◌, All, IsTrue, OnOk, IfOk, IsOk, OnErr, Some, None, Err};
 ghost use Rattle.std.specs.List.{flat_map};
 ghost use Rattle.std.specs.Option.{option_copied};
-ghost use Rattle.tinyvec_array.specs.SliceVec.{slice_spare, slice_name};
+ghost use Rattle.tinyvec_array.specs.SliceVec.{slice_spare};
 ghost use Rattle.tinyvec_array.specs.Appends.{Appends};
 ghost use Rattle.example_dns_query.specs.Message.{two_bytes, header, type_and_class, query};
 ghost use Rattle.example_dns_query.specs.Name.{IsPrinted, IsLabel, IsName, SpellsOnly, body_of as body_in, labels_in, labels_of, first_fault, label_wire, name_wire};

@@ -10,20 +10,20 @@ use Rattle.tinyvec_array.specs.CutLaws.{CutOf}
 use Rattle.tinyvec_examples.proofs.words.Shown.{D, over}
 
 module _ (v : ArrayVec (MutBor (List ℕ)) ℕ) (lent : v.slots.now ≡ 1 ∷ 2 ∷ 0 ∷ []) (len : v.len ≡ 2) where
-  pub example-view : slice_view v ≡ over (1 ∷ 2 ∷ []) (0 ∷ [])
-  example-view = rw (lent, len) refl
+  pub example-slice_view : slice_view v ≡ over (1 ∷ 2 ∷ []) (0 ∷ [])
+  example-slice_view = rw (lent, len) refl
 
-  pub example-items : slice_items v ≡ 1 ∷ 2 ∷ []
-  example-items = rw (lent, len) refl
+  pub example-slice_items : slice_items v ≡ 1 ∷ 2 ∷ []
+  example-slice_items = rw (lent, len) refl
 
-  pub example-spare : slice_spare v ≡ 0 ∷ []
-  example-spare = rw (lent, len) refl
+  pub example-slice_spare : slice_spare v ≡ 0 ∷ []
+  example-slice_spare = rw (lent, len) refl
 
-  pub example-slots : slice_slots v ≡ 1 ∷ 2 ∷ 0 ∷ []
-  example-slots = lent
+  pub example-slice_slots : slice_slots v ≡ 1 ∷ 2 ∷ 0 ∷ []
+  example-slice_slots = lent
 
-  pub example-name : slice_name v ≡ v.slots.ghost_name
-  example-name = refl
+  pub example-slice_name : slice_name v ≡ v.slots.ghost_name
+  example-slice_name = refl
 
 module _ {B L : Type 0} (g : Storage.Ghosts B ℕ L) (v : ArrayVec B L) (lent : g.slots v.slots ≡ 1 ∷ 2 ∷ 0 ∷ []) (len : g.count v.len ≡ 2) where
   pub example-view_of : view_of g v ≡ over (1 ∷ 2 ∷ []) (0 ∷ [])

@@ -8,14 +8,14 @@ use Rattle.tinyvec_examples.proofs.words.Shown.{D, nums, over}
 pub example-Slots : (over (1 ∷ 2 ∷ []) (0 ∷ [])).slots ≡ 1 ∷ 2 ∷ 0 ∷ []
 example-Slots = refl
 
-pub example-items : items_in (over (1 ∷ 2 ∷ []) (0 ∷ [])) ≡ 1 ∷ 2 ∷ []
-example-items = refl
+pub example-items_in : items_in (over (1 ∷ 2 ∷ []) (0 ∷ [])) ≡ 1 ∷ 2 ∷ []
+example-items_in = refl
 
-pub example-spare : spare_in (over (1 ∷ 2 ∷ []) (0 ∷ [])) ≡ 0 ∷ []
-example-spare = refl
+pub example-spare_in : spare_in (over (1 ∷ 2 ∷ []) (0 ∷ [])) ≡ 0 ∷ []
+example-spare_in = refl
 
-pub example-items_len : len_in (over (1 ∷ 2 ∷ []) (0 ∷ [])) ≡ 2
-example-items_len = refl
+pub example-len_in : len_in (over (1 ∷ 2 ∷ []) (0 ∷ [])) ≡ 2
+example-len_in = refl
 
 pub example-all_slots : all_slots (over (1 ∷ 2 ∷ []) (0 ∷ [])) ≡ 1 ∷ 2 ∷ 0 ∷ []
 example-all_slots = refl

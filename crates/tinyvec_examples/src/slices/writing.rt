@@ -3,7 +3,6 @@ ghost use Rattle.std.specs.Prelude.{◌≡◌, ◌≤◌, ◌↔◌, ◌++◌, l
 ghost use Rattle.std.specs.Bool.{OnTrue, OnFalse};
 ghost use Rattle.std.specs.Fmt.{decimal};
 ghost use Rattle.tinyvec_array.specs.ArrayVec.{items_of, spare_of, name_of};
-ghost use Rattle.tinyvec_array.specs.SliceVec.{slice_items, slice_spare};
 
 use std::fmt;
 use std::fmt::Write;
