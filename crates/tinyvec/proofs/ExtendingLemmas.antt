@@ -71,9 +71,9 @@ module _ {T X E : Type 0} (g : Clone.Ghosts T) (xs : List T) (r : Result X E) wh
     extended mid items stays granted made =
         let kept = spare_kept old mid new stays made.place in record {
           clones = all_or_none g.is_clone xs r old.items new.items
-              (on_ok_weaker r (subst (λ l. AppendsClones g.is_clone l new.items xs) items_in) made.items) (on_err_weaker r (λ h. h ∙ items_in) made.kept);
+              (on_ok_weaker r (subst (λ l. AppendsClones g.is_clone l new.items xs) items) made.items) (on_err_weaker r (λ h. h ∙ items) made.kept);
           room = on_ok_two r made.items made.spare (λ h spare. gets_granted _ _ old new granted (
-              used_up old new (length xs) (appends_len g.is_clone mid.items new.items xs h ∙ ap (λ l. length l + length xs) items_in) (λ i. spare ∙ ap (drop (length xs)) (kept i))));
+              used_up old new (length xs) (appends_len g.is_clone mid.items new.items xs h ∙ ap (λ l. length l + length xs) items) (λ i. spare ∙ ap (drop (length xs)) (kept i))));
           keeps = keeps_granted (view_inline old) (view_len old + length xs) old new granted made.fits;
           succeeds = λ _. made.succeeds;
           refused = on_err_weaker r (λ h. inr (granted.0, granted.2, (h.0, h.1, λ i. rw (kept i) at h.2 i))) made.refused;
@@ -88,7 +88,7 @@ module _ {T X E : Type 0} (g : Clone.Ghosts T) (xs : List T) (r : Result X E) wh
         → mid.items ≡ old.items → (ViewInline mid → mid ≡ old) → MakesRoom {E = F} (view_inline old) (view_len old + n) old mid (Ok y)
         → ClonesInRoom g xs mid new r → Extended old new
     extended_grown n mid y many items stays grown made =
-        extended mid items_in stays (granted_then (view_inline old) (view_len old + length xs) old new mid y made.place made.capacity (rw many at grown)) made
+        extended mid items stays (granted_then (view_inline old) (view_len old + length xs) old new mid y made.place made.capacity (rw many at grown)) made
 
   -- room for them was refused
   pub extended_refused : {Y F : Type 0} (old new : TinyView T) (n : ℕ) (e : F) → n ≡ length xs → IsErr r

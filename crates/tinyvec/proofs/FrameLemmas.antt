@@ -220,7 +220,7 @@ module _ {A T L E : Type 0} (g : Storage.Ghosts A T L) (D : T → Type 0) (slots
   pub took_heap : (v w : Vec T Global) → old ≡ Heap v → new ≡ Heap w → length v.items + 1 ≤ vec_capacity v → w.items ≡ put v.items → vec_capacity w ≡ vec_capacity v
       → Took g D slots (put (tiny_items_of g old)) old new E
   took_heap v w was is room items same =
-      rw (is, was) (items, λ i. absurd (false≢true i), had_room false D (length v.items + 1) (heap_view v) (heap_view w) tt room (heap_becomes D v w (put v.items) items_in same))
+      rw (is, was) (items, λ i. absurd (false≢true i), had_room false D (length v.items + 1) (heap_view v) (heap_view w) tt room (heap_becomes D v w (put v.items) items same))
 
   pub took_grown : {X F : Type 0} (mid : TinyVec A T L) (r : Result X F) → false ≡ is_err r → tiny_items_of g mid ≡ tiny_items_of g old
       → OnOk r (is_inline mid ≡ false) → (IsInline old → tiny_capacity_of g old ≡ slots) → MakesRoom false (tiny_len_of g old + 1) (tiny_view_of g old) (tiny_view_of g mid) r
