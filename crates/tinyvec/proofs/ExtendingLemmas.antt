@@ -8,7 +8,7 @@ use Rattle.std.proofs.lemmas.Bool.{false≢true}
 use Rattle.std.proofs.lemmas.List.{length-replicate, get_or-replicate, take-replicate}
 use Rattle.std.proofs.lemmas.List.Elements.{same_from_all_zip}
 use Rattle.std.proofs.lemmas.Result.{on_ok_weaker, on_err_weaker}
-use Rattle.tinyvec_slots.specs.Slots.{Slots, items_in}
+use Rattle.tinyvec_slots.specs.Slots.{Slots}
 use Rattle.tinyvec_slots.specs.Clones.{ClonesOver, AddsClones, AppendsAllOrNone}
 use Rattle.tinyvec_slots.proofs.CloneLemmas.{on_err}
 use Rattle.tinyvec.specs.View.{TinyView, view_len, view_inline, ViewInline, view_capacity}
