@@ -1,6 +1,6 @@
 //! Bytes of a list that are copied to the heap, or replaced by others, by moves of memory.
 ghost use Rattle.std.specs.Prelude.{◌≡◌, ◌+◌, ◌-◌, ◌*◌, ◌≤◌, ◌++◌, ◌∷◌, [], length, take, drop, false, is_ok, if◌then◌else◌, IsOk, IfOk, OnErr, vec_len, vec_capacity, All};
-ghost use Rattle.tinyvec_slots.specs.Slots.{AddsBytes, SlotRule};
+ghost use Rattle.tinyvec_slots.specs.Slots.{SlotRule};
 ghost use Rattle.tinyvec_array.specs.ArrayVec.{items, items_len, all_slots, spare, view};
 ghost use Rattle.tinyvec.specs.TinyVec.{tiny_items, tiny_len, tiny_spare, tiny_capacity, is_inline, IsInline, tiny_view};
 ghost use Rattle.tinyvec_text.specs.InlineText.{AddsBytes};
