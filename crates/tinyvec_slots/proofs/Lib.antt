@@ -2,7 +2,7 @@ pub mod Lists
 pub mod SlotsLemmas
 pub mod BorderLemmas
 pub mod EndsLemmas
-pub mod AnyDrainLemmas
+pub mod DrainLemmas
 mod EmptiedLemmas
 mod LastStateLemmas
 pub mod FiltersLemmas

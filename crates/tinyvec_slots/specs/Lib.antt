@@ -1,7 +1,7 @@
 pub mod Slots
 pub mod Ranges
 pub mod Ends
-pub mod AnyDrain
+pub mod Drain
 pub mod Filters
 pub mod Extracting
 pub mod Clones

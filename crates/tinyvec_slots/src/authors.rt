@@ -1,7 +1,9 @@
 //! What those who write vectors use: both vectors in slots and the `TinyVec` go through it.
 
 pub use crate::can_cut::CanCut;
+pub use crate::can_drain::CanDrain;
 pub use crate::can_splice::CanSplice;
+pub use crate::drain::drain_held;
 pub use crate::extracting::extract_if;
 pub use crate::filtering::{dedup_by, dedup_by_key, pop_if, retain, retain_mut};
 pub use crate::gap::Gap;

@@ -3,8 +3,10 @@
 
 pub mod authors;
 mod can_cut;
+mod can_drain;
 mod can_splice;
 mod capacity_error;
+mod drain;
 mod extracting;
 mod filtering;
 mod gap;
@@ -18,6 +20,7 @@ mod touches;
 mod tuned;
 
 pub use capacity_error::CapacityError;
+pub use drain::Drain;
 pub use extracting::ExtractIf;
 pub use no_memory::NoMemory;
 pub use no_room::{FromIterRest, NoRoom, SpliceRest};

@@ -1,0 +1,49 @@
+//! The trait `CanDrain`.
+ghost use Rattle.std.specs.Prelude.{◌≡◌, ◌<◌, ◌+◌, ℕ, List, length, slice_index_or, slice_set};
+ghost use Rattle.std.specs.List.{remove_range};
+
+/// A list that a drain moves a range of items out of.
+pub trait CanDrain {
+    /// What the list holds.
+    type Item: Default + Drop;
+
+    // What the items of the range lie in until they are taken: the list, or spare slots.
+    ghost held: { Self → List Self.Item };
+
+    // What it leaves of all else when one of them is taken.
+    ghost Kept: { Self → Self → Type 0 };
+
+    // What the end of a drain leaves, whose range begins at the first number and has as many items as the second.
+    ghost Ended: { ℕ → ℕ → Self → Self → Type 0 };
+
+    // What `Debug` calls a drain.
+    ghost drain_word: { List ℕ };
+
+    /// What `Debug` calls a drain.
+    fn drain_name() -> &'static str
+        ensures { result.now ≡ drain_word };
+
+    /// What the items of the range lie in.
+    fn as_held(&self) -> &[Self::Item]
+        ensures { result.now ≡ held self.now };
+
+    /// Takes the item at `i` there, and leaves a default.
+    fn take_held(&mut self, i: usize) -> Self::Item
+        requires { i < length (held self.old) }
+        ensures value { result ≡ slice_index_or (held self.old) i result }
+        ensures after { (d : Self.Item) × Self.Item.is_default d × (held self.new ≡ slice_set (held self.old) i d) }
+        ensures kept { Kept self.old self.new };
+
+    /// Ends a drain of the `gap` items from `start` on.
+    fn end_drain(&mut self, start: usize, gap: usize)
+        ensures { Ended start gap self.old self.new };
+
+    ghost kept_same: { (v : Self) → Kept v v };
+
+    ghost kept_then: { (u v w : Self) → Kept u v → Kept v w → Kept u w };
+
+    // The end reads no more of the vector than what takes leave.
+    ghost kept_ended: { (start gap : ℕ) (u v w : Self) → Kept u v → length (held v) ≡ length (held u)
+        → remove_range (held v) start (start + gap) ≡ remove_range (held u) start (start + gap)
+        → Ended start gap v w → Ended start gap u w };
+}
