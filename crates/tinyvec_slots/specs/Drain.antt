@@ -47,15 +47,18 @@ module _ {V T : Type 0} (g : CanDrain.Ghosts V T) where
 
   -- `next` took old to new, and returned the first item
   abbrev pub DrainSteps : Drain V T → Option T → Drain V T → Type 0
-  DrainSteps old item new = MatchOption item ((drain_items old ≡ []) × (new ≡ old)) (λ x. drain_items old ≡ x ∷ drain_items new) × DrainKeeps old new
+  DrainSteps old item new =
+      MatchOption item ((drain_items old ≡ []) × (new ≡ old)) (λ x. drain_items old ≡ x ∷ drain_items new) × DrainKeeps old new
 
   -- `next_back` took old to new, and returned the last item
   abbrev pub DrainStepsBack : Drain V T → Option T → Drain V T → Type 0
-  DrainStepsBack old item new = MatchOption item ((drain_items old ≡ []) × (new ≡ old)) (λ x. drain_items old ≡ drain_items new ++ x ∷ []) × DrainKeeps old new
+  DrainStepsBack old item new =
+      MatchOption item ((drain_items old ≡ []) × (new ≡ old)) (λ x. drain_items old ≡ drain_items new ++ x ∷ []) × DrainKeeps old new
 
   -- any calls of `next` and `next_back` take from the two ends of the remaining items
   abbrev pub DrainsFromEnds : Drain V T → Type 0
-  DrainsFromEnds d = (word : List End) (answers : List (Option T)) (later : Drain V T) → RunsWord DrainSteps DrainStepsBack d word answers later
+  DrainsFromEnds d =
+      (word : List End) (answers : List (Option T)) (later : Drain V T) → RunsWord DrainSteps DrainStepsBack d word answers later
       → TakesFromEnds (drain_items d) word answers (drain_items later) × DrainKeeps d later
 
   -- d yields xs in order, which lie among `others` in the vector that v refers to. Once it is dropped, `After` holds of that.
