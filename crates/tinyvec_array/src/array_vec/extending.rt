@@ -14,7 +14,7 @@ use std::mem;
 use std::ops::RangeBounds;
 use tinyvec_slots::authors::resolve_range;
 
-// What writes clones by blocks, or one by one, as the slots want it.
+// What writes clones, by blocks as the slots want them.
 impl<S: TakesClones> ArrayVec<S> {
     /// Appends clones of the slice's items. Only clones allocate.
     pub fn extend_from_slice(&mut self, other: &[S::Item]) -> Result<(), AllocError>

@@ -1,4 +1,4 @@
-use Rattle.std.proofs.Common.{arith, ◌+◌}
+use Rattle.std.proofs.Common.{◌+◌, length, ap, arith}
 use Rattle.std.proofs.lemmas.List.{take-set-le}
 use Rattle.tinyvec_slots.proofs.BorderLemmas.{border, spare-set}
 use Rattle.tinyvec_array.proofs.ViewLemmas.{parts_of}
@@ -6,6 +6,13 @@ use Rattle.tinyvec_array.proofs.array_vec.ArrayVec+S.take_spare.Goals as goal
 
 pub bounded_index-requires-2 : goal.bounded_index-requires-2
 bounded_index-requires-2 g c = omega (arith, parts_of g.S.Slots c.args.self.now)
+
+pub overflow_add-at : goal.overflow_add-at
+overflow_add-at g c = omega (arith, parts_of g.S.Slots c.args.self.now, c.bounded_index.ensures, c.bounded_index-2.ensures)
+
+pub bounds-as_slice_mut-at : goal.bounds-as_slice_mut-at
+bounds-as_slice_mut-at g c =
+    omega (arith, parts_of g.S.Slots c.args.self.now, c.bounded_index.ensures, c.bounded_index-2.ensures, ap length c.as_slice_mut.ensures.value)
 
 pub returns-clause-items : goal.returns-clause-items
 returns-clause-items g c =

@@ -1,6 +1,7 @@
-use Rattle.std.proofs.Common.{rules, arith}
+use Rattle.std.proofs.Common.{length, ap, rules, arith}
 use Rattle.std.proofs.lemmas.Grind.{common_steps}
 use Rattle.tinyvec_slots.proofs.BorderLemmas.{drop-pushed}
+use Rattle.tinyvec_array.proofs.ViewLemmas.{parts_of}
 use Rattle.tinyvec_array.proofs.array_vec.edits.ArrayVec+S.push.Goals as goal
 
 pub returns : goal.returns
@@ -11,3 +12,9 @@ returns g c =
       items = grind (arith, common_steps);
       spare = rw (g.S.Slots.slots_written, c.to_len.ensures.number, c.bounded_index-at.ensures, c.as_slice_mut.ensures.value) (drop-pushed (g.S.Slots.count v.len) (g.S.Slots.slots v.slots) c.len-len.result c.len-len.ensures.value c.args.value);
     }
+
+pub overflow_add-len : goal.overflow_add-len
+overflow_add-len g c = omega (arith, parts_of g.S.Slots c.args.self.now)
+
+pub bounds-as_slice_mut-at : goal.bounds-as_slice_mut-at
+bounds-as_slice_mut-at g c = omega (arith, parts_of g.S.Slots c.args.self.now, c.bounded_index-at.ensures, ap length c.as_slice_mut.ensures.value)

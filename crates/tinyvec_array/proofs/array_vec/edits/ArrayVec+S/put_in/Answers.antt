@@ -17,6 +17,12 @@ insert_shifting-requires-clause-room g c = omega (arith, parts_of g.S.Slots c.ar
 pub to_len-requires : goal.to_len-requires
 to_len-requires g c = omega (arith, parts_of g.S.Slots c.args.self.now)
 
+pub overflow_add-len : goal.overflow_add-len
+overflow_add-len g c = omega (arith, parts_of g.S.Slots c.args.self.now)
+
+pub bounds-slots-len : goal.bounds-slots-len
+bounds-slots-len g c = omega (arith, parts_of g.S.Slots c.args.self.now, ap length c.as_slice_mut-slots.ensures.value)
+
 pub last_to-requires-clause-in_bounds : goal.last_to-requires-clause-in_bounds
 last_to-requires-clause-in_bounds g c =
     let xs = c.as_slice_mut-slots.result.now in

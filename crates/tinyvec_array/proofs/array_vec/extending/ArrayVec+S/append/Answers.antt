@@ -1,5 +1,6 @@
-use Rattle.std.proofs.Common.{◌≡◌, length, ap, ◌∙◌, arith, rules, length-append}
-use Rattle.tinyvec_slots.specs.Slots.{spare_in}
+use Rattle.std.proofs.Common.{◌≡◌, length, ap, ◌∙◌, arith, length-append}
+use Rattle.tinyvec_slots.specs.Slots.{items_in, spare_in}
+use Rattle.tinyvec_array.specs.SliceParts.{with_front}
 use Rattle.tinyvec_array.specs.ArrayVec.{items_of, spare_of}
 use Rattle.tinyvec_array.proofs.ViewLemmas.{slots_of-written, parts_of}
 use Rattle.tinyvec_array.proofs.array_vec.extending.ArrayVec+S.append.Goals as goal
@@ -13,7 +14,7 @@ returns-clause-emptied g c =
     let written = slots_of-written g.S.Slots other left (made.0 ∙ long) in
     let count = ap length written ∙ length-append left (spare_of g.S.Slots other) in
     record {
-      lender = record { same_reference = search rules; slot_count = omega (arith, c.set_len.ensures.lender.slot_count, count, parts_of g.S.Slots other, made.0, long) };
-      items = search rules;
+      lender = record { same_reference = c.set_len.ensures.lender.same_reference ∙ g.S.Slots.name_kept other.slots (with_front (g.S.Slots.slots other.slots) (length (items_of g.S.Slots other)) left); slot_count = omega (arith, c.set_len.ensures.lender.slot_count, count, parts_of g.S.Slots other, made.0, long) };
+      items = ap (λ v. items_in v) c.set_len.ensures.value;
       spare = (left, (made.0 ∙ long, made.1), ap (λ v. spare_in v) c.set_len.ensures.value ∙ written);
     }
