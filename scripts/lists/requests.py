@@ -10,13 +10,13 @@ TABLE = exports.TOP / "tests/requests.txt"
 # The types of these hold no allocator, so only a call that is passed one may request memory.
 WITHOUT_ALLOCATOR = ("tinyvec_slots", "tinyvec_array")
 # But these hold a vector that may hold one.
-HOLDING = ("Splice",)
+HOLDING = ("Drain", "Splice")
 # The forms of numbers and lists are those of the traits.
 FORMS = ("BorshSerialize", "BorshDeserialize")
 # The types whose calls the rows of a kind show.
 SHOWN = {
     "streams": ("Counted", "BorshSerialize", "BorshError"),
-    "TinyVec": ("TinyVec", "TinyVecDrain", "Splice"),
+    "TinyVec": ("TinyVec", "Drain", "Splice"),
     "InlineText": ("InlineText", "InlineTextDrain"),
 }
 

@@ -6,7 +6,7 @@ from reading import exports
 TABLE = exports.TOP / "bench/calls.txt"
 BENCH = exports.TOP / "crates/tinyvec_bench"
 SHARED = {
-    *("tinyvec_slots", "CanCut", "CanSplice", "Gap", "OwnsItems", "ItemText", "Plain", "Array", "Slots", "TakesClones", "[T]"),
+    *("tinyvec_slots", "CanCut", "CanDrain", "CanSplice", "Gap", "OwnsItems", "ItemText", "Plain", "Array", "Slots", "TakesClones", "[T]"),
     *("[T; N]", "InBinary", "InOctal", "InHex", "InUpperHex", "AllocError", "Error", "AllocFailed", "NoMemory"),
 }
 # By type the beginnings that the names of its rows have at 64, and at 16,384.

@@ -1,5 +1,4 @@
 pub mod TinyLemmas
-pub mod DrainLemmas
 pub mod CloneLemmas
 pub mod RefusedLemmas
 pub mod FillingLemmas

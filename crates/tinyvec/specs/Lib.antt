@@ -3,6 +3,7 @@ pub use Rattle.tinyvec_slots.specs.Slots
 pub use Rattle.tinyvec_slots.specs.Ranges
 pub use Rattle.tinyvec_slots.specs.Ends
 pub use Rattle.tinyvec_slots.specs.Filling
+pub use Rattle.tinyvec_slots.specs.Drain
 pub use Rattle.tinyvec_slots.specs.Filters
 pub use Rattle.tinyvec_slots.specs.Extracting
 pub use Rattle.tinyvec_slots.specs.Clones
@@ -18,11 +19,11 @@ pub use Rattle.tinyvec_array.specs.IntoIter
 pub mod View
 pub mod TinyVec
 pub mod Lends
-pub mod Drain
 pub mod Refused
 pub mod OnHeap
 pub mod Room
 pub mod IterMut
 pub mod FrameLaws
 pub mod SpliceLaws
+pub mod DrainLaws
 pub mod Following

@@ -1,31 +1,21 @@
 //! What moves a range of items out of a vector.
-ghost use Rattle.std.specs.Prelude.{◌≡◌, ◌++◌, length, codes, Some, IfSome, ◌≤◌, ◌+◌, vec_len, vec_capacity};
-ghost use Rattle.std.specs.Fmt.{debug_list, debug_variant};
-ghost use Rattle.std.specs.Iterator.{at_most, UpTo};
-ghost use Rattle.std.specs.Iterator.SizeHint.{IsWithinCount};
+ghost use Rattle.std.specs.Prelude.{◌≡◌, ◌++◌, length, codes, ◌≤◌, ◌+◌, vec_len, vec_capacity};
 ghost use Rattle.tinyvec_slots.specs.Ranges.{IsRangeOf, before, removed, after};
 ghost use Rattle.tinyvec.specs.TinyVec.{tiny_items_of, tiny_view_of};
 ghost use Rattle.tinyvec.specs.View.{Becomes};
 
 use crate::TinyVec;
-use std::fmt;
-use std::iter::FusedIterator;
 use std::ops::RangeBounds;
 use tinyvec_array::Array;
-use tinyvec_slots::authors::{close_gap, resolve_range, subslice, write_named};
+use tinyvec_slots::Drain;
+use tinyvec_slots::authors::{CanDrain, close_gap, drain_held, resolve_range};
 
 /// Yields the items of a range. When it is dropped, the list is what preceded and followed the range, in its place.
-pub struct TinyVecDrain<'a, A: Array> {
-    // The range is the `gap` items from `start` on. Those from `front` up to `back` remain.
-    vec: &'a mut TinyVec<A>,
-    start: usize,
-    gap: usize,
-    front: usize,
-    back: usize,
-}
+pub type TinyVecDrain<'a, A> = Drain<'a, TinyVec<A>>;
 
 impl<A: Array> TinyVec<A> {
-    ghost use Rattle.tinyvec.specs.Drain.{DrainBegins};
+    ghost use Rattle.tinyvec_slots.specs.Drain.{DrainBegins, drain_vec};
+    ghost use Rattle.tinyvec.specs.DrainLaws.{tiny_drain_of};
 
     /// Removes the range, and yields its items from both ends. The items after the range move down when the drain is
     /// dropped.
@@ -36,20 +26,17 @@ impl<A: Array> TinyVec<A> {
     pub fn drain<R: RangeBounds<usize>>(&mut self, range: R) -> TinyVecDrain<'_, A>
         requires not_exhausted { R.has_bounds range }
         requires in_list { IsRangeOf (tiny_items_of A.Slots self.old) (R.start_bound range) (R.end_bound range) }
-        ensures { DrainBegins A.Slots self.entry
+        ensures begins { DrainBegins (tiny_drain_of A.Slots A.Item.is_default) self.entry
             (removed (tiny_items_of A.Slots self.old) (R.start_bound range) (R.end_bound range))
             (before (tiny_items_of A.Slots self.old) (R.start_bound range)
             ++ after (tiny_items_of A.Slots self.old) (R.end_bound range))
-            result }
+            (λ v. Becomes A.Item.is_default (tiny_view_of A.Slots self.old) (tiny_view_of A.Slots v)
+            (before (tiny_items_of A.Slots self.old) (R.start_bound range)
+            ++ after (tiny_items_of A.Slots self.old) (R.end_bound range))) result }
+        ensures vec { drain_vec result ≡ self.old }
     {
         let part = resolve_range(range, self.len());
-        TinyVecDrain {
-            vec: self,
-            start: part.start,
-            gap: part.end - part.start,
-            front: part.start,
-            back: part.end,
-        }
+        drain_held(self, part.start, part.end)
     }
 
     /// Moves the items of the range to the end of `out`, which has room for them.
@@ -74,94 +61,45 @@ impl<A: Array> TinyVec<A> {
     }
 }
 
-impl<'a, A: Array> Drop for TinyVecDrain<'a, A> {
-    ghost use Rattle.tinyvec.specs.Drain.{DrainLeaves};
-
-    #[inline(always)]
-    fn drop(self)
-        ensures { DrainLeaves A.Slots A.Item.is_default self.entry self.exit.0.now }
-    {
-        let TinyVecDrain {
-            vec,
-            start,
-            gap,
-            front: _,
-            back: _,
-        } = self;
-        let kept = close_gap(vec.as_mut_slice(), start, gap);
-        vec.truncate(kept);
-    }
-}
-
-impl<'a, A: Array> Iterator for TinyVecDrain<'a, A> {
-    ghost use Rattle.tinyvec.specs.Drain.{drain_len, DrainCanStep, DrainSteps};
+// The items of a drain's range lie in the list until it ends.
+impl<A: Array> CanDrain for TinyVec<A> {
+    ghost use Rattle.tinyvec.specs.FrameLaws.{FrameOf};
+    ghost use Rattle.tinyvec.specs.SpliceLaws.{frame_refl, frame_then};
+    ghost use Rattle.tinyvec.specs.DrainLaws.{DrainEnded, frame_ended};
 
     type Item = A::Item;
 
-    ghost can_next = { DrainCanStep A.Slots };
+    ghost held = { tiny_items_of A.Slots };
 
-    ghost next_gives = { DrainSteps A.Slots };
+    ghost Kept = { FrameOf A.Slots };
 
-    ghost remaining = { λ d. at_most (drain_len d) };
+    ghost Ended = { DrainEnded A.Slots A.Item.is_default };
 
-    fn next(&mut self) -> Option<A::Item> {
-        let index = self.front;
-        if index >= self.back {
-            return None;
-        }
-        self.front = index + 1;
-        Some(self.vec.take_at(index))
+    ghost drain_word = { codes "TinyVecDrain" };
+
+    fn drain_name() -> &'static str {
+        "TinyVecDrain"
     }
 
-    /// Both bounds are the number of items that are left.
-    fn size_hint(&self) -> (usize, Option<usize>)
-        ensures lower { IsWithinCount result.0 (at_most (drain_len self.now)) }
-        ensures upper { IfSome result.1 (UpTo (at_most (drain_len self.now))) }
-        ensures exact { (result.0 ≡ drain_len self.now) × (result.1 ≡ Some (drain_len self.now)) }
-    {
-        let len = self.len();
-        (len, Some(len))
+    #[inline]
+    fn as_held(&self) -> &[A::Item] {
+        self.as_slice()
     }
-}
 
-impl<'a, A: Array> DoubleEndedIterator for TinyVecDrain<'a, A> {
-    ghost use Rattle.tinyvec.specs.Drain.{DrainCanStep, DrainStepsBack};
-
-    ghost can_next_back = { DrainCanStep A.Slots };
-
-    ghost next_back_gives = { DrainStepsBack A.Slots };
-
-    fn next_back(&mut self) -> Option<A::Item> {
-        if self.front >= self.back {
-            return None;
-        }
-        self.back -= 1;
-        Some(self.vec.take_at(self.back))
+    #[inline]
+    fn take_held(&mut self, i: usize) -> A::Item {
+        self.take_at(i)
     }
-}
 
-impl<'a, A: Array> ExactSizeIterator for TinyVecDrain<'a, A> {
-    fn len(&self) -> usize {
-        self.back.saturating_sub(self.front)
+    #[inline(always)]
+    fn end_drain(&mut self, start: usize, gap: usize) {
+        let kept = close_gap(self.as_mut_slice(), start, gap);
+        self.truncate(kept);
     }
-}
 
-impl<'a, A: Array> FusedIterator for TinyVecDrain<'a, A> {}
+    ghost kept_same = { frame_refl A.Slots };
 
-impl<'a, A: Array> fmt::Debug for TinyVecDrain<'a, A>
-where
-    A::Item: fmt::Debug,
-{
-    ghost use Rattle.tinyvec.specs.Drain.{drain_items};
+    ghost kept_then = { frame_then A.Slots };
 
-    ghost debug_output = { λ d. debug_variant (codes "TinyVecDrain") (debug_list A.Item.debug_output
-        (drain_items A.Slots d)) };
-
-    fn fmt<W: fmt::Write>(&self, f: &mut fmt::Formatter<W>) -> fmt::Result {
-        write_named(
-            f,
-            "TinyVecDrain",
-            subslice(self.vec.as_slice(), self.front, self.back),
-        )
-    }
+    ghost kept_ended = { frame_ended A.Slots A.Item.is_default };
 }

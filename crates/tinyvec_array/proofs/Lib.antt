@@ -1,8 +1,6 @@
 pub mod ViewLemmas
 pub mod InsertedLemmas
 pub mod AppendsLemmas
-pub mod DrainLemmas
-pub mod DrainEndLemmas
 pub mod Named
 pub mod IntoIterLemmas
 mod ResizingLemmas

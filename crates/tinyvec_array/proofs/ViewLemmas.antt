@@ -3,18 +3,19 @@ use Rattle.std.proofs.Common.{◌≡◌, ℕ, ◌+◌, ◌-◌, ◌<◌, ◌≤�
 use Rattle.std.proofs.Math.Seq.{take-set-lt}
 use Rattle.std.proofs.lemmas.List.{places}
 use Rattle.std.specs.Borrow.{MutBor}
-use Rattle.std.specs.List.{refill, length_refill}
+use Rattle.std.specs.List.{remove_range, refill, length_refill}
+use Rattle.tinyvec_slots.specs.Slots.{SlotRule}
 use Rattle.tinyvec_slots.specs.Filters.{Shortened}
 use Rattle.tinyvec_slots.proofs.BorderLemmas.{list_to, spare_from}
-use Rattle.tinyvec_slots.proofs.SlotsLemmas.{slots_used}
+use Rattle.tinyvec_slots.proofs.SlotsLemmas.{slots_used, slots_freed}
 use Rattle.tinyvec_slots.proofs.Lists.{length-remove_range, length-slice_range}
 use Rattle.tinyvec_array.specs.SliceParts.{with_front, with_back, with_front-as_long, with_back-as_long}
-use Rattle.tinyvec_array.specs.ArrayVec.{view_of, items_of, spare_of, slots_of, len_of, SameLender, VacatesOf, Grows, Shortens, Changes}
+use Rattle.tinyvec_array.specs.ArrayVec.{view_of, items_of, spare_of, slots_of, len_of, SameLender, Loses, Grows, Shortens, Changes}
 use Rattle.tinyvec_array.specs.SliceVec.{slice_items, slice_spare, slice_slots}
 use Rattle.tinyvec_array.specs.Lends.{at_slots, with_items_of}
 use Rattle.tinyvec_array.specs.CutLaws.{CutOf}
 use Rattle.tinyvec_array.specs.SpliceLaws.{cut_lender}
-pub use Rattle.tinyvec_array.specs.SpliceLaws.{parts_of, vacated_count}
+pub use Rattle.tinyvec_array.specs.SpliceLaws.{parts_of}
 use Rattle.tinyvec_array.specs.declared.slots.Slots as Storage
 use Rattle.tinyvec_array.specs.declared.array_vec.ArrayVec.{ArrayVec}
 
@@ -79,14 +80,13 @@ module _ {S T L : Type 0} (g : Storage.Ghosts S T L) where
     slot_count = second.slot_count ∙ first.slot_count;
   }
 
--- where the slots of a range were vacated, there are as many as before
-module _ {S T L : Type 0} (g : Storage.Ghosts S T L) (D : T → Type 0) (old new : ArrayVec S L) where
-  pub cut_count : (i j : ℕ) → i ≤ j → j ≤ length (items_of g old) → items_of g new ≡ take i (items_of g old) ++ drop j (items_of g old)
-      → VacatesOf g D (length (slice_range (items_of g old) i j)) old new → length (slots_of g new) ≡ length (slots_of g old)
-  cut_count i j le within listed h =
-      let left = ap length listed ∙ length-remove_range (items_of g old) i j le within in
-      let gone = length-slice_range (items_of g old) i j le within in
-      vacated_count g D old new (length (slice_range (items_of g old) i j)) (omega (arith, left, gone, le, within)) h
+-- a vector that lost a range keeps the slot rule
+pub cut_slots : {S T L : Type 0} (g : Storage.Ghosts S T L) (D : T → Type 0) (old new : ArrayVec S L) (i j : ℕ) → i ≤ j → j ≤ length (items_of g old)
+    → Loses g D (length (slice_range (items_of g old) i j)) old new (remove_range (items_of g old) i j) → SlotRule D (view_of g old) (view_of g new)
+cut_slots g D old new i j le within lost =
+    let left = ap length lost.items ∙ length-remove_range (items_of g old) i j le within in
+    let gone = length-slice_range (items_of g old) i j le within in
+    slots_freed D (view_of g old) (view_of g new) (length (slice_range (items_of g old) i j)) (omega (arith, left, gone, le, within)) lost.spare
 
 -- a call of `tinyvec_slots` that only removes items
 pub shortened : {S T L : Type 0} (g : Storage.Ghosts S T L) (D : T → Type 0) (old new : ArrayVec S L)

@@ -3,6 +3,7 @@ pub use Rattle.tinyvec_slots.specs.Slots
 pub use Rattle.tinyvec_slots.specs.Ranges
 pub use Rattle.tinyvec_slots.specs.Ends
 pub use Rattle.tinyvec_slots.specs.Filling
+pub use Rattle.tinyvec_slots.specs.Drain
 pub use Rattle.tinyvec_slots.specs.Filters
 pub use Rattle.tinyvec_slots.specs.Extracting
 pub use Rattle.tinyvec_slots.specs.Clones
@@ -19,10 +20,11 @@ pub mod SliceVec
 pub mod By
 pub mod Lends
 pub mod IterMut
-pub mod Drain
 pub mod IntoIter
 pub mod Making
 pub mod Appends
 pub mod CutLaws
+pub mod DrainLaws
+pub mod ToVec
 pub mod SpliceLaws
 pub mod UpTo

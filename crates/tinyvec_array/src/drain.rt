@@ -1,30 +1,18 @@
 //! What moves a range of items out of a vector.
-ghost use Rattle.std.specs.Prelude.{◌≡◌, ◌++◌, length, Some, IfSome, ◌≤◌, ◌+◌, ◌^◌, codes, IsErr, vec_len, vec_capacity};
-ghost use Rattle.std.specs.Fmt.{debug_list, debug_variant};
-ghost use Rattle.std.specs.Iterator.{at_most, UpTo};
-ghost use Rattle.std.specs.Iterator.SizeHint.{IsWithinCount};
-ghost use Rattle.tinyvec_slots.specs.Ranges.{IsRangeOf, before, removed, after};
+ghost use Rattle.std.specs.Prelude.{◌≡◌, ◌++◌, length, ◌≤◌, ◌+◌, ◌^◌, codes, IsErr, vec_len, vec_capacity};
 ghost use Rattle.std.specs.List.{FoldsTo};
-ghost use Rattle.tinyvec_array.specs.ArrayVec.{items_of, len_of, Loses};
+ghost use Rattle.tinyvec_slots.specs.Ranges.{IsRangeOf, before, removed, after};
+ghost use Rattle.tinyvec_array.specs.ArrayVec.{items_of, spare_of, len_of, SameLender, Loses};
+ghost use Rattle.tinyvec_array.specs.ToVec.{DrainsToVec};
 
 use crate::{ArrayVec, Slots};
 use std::alloc::{AllocError, Global};
-use std::fmt;
-use std::iter::FusedIterator;
 use std::ops::RangeBounds;
-use tinyvec_slots::authors::{resolve_range, subslice, take_all, write_named};
+use tinyvec_slots::Drain;
+use tinyvec_slots::authors::{CanDrain, drain_held, resolve_range, take_all};
 
 /// Yields the items of a range, which the list no longer has. When it is dropped, their slots hold defaults.
-pub struct ArrayVecDrain<'a, S: Slots>
-where
-    S::Item: Default,
-{
-    // The first `count` spare slots are the vacated ones. Those in `front..back` still hold items.
-    vec: &'a mut ArrayVec<S>,
-    count: usize,
-    front: usize,
-    back: usize,
-}
+pub type ArrayVecDrain<'a, S> = Drain<'a, ArrayVec<S>>;
 
 /// The drain of a vector in a lent slice.
 pub type SliceVecDrain<'p, 's, T> = ArrayVecDrain<'p, &'s mut [T]>;
@@ -33,7 +21,8 @@ impl<S: Slots> ArrayVec<S>
 where
     S::Item: Default,
 {
-    ghost use Rattle.tinyvec_array.specs.Drain.{DrainBegins};
+    ghost use Rattle.tinyvec_slots.specs.Drain.{DrainBegins, drain_vec};
+    ghost use Rattle.tinyvec_array.specs.DrainLaws.{drain_of};
 
     /// Removes the range, and yields its items from both ends. The items after the range move down at the call. A caller
     /// that names an array or is generic over `Slots` knows what the vector holds afterwards; one that names `SliceVec`
@@ -43,11 +32,17 @@ where
     pub fn drain<R: RangeBounds<usize>>(&mut self, range: R) -> ArrayVecDrain<'_, S>
         requires not_exhausted { R.has_bounds range }
         requires in_list { IsRangeOf (items_of S.Slots self.old) (R.start_bound range) (R.end_bound range) }
-        ensures { DrainBegins S.Slots self.entry
-            (removed (items_of S.Slots self.old) (R.start_bound range) (R.end_bound range))
+        ensures begins { DrainBegins (drain_of S.Slots S.Item.is_default) self.entry
+            (removed (items_of S.Slots self.old) (R.start_bound range) (R.end_bound range)) (spare_of S.Slots self.old)
+            (λ v. Loses S.Slots S.Item.is_default
+            (length (removed (items_of S.Slots self.old) (R.start_bound range) (R.end_bound range))) self.old v
             (before (items_of S.Slots self.old) (R.start_bound range)
-            ++ after (items_of S.Slots self.old) (R.end_bound range))
-            result }
+            ++ after (items_of S.Slots self.old) (R.end_bound range))) result }
+
+        // The list lost them at the call.
+        ensures lender { SameLender S.Slots self.old (drain_vec result) }
+        ensures items { items_of S.Slots (drain_vec result) ≡ before (items_of S.Slots self.old) (R.start_bound range)
+            ++ after (items_of S.Slots self.old) (R.end_bound range) }
     {
         let len = self.len();
         let part = resolve_range(range, len);
@@ -55,114 +50,51 @@ where
         let count = self.bounded(part.end - part.start);
         self.move_to_end(part.start, part.end);
         self.set_len(len - count);
-        ArrayVecDrain {
-            vec: self,
-            count,
-            front: 0,
-            back: count,
-        }
+        drain_held(self, 0, count)
     }
 }
 
-impl<'a, S: Slots> Drop for ArrayVecDrain<'a, S>
+// The items of a drain's range lie in the first spare slots.
+impl<S: Slots> CanDrain for ArrayVec<S>
 where
     S::Item: Default,
 {
-    ghost use Rattle.tinyvec_array.specs.Drain.{DrainCanStep, DrainLeaves};
-
-    fn drop(self)
-        ensures { DrainCanStep S.Slots self.entry → DrainLeaves S.Slots S.Item.is_default self.entry self.exit.0.now }
-    {
-        let ArrayVecDrain {
-            vec,
-            count,
-            front: _,
-            back: _,
-        } = self;
-        vec.fill_spare_default(count);
-    }
-}
-
-impl<'a, S: Slots> Iterator for ArrayVecDrain<'a, S>
-where
-    S::Item: Default,
-{
-    ghost use Rattle.tinyvec_array.specs.Drain.{drain_left, DrainCanStep, DrainSteps};
+    ghost use Rattle.tinyvec_array.specs.DrainLaws.{DrainKept, DrainEnded, drain_kept_same, drain_kept_then, drain_kept_ended};
 
     type Item = S::Item;
 
-    ghost can_next = { DrainCanStep S.Slots };
+    ghost held = { spare_of S.Slots };
 
-    ghost next_gives = { DrainSteps S.Slots };
+    ghost Kept = { DrainKept S.Slots };
 
-    ghost remaining = { λ d. at_most (drain_left d) };
+    ghost Ended = { DrainEnded S.Slots S.Item.is_default };
 
-    fn next(&mut self) -> Option<S::Item> {
-        let index = self.front;
-        if index >= self.back {
-            return None;
-        }
-        self.front = index + 1;
-        Some(self.vec.take_spare(index))
+    ghost drain_word = { codes "ArrayVecDrain" };
+
+    fn drain_name() -> &'static str {
+        "ArrayVecDrain"
     }
 
-    /// Both bounds are the number of items that are left.
-    fn size_hint(&self) -> (usize, Option<usize>)
-        ensures lower { IsWithinCount result.0 (at_most (drain_left self.now)) }
-        ensures upper { IfSome result.1 (UpTo (at_most (drain_left self.now))) }
-        ensures exact { (result.0 ≡ drain_left self.now) × (result.1 ≡ Some (drain_left self.now)) }
-    {
-        let len = self.len();
-        (len, Some(len))
+    #[inline]
+    fn as_held(&self) -> &[S::Item] {
+        self.grab_spare_slice()
     }
-}
 
-impl<'a, S: Slots> DoubleEndedIterator for ArrayVecDrain<'a, S>
-where
-    S::Item: Default,
-{
-    ghost use Rattle.tinyvec_array.specs.Drain.{DrainCanStep, DrainStepsBack};
-
-    ghost can_next_back = { DrainCanStep S.Slots };
-
-    ghost next_back_gives = { DrainStepsBack S.Slots };
-
-    fn next_back(&mut self) -> Option<S::Item> {
-        if self.front >= self.back {
-            return None;
-        }
-        self.back -= 1;
-        Some(self.vec.take_spare(self.back))
+    #[inline]
+    fn take_held(&mut self, i: usize) -> S::Item {
+        self.take_spare(i)
     }
-}
 
-impl<'a, S: Slots> ExactSizeIterator for ArrayVecDrain<'a, S>
-where
-    S::Item: Default,
-{
-    fn len(&self) -> usize {
-        self.back.saturating_sub(self.front)
+    #[inline]
+    fn end_drain(&mut self, _start: usize, gap: usize) {
+        self.fill_spare_default(gap);
     }
-}
 
-impl<'a, S: Slots> FusedIterator for ArrayVecDrain<'a, S>
-where
-    S::Item: Default,
-{}
+    ghost kept_same = { drain_kept_same S.Slots };
 
-impl<'a, S: Slots> fmt::Debug for ArrayVecDrain<'a, S>
-where
-    S::Item: Default + fmt::Debug,
-{
-    ghost use Rattle.tinyvec_array.specs.Drain.{drain_items};
+    ghost kept_then = { drain_kept_then S.Slots };
 
-    ghost debug_output = { λ d. debug_variant (codes "ArrayVecDrain")
-        (debug_list S.Item.debug_output (drain_items S.Slots d)) };
-
-    fn fmt<W: fmt::Write>(&self, f: &mut fmt::Formatter<W>) -> fmt::Result {
-        let vacated = self.vec.grab_spare_slice();
-        write_named(f, "ArrayVecDrain", subslice(vacated, self.front, self.back))
-    }
+    ghost kept_ended = { drain_kept_ended S.Slots S.Item.is_default };
 }
 
 // What moves the items out in one call, and returns no drain.
@@ -170,8 +102,6 @@ impl<S: Slots> ArrayVec<S>
 where
     S::Item: Default,
 {
-    ghost use Rattle.tinyvec_array.specs.Drain.{DrainsToVec};
-
     /// Removes the range, and calls `f` with each of its items, in order. A caller that names `SliceVec` knows what is
     /// left.
     ///

@@ -5,12 +5,11 @@ pub mod Ranges
 pub mod Iterators
 pub mod Splices
 pub mod ArrayVec
-pub mod ArrayDrain
 pub mod SliceVec
+pub mod Drain
 pub mod Extracting
 pub mod TinyVec
 pub mod Splice
-pub mod TinyDrain
 pub mod Lends
 pub mod InlineText
 pub mod Counted

@@ -1,10 +1,10 @@
 //! Rows of a vector over slots: of an `ArrayVec` and of a `SliceVec`.
 use crate::calls::{cut, filter, lend, ranged, say_extended, splice};
 use crate::held::{Copies, Writes, write_text};
-use crate::steps::{Steps, step_at_ends, stepped};
+use crate::steps::stepped;
 use crate::vector::Vector;
 use std::fmt::Debug;
-use tinyvec::{ArrayVec, ArrayVecDrain, Slots, TakesClones};
+use tinyvec::{ArrayVec, Slots, TakesClones};
 use tinyvec_rows::{Call, Item, Name, Out, Span, Step, Wrong, has_at_most, is_within};
 
 /// The slots of a vector that rows call.
@@ -184,19 +184,5 @@ impl<T: Item + Copy, S: Storage<Item = T>> Copies for ArrayVec<S> {
 impl<S: TakesClones<Item = u8>> Writes for ArrayVec<S> {
     fn write(&mut self, call: &Call<u8>, out: &mut Out) {
         write_text(self, call, out);
-    }
-}
-
-impl<'a, T: Item, S: Slots<Item = T>> Steps for ArrayVecDrain<'a, S> {
-    ghost use Rattle.tinyvec_array.specs.Drain.{DrainCanStep};
-
-    ghost Ready = { DrainCanStep S.Slots };
-
-    fn step(&mut self, step: Step, out: &mut Out) {
-        step_at_ends!(self, step, out,
-            Name::Debug => out.say(self),
-            Name::Hint => out.say_hint(self),
-            _ => out.fail(Wrong::Place),
-        )
     }
 }

@@ -3,8 +3,8 @@ use std::fmt::Write;
 use std::iter::Fuse;
 use std::vec;
 use tinyvec_rows::{Item, Name, Out, Step, Wrong};
-use tinyvec_slots::authors::{CanCut, CanSplice, OwnsItems};
-use tinyvec_slots::{ExtractIf, OwnedItems, Splice};
+use tinyvec_slots::authors::{CanCut, CanDrain, CanSplice, OwnsItems};
+use tinyvec_slots::{Drain, ExtractIf, OwnedItems, Splice};
 
 /// An iterator that rows step.
 pub trait Steps {
@@ -40,6 +40,23 @@ macro_rules! step_at_ends {
 }
 
 pub(crate) use step_at_ends;
+
+impl<'a, V: CanDrain> Steps for Drain<'a, V>
+where
+    V::Item: Item,
+{
+    ghost use Rattle.tinyvec_slots.specs.Drain.{DrainCanStep};
+
+    ghost Ready = { DrainCanStep V.CanDrain };
+
+    fn step(&mut self, step: Step, out: &mut Out) {
+        step_at_ends!(self, step, out,
+            Name::Debug => out.say(self),
+            Name::Hint => out.say_hint(self),
+            _ => out.fail(Wrong::Place),
+        )
+    }
+}
 
 impl<'a, V: CanCut, F: FnMut(&mut V::Item) -> bool> Steps for ExtractIf<'a, V, F>
 where

@@ -2,11 +2,11 @@
 use crate::array::{array_of, set, set_collected, set_made};
 use crate::calls::{cut, filter, lend, ranged, say_extended, splice};
 use crate::held::Copies;
-use crate::steps::{Steps, iterated, step_at_ends, stepped};
+use crate::steps::{iterated, stepped};
 use crate::vector::Vector;
 use std::fmt::Debug;
 use std::mem;
-use tinyvec::{Array, NoMemory, TinyVec, TinyVecDrain};
+use tinyvec::{Array, NoMemory, TinyVec};
 use tinyvec_rows::{Call, Counter, Item, Name, Out, Span, Step, Wrong, is_within};
 
 impl<T: Item, A: Array<Item = T>> Vector for TinyVec<A> {
@@ -224,21 +224,5 @@ impl<T: Item + Copy, A: Array<Item = T>> Copies for TinyVec<A> {
             return out.fail(Wrong::Place);
         }
         out.done(self.replace_range(range, items));
-    }
-}
-
-impl<'a, A: Array> Steps for TinyVecDrain<'a, A>
-where
-    A::Item: Item,
-{
-    ghost use Rattle.tinyvec.specs.Drain.{DrainCanStep};
-
-    ghost Ready = { DrainCanStep A.Slots };
-
-    fn step(&mut self, step: Step, out: &mut Out) {
-        step_at_ends!(self, step, out,
-            Name::Debug => out.say(self),
-            _ => out.fail(Wrong::Place),
-        )
     }
 }

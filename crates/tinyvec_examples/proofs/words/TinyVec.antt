@@ -8,7 +8,7 @@ use Rattle.tinyvec_array.proofs.Named.{array_slots}
 use Rattle.tinyvec.specs.declared.tiny_vec.TinyVec.{TinyVec}
 use Rattle.tinyvec.specs.declared.tiny_vec.TinyVec.TheVariants.{Inline}
 use Rattle.tinyvec.specs.TinyVec.{tiny_items, tiny_items_of, tiny_len_of, tiny_spare, tiny_spare_of, is_inline, IsInline, tiny_capacity, tiny_capacity_of, tiny_allocator, tiny_view, tiny_view_of}
-use Rattle.tinyvec.specs.View.{TinyView, view_capacity, HoldsInline, IsNew, SameFrame, Becomes, StaysInPlace, ShortensInPlace, IsTail, Unchanged, IsTinyClone, IsTinyInfallible, PlaceRule, TinySlotRule, in_array}
+use Rattle.tinyvec.specs.View.{TinyView, view_capacity, HoldsInline, IsNew, Becomes, StaysInPlace, ShortensInPlace, IsTail, Unchanged, IsTinyClone, IsTinyInfallible, PlaceRule, TinySlotRule, in_array}
 use Rattle.tinyvec.specs.Room.{IsCollected, KeepsRoom, GetsRoom, GrowsTo, GrowsByPushes, MadeFor, MakesRoom, MovesToHeap}
 use Rattle.tinyvec.specs.Refused.{RefusedFor, ClonesBehind, ClonesRefused}
 use Rattle.tinyvec.specs.Following.{PushesItems}
@@ -73,9 +73,6 @@ module _ (alloc : Global) where
 
   pub example-tiny_allocator : tiny_allocator (inline (1 ∷ 2 ∷ []) (0 ∷ 0 ∷ [])) ≡ alloc
   example-tiny_allocator = refl
-
-  pub example-SameFrame : SameFrame (tiny_view (inline (1 ∷ 2 ∷ []) (0 ∷ 0 ∷ []))) (tiny_view (inline (2 ∷ 1 ∷ []) (0 ∷ 0 ∷ [])))
-  example-SameFrame = search rules
 
   pub example-Becomes : Becomes D (tiny_view (inline (1 ∷ 2 ∷ []) (7 ∷ 8 ∷ []))) (tiny_view (inline (1 ∷ []) (0 ∷ 7 ∷ 8 ∷ []))) (1 ∷ [])
   example-Becomes = record {

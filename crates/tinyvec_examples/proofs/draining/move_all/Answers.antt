@@ -1,15 +1,16 @@
 use Rattle.std.proofs.Common.{◌++◌, ◌∷◌, [], length, sym, ap, ◌∙◌, arith, append_assoc, length-append}
 use Rattle.tinyvec_array.specs.ArrayVec.{items_of}
-use Rattle.tinyvec_array.specs.Drain.{drain_items}
+use Rattle.tinyvec_array.specs.DrainLaws.{drain_of, drain_kept_then}
+use Rattle.tinyvec_slots.specs.Drain.{drain_items}
 use Rattle.tinyvec_array.proofs.ViewLemmas.{parts_of, SameLender-then}
-use Rattle.tinyvec_array.proofs.DrainLemmas.{DrainKeeps-then}
+use Rattle.tinyvec_slots.proofs.DrainLemmas.{DrainKeeps-then}
 use Rattle.tinyvec_examples.proofs.draining.move_all.Goals as goal
 
 pub push-requires : goal.push-requires
 push-requires g c =
     let inv = c.loop-x.invariant in
     let to = items_of g.A.Slots c.loop-x.to in
-    let all = ap length inv.moved ∙ length-append to (drain_items g.A.Slots c.loop-x.x-iterator) in
+    let all = ap length inv.moved ∙ length-append to (drain_items (drain_of g.A.Slots g.A.Item.Default.is_default) c.loop-x.x-iterator) in
     let more = ap length c.in-Some.ensures.steps.0 in
     let from_slots = g.met.A.Array.counted _ c.len.ensures.slot_count in
     let to_slots = g.met.A.Array.counted _ c.len-2.ensures.slot_count in
@@ -20,10 +21,10 @@ loop-x-preserved g c =
     let inv = c.loop-x.invariant in
     let step = c.in-Some.ensures.steps in
     let to = items_of g.A.Slots c.loop-x.to in
-    let rest = drain_items g.A.Slots c.next.new.self in record {
+    let rest = drain_items (drain_of g.A.Slots g.A.Item.Default.is_default) c.next.new.self in record {
       can = step.1.ready inv.can;
       ends = tt;
-      keeps = DrainKeeps-then g.A.Slots c.into_iter-x-iterator.result c.loop-x.x-iterator c.next.new.self inv.keeps step.1;
+      keeps = DrainKeeps-then (drain_of g.A.Slots g.A.Item.Default.is_default) (drain_kept_then g.A.Slots) c.into_iter-x-iterator.result c.loop-x.x-iterator c.next.new.self inv.keeps step.1;
       moved = inv.moved ∙ ap (λ l. to ++ l) step.0 ∙ sym (append_assoc to (c.in-Some.x ∷ []) rest) ∙ ap (λ l. l ++ rest) (sym c.push.ensures.items);
       lender = SameLender-then g.A.Slots c.args.to.now c.loop-x.to c.push.new.self inv.lender c.push.ensures.lender;
     }

@@ -1,31 +1,23 @@
-use Rattle.std.proofs.Common.{◌≡◌, ◌+◌, ◌-◌, ◌≤◌, ◌++◌, length, take, drop, refl, sym, ap, ◌∙◌, le_refl, arith, rules}
-use Rattle.tinyvec_slots.specs.Ranges.{range_end}
-use Rattle.tinyvec_slots.proofs.Lists.{length-slice_range}
-use Rattle.tinyvec.proofs.TinyLemmas.{SameFrame-refl}
-use Rattle.tinyvec.proofs.DrainLemmas.{drain_runs, drain_runs_back, drains_from_ends}
+use Rattle.std.proofs.Common.{◌≡◌, ◌+◌, ◌-◌, ◌++◌, length, take, drop, slice_range, refl, ap, subst, ◌∙◌, arith, rules}
+use Rattle.tinyvec_slots.specs.Ranges.{range_end, before, removed, after}
+use Rattle.tinyvec_slots.proofs.DrainLemmas.{begins_as}
 use Rattle.tinyvec.specs.TinyVec.{tiny_items_of, tiny_view_of}
+use Rattle.tinyvec.specs.View.{Becomes}
 use Rattle.tinyvec.proofs.drain.TinyVec+A.drain.Goals as goal
 
-pub returns : goal.returns
-returns g c =
-    let xs = tiny_items_of g.A.Slots c.args.self.now in
+pub returns-clause-begins : goal.returns-clause-begins
+returns-clause-begins g c =
+    let v = c.args.self in
+    let xs = tiny_items_of g.A.Slots v.now in
     let part = c.resolve_range-part.result in
+    let from = g.R.RangeBounds.start_bound c.args.range in
+    let to = g.R.RangeBounds.end_bound c.args.range in
     let start = c.resolve_range-part.ensures.start in
-    let last = g.R.RangeBounds.end_bound c.args.range in
-    let end = c.resolve_range-part.ensures.end ∙ ap (range_end last) c.len.ensures.value in
-    let within = c.requires.in_list in
-    let all : part.start + (part.end - part.start) ≡ range_end last (length xs) = omega (arith, start, end, within.0) in
-    let order : part.start ≤ part.end = omega (arith, start, end, within.0) in
-    let ends : part.end ≤ length xs = omega (arith, end, within.1) in
-    let back : part.end ≤ part.start + (part.end - part.start) = omega arith in
-    let whole : part.start + (part.end - part.start) ≤ length xs = omega arith in record {
-      rest = search rules;
-      len = sym (length-slice_range xs part.start part.end order ends);
-      ready = (le_refl _, back, whole);
-      runs = drain_runs g.A.Slots;
-      runs_back = drain_runs_back g.A.Slots;
-      both_ends = drains_from_ends g.A.Slots _;
-      same_reference = refl;
-      kept = ap (λ k. take part.start xs ++ drop k xs) all ∙ ap (λ k. take k xs ++ drop (range_end last (length xs)) xs) start;
-      frame = SameFrame-refl (tiny_view_of g.A.Slots c.args.self.now);
-    }
+    let end = c.resolve_range-part.ensures.end ∙ ap (range_end to) c.len.ensures.value in
+    let all : part.start + (part.end - part.start) ≡ range_end to (length xs) = omega (arith, start, end, c.requires.in_list.0) in
+    let inside : slice_range xs part.start part.end ≡ removed xs from to = search rules in
+    let around : take part.start xs ++ drop part.end xs ≡ before xs from ++ after xs to = search rules in
+    let left : take part.start xs ++ drop (part.start + (part.end - part.start)) xs ≡ before xs from ++ after xs to =
+    ap (λ k. take part.start xs ++ drop k xs) all ∙ ap (λ k. take k xs ++ after xs to) start in
+    begins_as _ v v _ _ _ _ _ _ c.drain_held.result c.drain_held.ensures.begins refl inside around
+    (λ u. subst (Becomes g.A.Item.Default.is_default (tiny_view_of g.A.Slots v.now) (tiny_view_of g.A.Slots u)) left)

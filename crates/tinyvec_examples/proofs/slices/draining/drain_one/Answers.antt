@@ -1,18 +1,14 @@
-use Rattle.std.proofs.Common.{rules, ◌≡◌, ◌∙◌, ap, length}
+use Rattle.std.proofs.Common.{rules, ◌≡◌, length, slice_range, subst}
 use Rattle.std.proofs.lemmas.List.{places}
 use Rattle.tinyvec_slots.specs.Slots.{Vacates}
-use Rattle.tinyvec_array.specs.ArrayVec.{view_of}
-use Rattle.tinyvec_array.specs.Drain.{drain_count, DrainKeeps}
-use Rattle.tinyvec_array.proofs.DrainLemmas.{DrainSteps-keeps, drain_frees}
+use Rattle.tinyvec_array.specs.ArrayVec.{view_of, items_of}
 use Rattle.tinyvec_examples.proofs.slices.draining.drain_one.Goals as goal
 
 pub returns-clause-spare : goal.returns-clause-spare
 returns-clause-spare g c =
-    let first = c.drain-d.result in
-    let last = c.next.new.self in
-    let made = c.drain-d.ensures in
-    let kept : DrainKeeps g.B.Slots first last = DrainSteps-keeps g.B.Slots first c.next.result last c.next.ensures.steps in
-    let count : drain_count first ≡ 2 = made.count ∙ ap length made.rest ∙ search (rules, places) in
-    let frees : Vacates g.B.Item.Default.is_default 2 (view_of g.B.Slots c.args.v.now) (view_of g.B.Slots c.drop-d.new.self.0) =
-    drain_frees g.B.Slots g.B.Item.Default.is_default 2 c.args.v.now c.drop-d.new.self.0 first last kept count made.spare (c.drop-d.ensures (kept.ready made.ready)) in
+    let v = c.args.v.now in
+    let new = c.drop-d.new.self.0 in
+    let lost = c.drain-d.ensures.begins.leaves new (c.next.ensures.steps.1.leaves new c.drop-d.ensures) in
+    let two : length (slice_range (items_of g.B.Slots v) 1 3) ≡ 2 = search (rules, places) in
+    let frees = subst (λ n. Vacates g.B.Item.Default.is_default n (view_of g.B.Slots v) (view_of g.B.Slots new)) two lost.spare in
     search rules

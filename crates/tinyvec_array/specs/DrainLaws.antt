@@ -1,0 +1,44 @@
+-- The laws of `CanDrain` of a vector over slots, whose drain takes the items of its range out of the first spare slots.
+use Rattle.std.specs.Prelude.{codes}
+use Rattle.std.proofs.Common.{◌≡◌, ℕ, ◌+◌, ◌≤◌, List, ◌++◌, length, drop, refl, ap, ◌∙◌, arith}
+use Rattle.std.specs.List.{remove_range}
+use Rattle.tinyvec_slots.specs.Slots.{AreDefaults}
+use Rattle.tinyvec_slots.specs.declared.can_drain.CanDrain as CanDrain
+use Rattle.tinyvec_array.specs.ArrayVec.{items_of, spare_of, SameLender}
+use Rattle.tinyvec_array.specs.declared.slots.Slots as Storage
+use Rattle.tinyvec_array.specs.declared.array_vec.ArrayVec.{ArrayVec}
+
+module _ {S T L : Type 0} (g : Storage.Ghosts S T L) where
+  -- the same slots are lent, and the list is the same
+  abbrev pub DrainKept : ArrayVec S L → ArrayVec S L → Type 0
+  DrainKept old new = SameLender g old new × (items_of g new ≡ items_of g old)
+
+  pub drain_kept_same : (v : ArrayVec S L) → DrainKept v v
+  drain_kept_same v = (record { same_reference = refl; slot_count = refl }, refl)
+
+  pub drain_kept_then : (u v w : ArrayVec S L) → DrainKept u v → DrainKept v w → DrainKept u w
+  drain_kept_then u v w h k = (
+    record { same_reference = k.0.same_reference ∙ h.0.same_reference; slot_count = k.0.slot_count ∙ h.0.slot_count },
+    k.1 ∙ h.1,
+  )
+
+  module _ (D : T → Type 0) where
+    -- these slots, if they are the first, hold defaults before the other spare ones
+    abbrev pub DrainEnded : ℕ → ℕ → ArrayVec S L → ArrayVec S L → Type 0
+    DrainEnded start gap old new = start ≡ 0 → gap ≤ length (spare_of g old) → DrainKept old new
+        × ((ds : List T) × AreDefaults D gap ds × (spare_of g new ≡ ds ++ drop gap (spare_of g old)))
+
+    -- what `CanDrain` says of the vector
+    abbrev pub drain_of : CanDrain.Ghosts (ArrayVec S L) T
+    drain_of = record { held = spare_of g; Kept = DrainKept; Ended = DrainEnded; drain_word = codes "ArrayVecDrain" }
+
+    pub drain_kept_ended : (start gap : ℕ) (u v w : ArrayVec S L) → DrainKept u v → length (spare_of g v) ≡ length (spare_of g u)
+        → remove_range (spare_of g v) start (start + gap) ≡ remove_range (spare_of g u) start (start + gap)
+        → DrainEnded start gap v w → DrainEnded start gap u w
+    drain_kept_ended start gap u v w kept long others ended first fits =
+        let left = ended first (omega (arith, long, fits)) in
+        let all : 0 + gap ≡ gap = omega arith in
+        let behind : drop gap (spare_of g v) ≡ drop gap (spare_of g u) = rw (first, all) at others in (
+          drain_kept_then u v w kept left.0,
+          (left.1.0, left.1.1, left.1.2 ∙ ap (λ xs. left.1.0 ++ xs) behind),
+        )
