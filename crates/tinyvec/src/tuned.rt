@@ -2,7 +2,8 @@
 //!
 //! Each loop works on a local variable, whose length and pointer LLVM keeps in registers. Through a reference it cannot,
 //! since the items might overlap the vector.
-ghost use Rattle.std.specs.Prelude.{◌≡◌, ◌+◌, ◌-◌, ◌<◌, ◌≤◌, ◌++◌, ℕ, length, take, drop, slice_range, replicate, IfOk, OnErr, vec_len, vec_capacity};
+ghost use Rattle.std.specs.Prelude.{◌≡◌, ◌+◌, ◌-◌, ◌<◌, ◌≤◌, ◌++◌, ℕ, length, take, drop, slice_range, replicate, IfOk};
+ghost use Rattle.std.specs.Prelude.{OnErr, vec_len, vec_capacity};
 ghost use Rattle.std.specs.List.{AllZip, AppendsClones};
 ghost use Rattle.tinyvec_slots.specs.Clones.{RefusedAt};
 ghost use Rattle.tinyvec.specs.OnHeap.{HeapBecomes, PushesClones};
@@ -211,8 +212,8 @@ pub(crate) fn push_copies<T: Copy>(heap: &mut Vec<T>, from: &[T])
     push_few_copies(heap, from);
 }
 
-// `push_copies`, in blocks of N while N items are left, each of which LLVM moves by one `memcpy`. Not inlined, since a block is
-// on the stack.
+// `push_copies`, in blocks of N while N items are left, each of which LLVM moves by one `memcpy`. Not inlined, since a
+// block is on the stack.
 #[inline(never)]
 fn push_many_copies<T: Copy, const N: usize>(heap: &mut Vec<T>, from: &[T])
     requires some { 0 < N }

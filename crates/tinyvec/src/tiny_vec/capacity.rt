@@ -1,6 +1,8 @@
 //! Room on the heap, and moves between the array and the heap.
-ghost use Rattle.std.specs.Prelude.{◌≡◌, ◌+◌, ◌*◌, ◌<◌, ◌≤◌, length, max, min, true, false, OnOk, OnErr, vec_len, vec_capacity, ◌-◌, ◌↔◌, IsOk, IfOk, IfErr};
-ghost use Rattle.tinyvec.specs.TinyVec.{tiny_items_of, tiny_len_of, is_inline, tiny_capacity_of, tiny_spare_of, IsInline, tiny_view_of};
+ghost use Rattle.std.specs.Prelude.{◌≡◌, ◌+◌, ◌*◌, ◌<◌, ◌≤◌, length, max, min, true, false, OnOk, OnErr, vec_len};
+ghost use Rattle.std.specs.Prelude.{vec_capacity, ◌-◌, ◌↔◌, IsOk, IfOk, IfErr};
+ghost use Rattle.tinyvec.specs.TinyVec.{tiny_items_of, tiny_len_of, is_inline, tiny_capacity_of, tiny_spare_of, IsInline};
+ghost use Rattle.tinyvec.specs.TinyVec.{tiny_view_of};
 ghost use Rattle.tinyvec.specs.Room.{MakesRoom, MovesToHeap};
 ghost use Rattle.std.specs.Box.{boxed_slice_items};
 ghost use Rattle.tinyvec_slots.specs.Slots.{AreDefaults};
@@ -27,8 +29,8 @@ impl<A: Array> TinyVec<A> {
         self.grow(len.max(1))
     }
 
-    /// Reserves room for `additional` items more. An inline list whose array has no such room moves to the heap. If there is room
-    /// already, it allocates nothing.
+    /// Reserves room for `additional` items more. An inline list whose array has no such room moves to the heap. If
+    /// there is room already, it allocates nothing.
     #[inline(always)]
     pub fn reserve(&mut self, additional: usize) -> Result<(), AllocError>
         ensures items { tiny_items_of A.Slots self.new ≡ tiny_items_of A.Slots self.old }

@@ -1,5 +1,7 @@
 //! Items that are pushed, popped, inserted, removed and cut off.
-ghost use Rattle.std.specs.Prelude.{◌≡◌, ◌+◌, ◌-◌, ◌<◌, ◌↔◌, [], ◌∷◌, ◌++◌, take, slice_get, IsSome, IfSome, IsOk, OnErr, IfErr, ◌≤◌, if◌then◌else◌, is_ok, insert, remove, slice_index_or, vec_len, IfOk, IfNone, false};
+ghost use Rattle.std.specs.Prelude.{◌≡◌, ◌+◌, ◌-◌, ◌<◌, ◌↔◌, [], ◌∷◌, ◌++◌, take, slice_get, IsSome, IfSome, IsOk, OnErr};
+ghost use Rattle.std.specs.Prelude.{IfErr, ◌≤◌, if◌then◌else◌, is_ok, insert, remove, slice_index_or, vec_len, IfOk, IfNone};
+ghost use Rattle.std.specs.Prelude.{false};
 ghost use Rattle.tinyvec.specs.TinyVec.{tiny_items_of, tiny_len_of, tiny_capacity_of, IsInline, tiny_view_of};
 ghost use Rattle.tinyvec.specs.View.{IsTail, Becomes, Unchanged};
 ghost use Rattle.tinyvec.specs.Room.{MakesRoom};
@@ -26,8 +28,8 @@ impl<A: Array> TinyVec<A> {
         }
     }
 
-    /// Appends `value`. A full list first doubles its capacity, which moves an inline one to the heap. If the allocator refuses,
-    /// nothing changes and `value` is returned.
+    /// Appends `value`. A full list first doubles its capacity, which moves an inline one to the heap. If the allocator
+    /// refuses, nothing changes and `value` is returned.
     // Inlined, since LLVM otherwise passes items that need a drop, and the result that may hold one, through memory.
     #[inline(always)]
     pub fn push(&mut self, value: A::Item) -> Result<(), NoMemory<A::Item>>
@@ -58,8 +60,8 @@ impl<A: Array> TinyVec<A> {
 
     ghost use Rattle.tinyvec.specs.Lends.{lends_added};
 
-    /// Appends `value`, and returns it for writing. A full list grows as by `push`. If the allocator refuses, nothing changes and
-    /// `value` is returned.
+    /// Appends `value`, and returns it for writing. A full list grows as by `push`. If the allocator refuses, nothing
+    /// changes and `value` is returned.
     pub fn push_mut(&mut self, value: A::Item) -> Result<&mut A::Item, NoMemory<A::Item>>
         ensures* writes_back { sem 𝓛 (lends_added A.row A.Len.row A.Item.row A.Slots self.entry
             (λ x. tiny_items_of A.Slots self.old ++ x ∷ []) result) }
@@ -106,8 +108,8 @@ impl<A: Array> TinyVec<A> {
         }
     }
 
-    /// Inserts `element` at `index`, and moves the later items up. A full list first doubles its capacity, which moves an inline one
-    /// to the heap. If the allocator refuses, nothing changes and `element` is returned.
+    /// Inserts `element` at `index`, and moves the later items up. A full list first doubles its capacity, which moves
+    /// an inline one to the heap. If the allocator refuses, nothing changes and `element` is returned.
     // Inlined, so that the variant is tested once for this call and the next.
     #[inline(always)]
     pub fn insert(&mut self, index: usize, element: A::Item) -> Result<(), NoMemory<A::Item>>
