@@ -50,37 +50,27 @@ impl<A: Array> TinyVec<A> {
         self.grow(additional)
     }
 
-    // `reserve` of a list that has no such room.
+    // Makes room on the heap for `n` items more: for an inline list, which moves there, or for one that has no such room.
     #[cold]
     #[inline(never)]
     pub(crate) fn grow(&mut self, n: usize) -> Result<(), AllocError>
-        requires { tiny_capacity_of A.Slots self.old < tiny_len_of A.Slots self.old + n }
-        ensures items { tiny_items_of A.Slots self.new ≡ tiny_items_of A.Slots self.old }
-        ensures room { MakesRoom (is_inline self.old) (tiny_len_of A.Slots self.old + n)
+        requires { is_inline self.old ≡ false → tiny_capacity_of A.Slots self.old < tiny_len_of A.Slots self.old + n }
+        ensures moves { MovesToHeap n (tiny_view_of A.Slots self.old) (tiny_view_of A.Slots self.new) result }
+        ensures room { tiny_capacity_of A.Slots self.old < tiny_len_of A.Slots self.old + n
+            → MakesRoom (is_inline self.old) (tiny_len_of A.Slots self.old + n)
             (tiny_view_of A.Slots self.old) (tiny_view_of A.Slots self.new) result }
-        ensures enough { OnOk result (tiny_len_of A.Slots self.old + n ≤ tiny_capacity_of A.Slots self.new) }
 
-        // A list that has room, or is inline after the call, is unchanged.
-        ensures kept { tiny_len_of A.Slots self.old + n ≤ tiny_capacity_of A.Slots self.old → self.new ≡ self.old }
+        // A list that is inline after the call is unchanged.
         ensures stays { IsInline self.new → self.new ≡ self.old }
     {
         match self {
-            TinyVec::Inline(_, _) => self.leave_array(n),
+            TinyVec::Inline(v, alloc) => {
+                let heap = v.drain_to_vec_and_reserve(*alloc, n)?;
+                *self = TinyVec::Heap(heap);
+                Ok(())
+            }
             TinyVec::Heap(v) => grow_heap(v, n),
         }
-    }
-
-    // Moves an inline list to the heap, with room for `n` items more.
-    fn leave_array(&mut self, n: usize) -> Result<(), AllocError>
-        requires { IsInline self.old }
-        ensures moves { MovesToHeap n (tiny_view_of A.Slots self.old) (tiny_view_of A.Slots self.new) result }
-        ensures kept { IsInline self.new → self.new ≡ self.old }
-    {
-        if let TinyVec::Inline(v, alloc) = self {
-            let heap = v.drain_to_vec_and_reserve(*alloc, n)?;
-            *self = TinyVec::Heap(heap);
-        }
-        Ok(())
     }
 
     /// The same as `reserve`.
@@ -164,7 +154,7 @@ impl<A: Array> TinyVec<A> {
         ensures kept { is_inline self.old ≡ false → self.new ≡ self.old }
     {
         if self.is_inline() {
-            return self.leave_array(0);
+            return self.grow(0);
         }
         Ok(())
     }
@@ -185,7 +175,7 @@ impl<A: Array> TinyVec<A> {
             → tiny_len_of A.Slots self.old + additional ≤ tiny_capacity_of A.Slots self.old → self.new ≡ self.old }
     {
         match self {
-            TinyVec::Inline(_, _) => self.leave_array(additional),
+            TinyVec::Inline(_, _) => self.grow(additional),
             TinyVec::Heap(_) => self.reserve(additional),
         }
     }
