@@ -2,8 +2,8 @@ use Rattle.std.proofs.Common.{◌≡◌, length, take, take_all, take_at, sym, a
 use Rattle.std.specs.List.{AppendsClones}
 use Rattle.tinyvec.proofs.tuned.push_clones.Goals as goal
 
-pub push_until_refused-requires : goal.push_until_refused-requires
-push_until_refused-requires g c = record { room = rw c.replace-vec.ensures.value c.requires.room }
+pub push_until_refused-pushed-requires : goal.push_until_refused-pushed-requires
+push_until_refused-pushed-requires g c = record { room = rw c.replace-vec.ensures.value c.requires.room }
 
 pub returns-then-pushed-from : goal.returns-then-pushed-from
 returns-then-pushed-from g c =
