@@ -1,4 +1,4 @@
-use Rattle.std.proofs.Common.{◌≡◌, length, take, take_all, take_at, sym, ap, subst, ◌∙◌, arith, vec_len, vec_capacity}
+use Rattle.std.proofs.Common.{take, take_all, take_at, sym, ap, subst, ◌∙◌, arith, vec_capacity}
 use Rattle.std.specs.List.{AppendsClones}
 use Rattle.tinyvec.proofs.tuned.push_clones.Goals as goal
 
