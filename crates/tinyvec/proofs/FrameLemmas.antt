@@ -1,11 +1,11 @@
 -- Lemmas on what a call leaves of place and capacity.
-use Rattle.std.proofs.Common.{Vec, Global, vec_capacity, ◌≡◌, ◌==◌, ◌⊎◌, inl, inr, ℕ, zero, suc, ◌<◌, ◌≤◌, ◌+◌, ◌*◌, ◌^◌, max, false, Result, Ok, Err, List, length, drop, length-take, refl, sym, ap, subst, ◌∙◌, arith}
-use Rattle.std.specs.Prelude.{OnOk, IsErr, IsTrue, ◌↔◌, Bool, true, if◌then◌else◌}
+use Rattle.std.proofs.Common.{Vec, Global, vec_len, vec_capacity, ◌≡◌, ◌==◌, ◌⊎◌, inl, inr, ℕ, zero, suc, ◌<◌, ◌≤◌, ◌+◌, ◌*◌, ◌^◌, max, false, Result, Ok, Err, List, length, drop, length-take, refl, sym, ap, subst, ◌∙◌, arith}
+use Rattle.std.specs.Prelude.{OnOk, OnErr, IsErr, IsTrue, ◌↔◌, Bool, true, if◌then◌else◌}
 use Rattle.std.specs.Result.{is_err}
 use Rattle.std.proofs.Math.Seq.{drop-nil}
 use Rattle.std.proofs.Math.Nat.{mul_assoc, pow-succ'}
 use Rattle.std.proofs.lemmas.Bool.{false≢true, cases_lt, eqb-false}
-use Rattle.tinyvec_slots.specs.Slots.{Slots, SlotRule, items_in}
+use Rattle.tinyvec_slots.specs.Slots.{Slots, SlotRule, items_in, len_in}
 use Rattle.tinyvec_slots.specs.Filters.{Shortened}
 use Rattle.tinyvec_slots.proofs.SlotsLemmas.{slots_used, shortened}
 use Rattle.tinyvec_array.specs.CutLaws.{CutOf}
@@ -17,7 +17,7 @@ use Rattle.tinyvec_array.specs.declared.slots.Slots as Storage
 use Rattle.tinyvec.specs.TinyVec.{tiny_view_of, tiny_items_of, tiny_len_of, tiny_spare_of, tiny_capacity_of, is_inline, IsInline}
 use Rattle.tinyvec.specs.declared.tiny_vec.TinyVec.{TinyVec}
 use Rattle.tinyvec.specs.declared.tiny_vec.TinyVec.TheVariants.{Inline, Heap}
-use Rattle.tinyvec.specs.Room.{KeepsRoom, GetsRoom, GrowsByPushes, MakesRoom}
+use Rattle.tinyvec.specs.Room.{KeepsRoom, GetsRoom, GrowsByPushes, MakesRoom, MovesToHeap}
 use Rattle.tinyvec.proofs.TinyLemmas.{array_view, heap_view, slots_taken, taken, used_rule, UsesSpare, slots_after_room, tiny_slots_then}
 use Rattle.tinyvec.proofs.RefusedLemmas.{RoomGranted, granted_then, granted_before}
 use Rattle.tinyvec_array.proofs.ViewLemmas.{parts_of}
@@ -161,6 +161,44 @@ module _ {T : Type 0} (exact : Bool) (need : ℕ) (old new : TinyView T) where
       (omega (arith, made.keeps.fits, frame.len, frame.capacity))
       (λ i j le. rw (frame.len, frame.spare) (made.gets.spare i (sym frame.place ∙ j) (omega (arith, le, frame.len))))
 
+-- what a capacity became, where both ways of growing come to the same
+either : {X : Type 0} (b : Bool) (x y z : X) → x ≡ z → y ≡ z → (if b then x else y) ≡ z
+either true x y z p q = p
+either false x y z p q = q
+
+-- a list that had no room for n more items, and moved to the heap, or grew there
+moved_from : {T X E : Type 0} (b : Bool) (n : ℕ) (old new : TinyView T) (r : Result X E) → view_inline old ≡ b → view_capacity old < view_len old + n
+    → MovesToHeap n old new r → MakesRoom b (view_len old + n) old new r
+moved_from false n old new r is less h = subst (λ b. MakesRoom b (view_len old + n) old new r) is (h.room is)
+moved_from true n old new (Err e) is less h = room_not_made true (view_len old + n) old new (Err e) refl less h.refused h.fits
+moved_from true n old new (Ok x) is less h = record {
+  keeps = record { capacity = omega (arith, h.moved is, less); same_room = λ room. absurd (omega (arith, room, less)); fits = h.fits };
+  gets = record { place = (λ i. absurd (false≢true (sym h.place ∙ i)), λ h. absurd (omega (arith, h.1, less))); spare = λ _ i _. absurd (false≢true (sym h.place ∙ i)); grown = λ _. h.moved is };
+  succeeds = λ _. refl;
+  full = tt;
+  refused = tt;
+}
+
+pub moved_room : {T X E : Type 0} (n : ℕ) (old new : TinyView T) (r : Result X E) → view_capacity old < view_len old + n → MovesToHeap n old new r
+    → MakesRoom (view_inline old) (view_len old + n) old new r
+moved_room n old new r = moved_from (view_inline old) n old new r refl
+
+-- a full list that grew by as many items as it has, or by one, doubled
+pub doubled_room : {T X E : Type 0} (n : ℕ) (old new : TinyView T) (r : Result X E) → n ≡ max (view_len old) 1 → view_len old ≡ view_capacity old
+    → MovesToHeap n old new r → MakesRoom false (view_len old + 1) old new r
+doubled_room n old new (Err e) is full h = room_not_made false (view_len old + 1) old new (Err e) refl (omega (arith, full)) h.refused h.fits
+doubled_room n old new (Ok x) is full h = let made = moved_room n old new (Ok x) (omega (arith, full, is)) h in record {
+  keeps = record { capacity = made.keeps.capacity; same_room = λ room. absurd (omega (arith, full, room)); fits = made.keeps.fits };
+  gets = record {
+    place = (λ i. absurd (false≢true (sym h.place ∙ i)), λ h. absurd (omega (arith, full, h.1)));
+    spare = made.gets.spare;
+    grown = λ less. made.gets.grown (omega (arith, less, is)) ∙ either (view_inline old) _ _ _ (omega (arith, full, is)) (omega (arith, full, is));
+  };
+  succeeds = λ _. refl;
+  full = tt;
+  refused = tt;
+}
+
 -- what failed for one call failed for the call around it
 pub not_taken : {T X Y E F : Type 0} (exact : Bool) (need : ℕ) (old new : TinyView T) (r : Result X F) (e : E) → true ≡ is_err r
     → MakesRoom exact need old new r → MakesRoom {X = Y} exact need old new (Err e)
@@ -186,6 +224,49 @@ spare_used g D (Heap v) (Heap w) xs k long h = sym (drop-nil k)
 -- a list on the heap, which has no spare slots
 pub heap_becomes : {T : Type 0} (D : T → Type 0) (v w : Vec T Global) (xs : List T) → w.items ≡ xs → vec_capacity w ≡ vec_capacity v → Becomes D (heap_view v) (heap_view w) xs
 heap_becomes D v w xs is same = record { items = is; place = refl; slot_rule = λ i _. absurd (false≢true i); capacity = same; fits = omega (arith, w.ok.0, w.ok.1) }
+
+-- an array whose list moved to the heap, with room for n more
+pub inline_moves : {T X E : Type 0} (n : ℕ) (v : Slots T) (w : Vec T Global) (x : X) → w.items ≡ items_in v → vec_capacity w ≡ len_in v + n
+    → MovesToHeap {E = E} n (array_view v) (heap_view w) (Ok x)
+inline_moves n v w x is room = record {
+  items = is;
+  place = refl;
+  enough = omega (arith, room);
+  moved = λ _. room;
+  room = λ no. absurd (false≢true (sym no));
+  fits = omega (arith, w.ok.0, w.ok.1);
+  succeeds_empty = λ _. refl;
+  refused = tt;
+}
+
+-- a list on the heap that had no room for n more, and grew there
+pub heap_grows : {T X E : Type 0} (n : ℕ) (v w : Vec T Global) (r : Result X E) → vec_capacity v < length v.items + n → w.items ≡ v.items
+    → OnOk r (vec_capacity w ≡ max (2 * vec_capacity v) (vec_len v + n)) → OnErr r (vec_capacity w ≡ vec_capacity v) → MovesToHeap n (heap_view v) (heap_view w) r
+heap_grows n v w (Ok x) less is grown kept =
+    let fits : length w.items ≤ vec_capacity w = omega (arith, w.ok.0, w.ok.1) in
+    let wide : vec_capacity w ≡ max (2 * vec_capacity v) (length v.items + n) = omega (arith, grown, v.ok.0) in record {
+      items = is;
+      place = refl;
+      enough = omega (arith, wide);
+      moved = λ i. absurd (false≢true i);
+      room = λ _. room_granted false (length v.items + n) (heap_view v) (heap_view w) x
+          ((λ i. absurd (false≢true i), λ both. both.0), λ room. absurd (omega (arith, room, less)), λ _. wide) fits (λ i. absurd (false≢true i));
+      fits = fits;
+      succeeds_empty = λ _. refl;
+      refused = tt;
+    }
+heap_grows n v w (Err e) less is grown kept =
+    let same : Unchanged (heap_view v) (heap_view w) = record { items = is; spare = refl; place = refl; capacity = kept } in
+    let fits : length w.items ≤ vec_capacity w = omega (arith, w.ok.0, w.ok.1) in record {
+      items = is;
+      place = tt;
+      enough = tt;
+      moved = λ i. absurd (false≢true i);
+      room = λ _. room_not_made false (length v.items + n) (heap_view v) (heap_view w) (Err e) refl less same fits;
+      fits = fits;
+      succeeds_empty = λ none. absurd (omega (arith, none, less));
+      refused = same;
+    }
 
 -- A call that had room for `need` items, or made it, and took what it had then to `new` in place.
 module _ {T : Type 0} (exact : Bool) (D : T → Type 0) (need : ℕ) (old new : TinyView T) where

@@ -1,6 +1,6 @@
 -- Lemmas on what refused calls leave.
 use Rattle.std.proofs.Common.{◌≡◌, ℕ, ◌+◌, ◌-◌, ◌≤◌, List, [], ◌++◌, take, drop, slice_range, refl, sym, ap, subst, ◌∙◌, le_refl, arith, append-nil, add-zero, ◌<◌, length, length-take, length-take-le, length-drop}
-use Rattle.std.proofs.lemmas.List.{get_or-take, get_or-drop}
+use Rattle.std.proofs.lemmas.List.{get_or-take, get_or-drop, take_rest}
 use Rattle.std.specs.Prelude.{Bool, IsTrue, Ok}
 use Rattle.std.proofs.lemmas.List.Elements.{All-nil}
 use Rattle.tinyvec_slots.specs.Slots.{AreDefaults}
@@ -21,6 +21,10 @@ module _ {T : Type 0} (I : T → Type 0) (xs : List T) where
   -- and among those behind them
   pub refused_behind : (n j : ℕ) → RefusedAt I (drop n xs) j → RefusedAt I xs (n + j)
   refused_behind n j h = (omega (arith, h.0, length-drop n xs), λ d. subst (λ x. ¬ (I x)) (get_or-drop n xs j d) (h.1 d))
+
+  -- one of all those behind the first n
+  pub refused_later : (n : ℕ) → (j : ℕ) × RefusedAt I (take (length xs - n) (drop n xs)) j → (j : ℕ) × RefusedAt I xs j
+  refused_later n at = (n + at.0, refused_behind n at.0 (subst (λ l. RefusedAt I l at.0) (take_rest xs n) at.1))
 
 -- what stands behind the list, with defaults in the slots that were vacated from m on
 abbrev Behind : {T : Type 0} → (T → Type 0) → TinyView T → TinyView T → ℕ → List T → Type 0

@@ -1,5 +1,6 @@
 //! The splice: what replaces a range of items by those of an iterator.
-ghost use Rattle.std.specs.Prelude.{◌≡◌, length, false, codes, Some, ◌+◌, ◌-◌, ◌<◌, ◌≤◌, ◌∷◌, ◌++◌, List, take, drop, IsOk, OnErr, IfErr, MatchResult, OnOk, true};
+ghost use Rattle.std.specs.Prelude.{◌≡◌, length, false, codes, Some, ◌+◌, ◌-◌, ◌<◌, ◌≤◌, ◌∷◌, ◌++◌, List, take, drop, IsOk};
+ghost use Rattle.std.specs.Prelude.{OnErr, IfErr, MatchResult, OnOk, true};
 ghost use Rattle.std.specs.Iterator.{IsFinite, Drains, YieldsThen};
 ghost use Rattle.std.specs.Iterator.Adapters.{fuse_done, fuse_source, fuse_steps};
 ghost use Rattle.tinyvec_slots.specs.Fused.{FusedCan, fused_rest};
@@ -24,7 +25,8 @@ use tinyvec_slots::{NoRoom, Splice};
 pub type TinyVecSplice<'a, A, I> = Splice<'a, TinyVec<A>, I>;
 
 impl<A: Array> TinyVec<A> {
-    ghost use Rattle.tinyvec_slots.specs.Splice.{splice_view, splice_len, splice_replacement, splice_vec, splice_lender, SpliceCanStep};
+    ghost use Rattle.tinyvec_slots.specs.Splice.{splice_view, splice_len, splice_replacement, splice_vec, splice_lender};
+    ghost use Rattle.tinyvec_slots.specs.Splice.{SpliceCanStep};
 
     /// Removes the range, yields its items from both ends, and puts those of `replacement` in their place.
     ///
@@ -121,7 +123,8 @@ impl<A: Array> TinyVec<A> {
             ++ after (tiny_items_of A.Slots self.old) (R.end_bound range)) }
         ensures room { OnOk result (GetsRoom (is_inline self.old) (tiny_len_of A.Slots self.new)
             (tiny_view_of A.Slots self.old) (tiny_view_of A.Slots self.new)) }
-        ensures keeps { KeepsRoom (tiny_len_of A.Slots self.new) (tiny_view_of A.Slots self.old) (tiny_view_of A.Slots self.new) }
+        ensures keeps { KeepsRoom (tiny_len_of A.Slots self.new) (tiny_view_of A.Slots self.old)
+            (tiny_view_of A.Slots self.new) }
         ensures slot_rule { OnOk result (TinySlotRule A.Item.is_default (tiny_view_of A.Slots self.old)
             (tiny_view_of A.Slots self.new)) }
 

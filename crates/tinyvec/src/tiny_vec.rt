@@ -1,6 +1,8 @@
 //! `TinyVec`.
-ghost use Rattle.std.specs.Prelude.{◌≡◌, ◌+◌, ◌<◌, ◌≤◌, ◌==◌, not, length, slice_index_or, slice_set, ◌-◌, ◌↔◌, ℕ, All, [], take, drop, IsOk, IsErr, IfOk, IfErr, OnErr, vec_capacity, List, false};
-ghost use Rattle.tinyvec.specs.TinyVec.{tiny_items_of, tiny_len_of, tiny_spare_of, is_inline, tiny_capacity_of, IsInline, tiny_allocator, tiny_view_of};
+ghost use Rattle.std.specs.Prelude.{◌≡◌, ◌+◌, ◌<◌, ◌≤◌, ◌==◌, not, length, slice_index_or, slice_set, ◌-◌, ◌↔◌, ℕ, All, []};
+ghost use Rattle.std.specs.Prelude.{take, drop, IsOk, IsErr, IfOk, IfErr, OnErr, vec_capacity, List, false};
+ghost use Rattle.tinyvec.specs.TinyVec.{tiny_items_of, tiny_len_of, tiny_spare_of, is_inline, tiny_capacity_of, IsInline};
+ghost use Rattle.tinyvec.specs.TinyVec.{tiny_allocator, tiny_view_of};
 ghost use Rattle.tinyvec.specs.View.{HoldsInline, SameFrame};
 ghost use Rattle.tinyvec.specs.Room.{MadeFor};
 ghost use Rattle.tinyvec_slots.specs.Slots.{AreDefaults};

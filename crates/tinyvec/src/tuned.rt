@@ -2,7 +2,8 @@
 //!
 //! Each loop works on a local variable, whose length and pointer LLVM keeps in registers. Through a reference it cannot,
 //! since the items might overlap the vector.
-ghost use Rattle.std.specs.Prelude.{◌≡◌, ◌+◌, ◌-◌, ◌<◌, ◌≤◌, ◌++◌, ℕ, length, take, drop, slice_range, replicate, IfOk, OnErr, vec_len, vec_capacity};
+ghost use Rattle.std.specs.Prelude.{◌≡◌, ◌+◌, ◌-◌, ◌<◌, ◌≤◌, ◌++◌, ℕ, length, take, drop, slice_range, replicate, IfOk};
+ghost use Rattle.std.specs.Prelude.{OnErr, vec_len, vec_capacity};
 ghost use Rattle.std.specs.List.{AllZip, AppendsClones};
 ghost use Rattle.tinyvec_slots.specs.Clones.{RefusedAt};
 ghost use Rattle.tinyvec.specs.OnHeap.{HeapBecomes, PushesClones};
@@ -38,24 +39,11 @@ fn push_until_refused<T: Clone>(vec: &mut Vec<T>, from: &[T]) -> usize
     ensures capacity { vec_capacity vec.new ≡ vec_capacity vec.old }
 {
     let mut done = 0;
-    // Four are read before one is written, so LLVM moves them in registers. Smaller items it moves in longer blocks itself.
+    // Smaller items LLVM moves in longer blocks itself.
     while 4 <= from.len() - done && fit_registers(from) {
-        let Ok(first) = from[done].clone() else {
+        let Ok(()) = push_four(vec, &from[done..]) else {
             return done;
         };
-        let Ok(second) = from[done + 1].clone() else {
-            return done;
-        };
-        let Ok(third) = from[done + 2].clone() else {
-            return done;
-        };
-        let Ok(fourth) = from[done + 3].clone() else {
-            return done;
-        };
-        vec.push_reserved(first);
-        vec.push_reserved(second);
-        vec.push_reserved(third);
-        vec.push_reserved(fourth);
         done += 4;
     }
     for i in done..from.len() {
@@ -65,6 +53,32 @@ fn push_until_refused<T: Clone>(vec: &mut Vec<T>, from: &[T]) -> usize
         vec.push_reserved(x);
     }
     from.len()
+}
+
+// Appends clones of the first four. All are read before one is written, so LLVM moves them in registers.
+#[inline(always)]
+fn push_four<T: Clone>(vec: &mut Vec<T>, from: &[T]) -> Result<(), AllocError>
+    requires enough { 4 ≤ length from.now }
+    requires room { vec_len vec.old + 4 ≤ vec_capacity vec.old }
+    ensures { PushesClones T.Clone (take 4 from.now) result vec.old vec.new }
+{
+    let Ok(first) = from[0].clone() else {
+        return Err(AllocError);
+    };
+    let Ok(second) = from[1].clone() else {
+        return Err(AllocError);
+    };
+    let Ok(third) = from[2].clone() else {
+        return Err(AllocError);
+    };
+    let Ok(fourth) = from[3].clone() else {
+        return Err(AllocError);
+    };
+    vec.push_reserved(first);
+    vec.push_reserved(second);
+    vec.push_reserved(third);
+    vec.push_reserved(fourth);
+    Ok(())
 }
 
 // `push_clones` of a list that may be long. Items that fit registers go by blocks, of which one is worth its call from 512
@@ -211,8 +225,8 @@ pub(crate) fn push_copies<T: Copy>(heap: &mut Vec<T>, from: &[T])
     push_few_copies(heap, from);
 }
 
-// `push_copies`, in blocks of N while N items are left, each of which LLVM moves by one `memcpy`. Not inlined, since a block is
-// on the stack.
+// `push_copies`, in blocks of N while N items are left, each of which LLVM moves by one `memcpy`. Not inlined, since a
+// block is on the stack.
 #[inline(never)]
 fn push_many_copies<T: Copy, const N: usize>(heap: &mut Vec<T>, from: &[T])
     requires some { 0 < N }

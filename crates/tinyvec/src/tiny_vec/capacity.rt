@@ -1,6 +1,8 @@
 //! Room on the heap, and moves between the array and the heap.
-ghost use Rattle.std.specs.Prelude.{◌≡◌, ◌+◌, ◌*◌, ◌<◌, ◌≤◌, length, max, min, true, false, OnOk, OnErr, vec_len, vec_capacity, ◌-◌, ◌↔◌, IsOk, IfOk, IfErr};
-ghost use Rattle.tinyvec.specs.TinyVec.{tiny_items_of, tiny_len_of, is_inline, tiny_capacity_of, tiny_spare_of, IsInline, tiny_view_of};
+ghost use Rattle.std.specs.Prelude.{◌≡◌, ◌+◌, ◌*◌, ◌<◌, ◌≤◌, length, max, min, true, false, OnOk, OnErr, vec_len};
+ghost use Rattle.std.specs.Prelude.{vec_capacity, ◌-◌, ◌↔◌, IsOk, IfOk, IfErr};
+ghost use Rattle.tinyvec.specs.TinyVec.{tiny_items_of, tiny_len_of, is_inline, tiny_capacity_of, tiny_spare_of, IsInline};
+ghost use Rattle.tinyvec.specs.TinyVec.{tiny_view_of};
 ghost use Rattle.tinyvec.specs.Room.{MakesRoom, MovesToHeap};
 ghost use Rattle.std.specs.Box.{boxed_slice_items};
 ghost use Rattle.tinyvec_slots.specs.Slots.{AreDefaults};
@@ -27,8 +29,8 @@ impl<A: Array> TinyVec<A> {
         self.grow(len.max(1))
     }
 
-    /// Reserves room for `additional` items more. An inline list whose array has no such room moves to the heap. If there is room
-    /// already, it allocates nothing.
+    /// Reserves room for `additional` items more. An inline list whose array has no such room moves to the heap. If
+    /// there is room already, it allocates nothing.
     #[inline(always)]
     pub fn reserve(&mut self, additional: usize) -> Result<(), AllocError>
         ensures items { tiny_items_of A.Slots self.new ≡ tiny_items_of A.Slots self.old }
@@ -48,37 +50,27 @@ impl<A: Array> TinyVec<A> {
         self.grow(additional)
     }
 
-    // `reserve` of a list that has no such room.
+    // Makes room on the heap for `n` items more: for an inline list, which moves there, or for one that has no such room.
     #[cold]
     #[inline(never)]
     pub(crate) fn grow(&mut self, n: usize) -> Result<(), AllocError>
-        requires { tiny_capacity_of A.Slots self.old < tiny_len_of A.Slots self.old + n }
-        ensures items { tiny_items_of A.Slots self.new ≡ tiny_items_of A.Slots self.old }
-        ensures room { MakesRoom (is_inline self.old) (tiny_len_of A.Slots self.old + n)
+        requires { is_inline self.old ≡ false → tiny_capacity_of A.Slots self.old < tiny_len_of A.Slots self.old + n }
+        ensures moves { MovesToHeap n (tiny_view_of A.Slots self.old) (tiny_view_of A.Slots self.new) result }
+        ensures room { tiny_capacity_of A.Slots self.old < tiny_len_of A.Slots self.old + n
+            → MakesRoom (is_inline self.old) (tiny_len_of A.Slots self.old + n)
             (tiny_view_of A.Slots self.old) (tiny_view_of A.Slots self.new) result }
-        ensures enough { OnOk result (tiny_len_of A.Slots self.old + n ≤ tiny_capacity_of A.Slots self.new) }
 
-        // A list that has room, or is inline after the call, is unchanged.
-        ensures kept { tiny_len_of A.Slots self.old + n ≤ tiny_capacity_of A.Slots self.old → self.new ≡ self.old }
+        // A list that is inline after the call is unchanged.
         ensures stays { IsInline self.new → self.new ≡ self.old }
     {
         match self {
-            TinyVec::Inline(_, _) => self.leave_array(n),
+            TinyVec::Inline(v, alloc) => {
+                let heap = v.drain_to_vec_and_reserve(*alloc, n)?;
+                *self = TinyVec::Heap(heap);
+                Ok(())
+            }
             TinyVec::Heap(v) => grow_heap(v, n),
         }
-    }
-
-    // Moves an inline list to the heap, with room for `n` items more.
-    fn leave_array(&mut self, n: usize) -> Result<(), AllocError>
-        requires { IsInline self.old }
-        ensures moves { MovesToHeap n (tiny_view_of A.Slots self.old) (tiny_view_of A.Slots self.new) result }
-        ensures kept { IsInline self.new → self.new ≡ self.old }
-    {
-        if let TinyVec::Inline(v, alloc) = self {
-            let heap = v.drain_to_vec_and_reserve(*alloc, n)?;
-            *self = TinyVec::Heap(heap);
-        }
-        Ok(())
     }
 
     /// The same as `reserve`.
@@ -162,7 +154,7 @@ impl<A: Array> TinyVec<A> {
         ensures kept { is_inline self.old ≡ false → self.new ≡ self.old }
     {
         if self.is_inline() {
-            return self.leave_array(0);
+            return self.grow(0);
         }
         Ok(())
     }
@@ -183,7 +175,7 @@ impl<A: Array> TinyVec<A> {
             → tiny_len_of A.Slots self.old + additional ≤ tiny_capacity_of A.Slots self.old → self.new ≡ self.old }
     {
         match self {
-            TinyVec::Inline(_, _) => self.leave_array(additional),
+            TinyVec::Inline(_, _) => self.grow(additional),
             TinyVec::Heap(_) => self.reserve(additional),
         }
     }

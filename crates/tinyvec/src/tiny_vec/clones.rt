@@ -2,7 +2,8 @@
 ghost use Rattle.std.specs.Prelude.{◌≡◌, ◌≤◌, ◌++◌, ℕ, All, min, false, length, take, IfOk, OnOk, OnErr, IsOk};
 ghost use Rattle.std.specs.List.{AllZip};
 ghost use Rattle.tinyvec_slots.specs.Clones.{RefusedAt, AreClones, ClonesOver, ClonesInPart};
-ghost use Rattle.tinyvec.specs.TinyVec.{tiny_items_of, tiny_len_of, tiny_spare_of, is_inline, tiny_capacity_of, IsInline, tiny_view_of};
+ghost use Rattle.tinyvec.specs.TinyVec.{tiny_items_of, tiny_len_of, tiny_spare_of, is_inline, tiny_capacity_of, IsInline};
+ghost use Rattle.tinyvec.specs.TinyVec.{tiny_view_of};
 ghost use Rattle.tinyvec.specs.View.{TinySlotRule, SameFrame, IsTinyClone, IsTinyInfallible};
 ghost use Rattle.tinyvec.specs.Refused.{RefusedFor};
 ghost use Rattle.tinyvec.specs.Room.{KeepsRoom, GetsRoom};
@@ -65,7 +66,8 @@ impl<A: Array> TinyVec<A> {
             (tiny_items_of A.Slots self.new)) }
         ensures room { OnOk result (GetsRoom (is_inline self.old) (tiny_len_of A.Slots source.now)
             (tiny_view_of A.Slots self.old) (tiny_view_of A.Slots self.new)) }
-        ensures keeps { KeepsRoom (tiny_len_of A.Slots source.now) (tiny_view_of A.Slots self.old) (tiny_view_of A.Slots self.new) }
+        ensures keeps { KeepsRoom (tiny_len_of A.Slots source.now) (tiny_view_of A.Slots self.old)
+            (tiny_view_of A.Slots self.new) }
         ensures slot_rule { OnOk result (TinySlotRule A.Item.is_default (tiny_view_of A.Slots self.old)
             (tiny_view_of A.Slots self.new)) }
 

@@ -1,5 +1,7 @@
 //! Items that are pushed, popped, inserted, removed and cut off.
-ghost use Rattle.std.specs.Prelude.{◌≡◌, ◌+◌, ◌-◌, ◌<◌, ◌↔◌, [], ◌∷◌, ◌++◌, take, slice_get, IsSome, IfSome, IsOk, OnErr, IfErr, ◌≤◌, if◌then◌else◌, is_ok, insert, remove, slice_index_or, vec_len, IfOk, IfNone, false};
+ghost use Rattle.std.specs.Prelude.{◌≡◌, ◌+◌, ◌-◌, ◌<◌, ◌↔◌, [], ◌∷◌, ◌++◌, take, drop, slice_get, IsSome, IfSome, IsOk};
+ghost use Rattle.std.specs.Prelude.{OnOk, OnErr, IfErr, ◌≤◌, if◌then◌else◌, is_ok, insert, remove, slice_index_or, vec_len};
+ghost use Rattle.std.specs.Prelude.{vec_capacity, IfOk, IfNone, false};
 ghost use Rattle.tinyvec.specs.TinyVec.{tiny_items_of, tiny_len_of, tiny_capacity_of, IsInline, tiny_view_of};
 ghost use Rattle.tinyvec.specs.View.{IsTail, Becomes, Unchanged};
 ghost use Rattle.tinyvec.specs.Room.{MakesRoom};
@@ -11,7 +13,7 @@ use crate::TinyVec;
 use std::alloc::AllocError;
 use tinyvec_array::Array;
 use tinyvec_slots::NoMemory;
-use tinyvec_slots::authors::{move_to_end, remove_shifting};
+use tinyvec_slots::authors::{move_to_end, remove_shifting, take_all};
 
 impl<A: Array> TinyVec<A> {
     /// Appends `value` to a list that has room. It allocates nothing, so it cannot fail.
@@ -26,8 +28,8 @@ impl<A: Array> TinyVec<A> {
         }
     }
 
-    /// Appends `value`. A full list first doubles its capacity, which moves an inline one to the heap. If the allocator refuses,
-    /// nothing changes and `value` is returned.
+    /// Appends `value`. A full list first doubles its capacity, which moves an inline one to the heap. If the allocator
+    /// refuses, nothing changes and `value` is returned.
     // Inlined, since LLVM otherwise passes items that need a drop, and the result that may hold one, through memory.
     #[inline(always)]
     pub fn push(&mut self, value: A::Item) -> Result<(), NoMemory<A::Item>>
@@ -58,8 +60,8 @@ impl<A: Array> TinyVec<A> {
 
     ghost use Rattle.tinyvec.specs.Lends.{lends_added};
 
-    /// Appends `value`, and returns it for writing. A full list grows as by `push`. If the allocator refuses, nothing changes and
-    /// `value` is returned.
+    /// Appends `value`, and returns it for writing. A full list grows as by `push`. If the allocator refuses, nothing
+    /// changes and `value` is returned.
     pub fn push_mut(&mut self, value: A::Item) -> Result<&mut A::Item, NoMemory<A::Item>>
         ensures* writes_back { sem 𝓛 (lends_added A.row A.Len.row A.Item.row A.Slots self.entry
             (λ x. tiny_items_of A.Slots self.old ++ x ∷ []) result) }
@@ -106,8 +108,8 @@ impl<A: Array> TinyVec<A> {
         }
     }
 
-    /// Inserts `element` at `index`, and moves the later items up. A full list first doubles its capacity, which moves an inline one
-    /// to the heap. If the allocator refuses, nothing changes and `element` is returned.
+    /// Inserts `element` at `index`, and moves the later items up. A full list first doubles its capacity, which moves
+    /// an inline one to the heap. If the allocator refuses, nothing changes and `element` is returned.
     // Inlined, so that the variant is tested once for this call and the next.
     #[inline(always)]
     pub fn insert(&mut self, index: usize, element: A::Item) -> Result<(), NoMemory<A::Item>>
@@ -234,12 +236,7 @@ impl<A: Array> TinyVec<A> {
     {
         match self {
             TinyVec::Inline(v, alloc) => { Ok(TinyVec::Inline(v.split_off(at), *alloc)) }
-            TinyVec::Heap(v) => {
-                let mut back = TinyVec::Heap(Vec::with_capacity(*v.allocator(), v.len() - at)?);
-                back.append_slots(&mut v.as_mut_slice()[at..]);
-                v.truncate(at);
-                Ok(back)
-            }
+            TinyVec::Heap(v) => Ok(TinyVec::Heap(split_heap(v, at)?)),
         }
     }
 
@@ -276,4 +273,19 @@ fn remove_on_heap<T: Default + Drop>(heap: &mut Vec<T>, i: usize) -> T
     let item = remove_shifting(heap.as_mut_slice(), i, len);
     heap.truncate(len - 1);
     item
+}
+
+// `split_off` on the heap.
+fn split_heap<T: Default + Drop>(heap: &mut Vec<T>, at: usize) -> Result<Vec<T>, AllocError>
+    requires { at ≤ vec_len heap.old }
+    ensures cut { OnOk result (HeapBecomes heap.old heap.new (take at heap.old.items)) }
+    ensures tail { IfOk result (λ v. v.items ≡ drop at heap.old.items) }
+    ensures exact { IfOk result (λ v. vec_capacity v ≡ vec_len heap.old - at) }
+    ensures succeeds { at ≡ vec_len heap.old → IsOk result }
+    ensures refused { OnErr result (heap.new ≡ heap.old) }
+{
+    let mut back = Vec::with_capacity(*heap.allocator(), heap.len() - at)?;
+    take_all(&mut heap.as_mut_slice()[at..], &mut back);
+    heap.truncate(at);
+    Ok(back)
 }

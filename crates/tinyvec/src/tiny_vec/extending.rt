@@ -1,5 +1,7 @@
 //! Growing by other lists, by clones, by iterators and by closures.
-ghost use Rattle.std.specs.Prelude.{◌≡◌, ◌+◌, ◌≤◌, ◌++◌, ℕ, All, length, take, drop, slice_range, IsOk, OnOk, OnErr, if◌then◌else◌, is_ok, ◌<◌, [], ◌-◌, ◌*◌, ◌↔◌, ◌∷◌, List, Some, MatchResult, IfOk, IfErr, vec_len, vec_capacity, max, replicate};
+ghost use Rattle.std.specs.Prelude.{◌≡◌, ◌+◌, ◌≤◌, ◌++◌, ℕ, All, length, take, drop, slice_range, IsOk, OnOk, OnErr};
+ghost use Rattle.std.specs.Prelude.{if◌then◌else◌, is_ok, ◌<◌, [], ◌-◌, ◌*◌, ◌↔◌, ◌∷◌, List, Some, MatchResult, IfOk, IfErr};
+ghost use Rattle.std.specs.Prelude.{vec_len, vec_capacity, max, replicate};
 ghost use Rattle.std.specs.List.{AppendsClones, AppendsResults};
 ghost use Rattle.tinyvec_slots.specs.Clones.{ClonesAreEqual, AppendsAllOrNone};
 ghost use Rattle.tinyvec.specs.TinyVec.{tiny_items_of, tiny_len_of, tiny_capacity_of, is_inline, IsInline, tiny_view_of};

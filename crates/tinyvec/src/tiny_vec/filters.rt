@@ -85,8 +85,8 @@ impl<A: Array> TinyVec<A> {
         }
     }
 
-    /// Calls `predicate` on the last item, and removes and returns the item if it returns `true`. Otherwise the item stays, as
-    /// `predicate` left it. Calls nothing if the list is empty.
+    /// Calls `predicate` on the last item, and removes and returns the item if it returns `true`. Otherwise the item
+    /// stays, as `predicate` left it. Calls nothing if the list is empty.
     pub fn pop_if<F: FnOnce(&mut A::Item) -> bool>(&mut self, predicate: F) -> Option<A::Item>
         requires { (x : A.Item) → slice_get (tiny_items_of A.Slots self.old) (tiny_len_of A.Slots self.old - 1) ≡ Some x
             → FnOnceTakesAtMut F.FnOnce predicate x }

@@ -1,14 +1,9 @@
-use Rattle.std.proofs.Common.{ℕ, List, ◌+◌, ◌-◌, ◌++◌, take, drop, length, ap, sym, take_at, ◌∙◌, arith, length-append, take-append-drop, rules}
+use Rattle.std.proofs.Common.{◌+◌, ◌-◌, ◌++◌, take, drop, length, ap, sym, take_at, ◌∙◌, arith, length-append, take-append-drop, rules}
 use Rattle.std.proofs.Math.Seq.{take-add}
 use Rattle.std.proofs.lemmas.List.{take_rest}
-use Rattle.tinyvec_slots.specs.Clones.{RefusedAt}
 use Rattle.tinyvec.proofs.CloneLemmas.{appends_join}
-use Rattle.tinyvec.proofs.RefusedLemmas.{refused_in_front, refused_behind}
+use Rattle.tinyvec.proofs.RefusedLemmas.{refused_later}
 use Rattle.tinyvec.proofs.tuned.push_clones_by_blocks.Goals as goal
-
--- what was refused behind the first `done` was refused
-refused : {T : Type 0} (I : T → Type 0) (from : List T) (done : ℕ) → (j : ℕ) × RefusedAt I (take (length from - done) (drop done from)) j → (j : ℕ) × RefusedAt I from j
-refused I from done at = (done + at.0, refused_behind I from done at.0 (refused_in_front I (drop done from) (length from - done) at.0 at.1))
 
 pub returns-in_default : goal.returns-in_default
 returns-in_default g c =
@@ -16,7 +11,7 @@ returns-in_default g c =
     let long = ap (λ v. length v.items) (sym c.replace-vec.ensures.value) ∙ sym (c.len-len.ensures ∙ c.replace-vec.result.ok.0) in record {
       items = tt;
       kept = c.truncate.ensures.items ∙ ap (take c.len-len.result) made.1 ∙ take_at c.args.heap.now.items made.0 c.len-len.result long;
-      refused = refused g.T.Clone.is_infallible c.args.from.now c.loop-done.done c.in_default.ensures.refused;
+      refused = refused_later g.T.Clone.is_infallible c.args.from.now c.loop-done.done c.in_default.ensures.refused;
       capacity = search rules;
     }
 
@@ -43,7 +38,7 @@ returns-in_default-push_clones g c =
     let long = ap (λ v. length v.items) (sym c.replace-vec.ensures.value) ∙ sym (c.len-len.ensures ∙ c.replace-vec.result.ok.0) in record {
       items = tt;
       kept = c.truncate-in_default-push_clones.ensures.items ∙ ap (take c.len-len.result) (put.kept ∙ made.1) ∙ take_at c.args.heap.now.items made.0 c.len-len.result long;
-      refused = refused g.T.Clone.is_infallible c.args.from.now c.loop-done.done put.refused;
+      refused = refused_later g.T.Clone.is_infallible c.args.from.now c.loop-done.done put.refused;
       capacity = search rules;
     }
 

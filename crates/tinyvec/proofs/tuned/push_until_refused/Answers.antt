@@ -1,60 +1,55 @@
-use Rattle.std.proofs.Common.{rules, refl, ◌+◌, arith}
-use Rattle.tinyvec.proofs.CloneLemmas.{appends_of_next, refused_at}
+use Rattle.std.proofs.Common.{◌+◌, ◌-◌, ◌++◌, take, drop, length, length-take, length-drop, refl, sym, ap, ◌∙◌, arith, rules}
+use Rattle.std.proofs.Math.Seq.{take-add}
+use Rattle.std.proofs.lemmas.List.{take_rest}
+use Rattle.tinyvec.proofs.CloneLemmas.{appends_of_next, appends_join, appends_len, refused_at}
+use Rattle.tinyvec.proofs.RefusedLemmas.{refused_in_front, refused_later}
 use Rattle.tinyvec.proofs.tuned.push_until_refused.Goals as goal
 
-pub returns-in_default-clone-clause-refused : goal.returns-in_default-clone-clause-refused
-returns-in_default-clone-clause-refused g c = λ _.
-    let at = c.index-from-done-in-loop-done in
-    refused_at g.T.Clone.is_infallible c.args.from.now (c.loop-done.done + 1) at.result (omega (arith, c.loop-done-test.true)) at.is
-    c.in_default-clone.ensures.cases
-
-pub returns-in_default-clone-2-clause-refused : goal.returns-in_default-clone-2-clause-refused
-returns-in_default-clone-2-clause-refused g c = λ _.
-    let at = c.index-from-done-in-loop-done-2 in
-    refused_at g.T.Clone.is_infallible c.args.from.now (c.loop-done.done + 2) at.result (omega (arith, c.loop-done-test.true)) at.is
-    c.in_default-clone-2.ensures.cases
-
-pub returns-in_default-clone-3-clause-refused : goal.returns-in_default-clone-3-clause-refused
-returns-in_default-clone-3-clause-refused g c = λ _.
-    let at = c.index-from-done-in-loop-done-3 in
-    refused_at g.T.Clone.is_infallible c.args.from.now (c.loop-done.done + 3) at.result (omega (arith, c.loop-done-test.true)) at.is
-    c.in_default-clone-3.ensures.cases
+pub returns-in_default-clause-refused : goal.returns-in_default-clause-refused
+returns-in_default-clause-refused g c = λ _.
+    let I = g.T.Clone.is_infallible in
+    let from = c.args.from.now in
+    let at = c.in_default.ensures.refused in
+    refused_later I from c.loop-done.done (at.0, refused_in_front I (take (length from - c.loop-done.done) (drop c.loop-done.done from)) 4 at.0 at.1)
 
 pub loop-done-preserved : goal.loop-done-preserved
 loop-done-preserved g c =
     let at = c.loop-done in
     let from = c.args.from.now in
-    let next = appends_of_next g.T.Clone.is_clone c.args.vec.now.items in
-    let within = c.loop-done-test.true in
-    let one = next at.vec.items from at.done (at.done + 1) c.index-from-done.result c.in-Ok.first (omega (arith, within)) refl
-    c.index-from-done.is c.in-Ok.ensures.cases at.invariant.cloned in
-    let two = next _ from (at.done + 1) (at.done + 2) c.index-from-done-in-loop-done.result c.in-Ok-clone.second (omega (arith, within)) (omega arith)
-    c.index-from-done-in-loop-done.is c.in-Ok-clone.ensures.cases one in
-    let three = next _ from (at.done + 2) (at.done + 3) c.index-from-done-in-loop-done-2.result c.in-Ok-clone-2.third (omega (arith, within)) (omega arith)
-    c.index-from-done-in-loop-done-2.is c.in-Ok-clone-2.ensures.cases two in
-    let four = next _ from (at.done + 3) (at.done + 4) c.index-from-done-in-loop-done-3.result c.in-Ok-clone-3.fourth (omega (arith, within)) (omega arith)
-    c.index-from-done-in-loop-done-3.is c.in-Ok-clone-3.ensures.cases three in
+    let put = c.in-Ok.ensures in
+    let part = take (length from - at.done) (drop at.done from) in
+    let cloned = appends_join g.T.Clone.is_clone c.args.vec.now.items at.vec.items c.push_four.new.vec.items (take at.done from) (take 4 part) (take (at.done + 4) from)
+    (ap (λ l. take at.done from ++ take 4 l) (take_rest from at.done) ∙ sym (take-add at.done 4 from)) at.invariant.cloned put.items in
     record {
-      within = search rules;
-      cloned = rw (c.push_reserved-in-loop-done-3.ensures.items, c.push_reserved-in-loop-done-2.ensures.items, c.push_reserved-in-loop-done.ensures.items, c.push_reserved.ensures.items) four;
-      room = search rules;
-      capacity = search rules;
+      within = omega (arith, c.loop-done-test.true, at.invariant.within);
+      cloned = cloned;
+      room = omega (
+        arith,
+        c.push_four.new.vec.ok.0,
+        at.vec.ok.0,
+        appends_len g.T.Clone.is_clone at.vec.items c.push_four.new.vec.items (take 4 part) put.items,
+        length-take 4 part,
+        length-take (length from - at.done) (drop at.done from),
+        length-drop at.done from,
+        put.capacity,
+        at.invariant.room,
+        at.invariant.within,
+        c.loop-done-test.true,
+      );
+      capacity = put.capacity ∙ at.invariant.capacity;
     }
 
 pub loop-i-preserved : goal.loop-i-preserved
 loop-i-preserved g c =
     let at = c.loop-i in
     record {
-      cloned = rw c.push_reserved-in-loop-i.ensures.items (appends_of_next g.T.Clone.is_clone c.args.vec.now.items at.vec.items c.args.from.now at.i (at.i + 1)
-          c.index-from-i.result c.in-Ok-clone-4.x c.loop-i-test.true refl c.index-from-i.is c.in-Ok-clone-4.ensures.cases at.invariant.cloned);
+      cloned = rw c.push_reserved.ensures.items (appends_of_next g.T.Clone.is_clone c.args.vec.now.items at.vec.items c.args.from.now at.i (at.i + 1)
+          c.index-from-i.result c.in-Ok-clone.x c.loop-i-test.true refl c.index-from-i.is c.in-Ok-clone.ensures.cases at.invariant.cloned);
       room = search rules;
       capacity = search rules;
     }
 
-pub returns-in_default-clone-4-clause-refused : goal.returns-in_default-clone-4-clause-refused
-returns-in_default-clone-4-clause-refused g c = λ _.
+pub returns-in_default-clone-clause-refused : goal.returns-in_default-clone-clause-refused
+returns-in_default-clone-clause-refused g c = λ _.
     let at = c.index-from-i in
-    refused_at g.T.Clone.is_infallible c.args.from.now c.loop-i.i at.result c.loop-i-test.true at.is c.in_default-clone-4.ensures.cases
-
-pub returns-clause-items : goal.returns-clause-items
-returns-clause-items g c = search rules
+    refused_at g.T.Clone.is_infallible c.args.from.now c.loop-i.i at.result c.loop-i-test.true at.is c.in_default-clone.ensures.cases

@@ -1,8 +1,8 @@
-use Rattle.std.proofs.Common.{◌≡◌, ◌+◌, ◌≤◌, length, refl, sym, ap, ◌∙◌, arith, vec_capacity}
+use Rattle.std.proofs.Common.{◌≡◌, ◌+◌, ◌<◌, ◌≤◌, length, refl, sym, ap, ◌∙◌, arith, vec_capacity}
 use Rattle.std.proofs.lemmas.Bool.{false≢true}
 use Rattle.tinyvec.proofs.ExtendingLemmas.{inline_clones, heap_clones, extended_in_room, extended_grown, extended_refused}
 use Rattle.tinyvec.proofs.tiny_vec.extending.TinyVec+A.extend_from_slice.Goals.{In_default, in_default-via-in-Inline+else-other-capacity, in_default-via-in-Heap+else-other-capacity-2}
-use Rattle.tinyvec.specs.TinyVec.{tiny_view_of, tiny_capacity_of, IsInline}
+use Rattle.tinyvec.specs.TinyVec.{tiny_view_of, tiny_len_of, tiny_capacity_of, IsInline}
 use Rattle.tinyvec_array.specs.ArrayVec.{len_of, slots_of, view_of}
 use Rattle.tinyvec.proofs.tiny_vec.extending.TinyVec+A.extend_from_slice.Goals as goal
 
@@ -32,21 +32,38 @@ returns-in-Heap g c =
     record { inline_capacity = λ i. absurd (false≢true i); clones = made.clones; room = made.room; keeps = made.keeps; succeeds = made.succeeds; refused = made.refused })
 
 -- a list that had no room is as it was before it grows
-before : (g : _) (c : In_default g) → (c.in_default.self ≡ c.args.self.now) × (IsInline c.args.self.now → tiny_capacity_of g.A.Slots c.args.self.now ≡ g.A.Array.CAPACITY)
-before g c = elim c.in_default.branch as (λ _. (c.in_default.self ≡ c.args.self.now) × (IsInline c.args.self.now → tiny_capacity_of g.A.Slots c.args.self.now ≡ g.A.Array.CAPACITY)) [
-  | in_default-via-in-Inline+else-other-capacity w ↦ (w.self-is ∙ sym w.in-Inline.is, rw w.in-Inline.is (λ _. g.met.A.Array.counted _ w.capacity.ensures.slot_count))
-  | in_default-via-in-Heap+else-other-capacity-2 w ↦ (w.self-is ∙ sym w.in-Heap.is, rw w.in-Heap.is (λ i. absurd (false≢true i)))
+abbrev Before : (g : _) → In_default g → Type 0
+Before g c = (c.in_default.self ≡ c.args.self.now) × (IsInline c.args.self.now → tiny_capacity_of g.A.Slots c.args.self.now ≡ g.A.Array.CAPACITY)
+    × (tiny_capacity_of g.A.Slots c.args.self.now < tiny_len_of g.A.Slots c.args.self.now + length c.args.other.now)
+
+before : (g : _) (c : In_default g) → Before g c
+before g c = elim c.in_default.branch as (λ _. Before g c) [
+  | in_default-via-in-Inline+else-other-capacity w ↦ (
+    w.self-is ∙ sym w.in-Inline.is,
+    rw w.in-Inline.is (λ _. g.met.A.Array.counted _ w.capacity.ensures.slot_count),
+    rw w.in-Inline.is (omega (arith, w.capacity.ensures, w.len.ensures.value)),
+  )
+  | in_default-via-in-Heap+else-other-capacity-2 w ↦ (
+    w.self-is ∙ sym w.in-Heap.is,
+    rw w.in-Heap.is (λ i. absurd (false≢true i)),
+    rw w.in-Heap.is (omega (arith, w.in-Heap.v.ok.0, w.in-Heap.v.ok.1)),
+  )
 ]
+
+pub grow-requires : goal.grow-requires
+grow-requires g c =
+    let known = before g (goal.at.grow-requires g c).In_default in
+    λ _. rw known.0 known.2
 
 pub returns-in_err-grow-in_default : goal.returns-in_err-grow-in_default
 returns-in_err-grow-in_default g c =
     let known = before g (goal.at.returns-in_err-grow-in_default g c).In_default in
     let made = extended_refused g.A.Item.Clone _ _ (tiny_view_of g.A.Slots c.args.self.now) _ _ _ refl c.from_residual.ensures.0
-    (rw known.0 at c.in_err-grow-in_default.ensures.room) in
+    ((rw known.0 at c.in_err-grow-in_default.ensures.room) known.2) in
     record { inline_capacity = known.1; clones = made.clones; room = made.room; keeps = made.keeps; succeeds = made.succeeds; refused = made.refused }
 
 pub extend_reserved-requires : goal.extend_reserved-requires
-extend_reserved-requires g c = record { room = omega (arith, ap length c.grow.ensures.items, c.in_ok-grow-in_default.ensures.enough) }
+extend_reserved-requires g c = record { room = omega (arith, ap length c.grow.ensures.moves.items, c.in_ok-grow-in_default.ensures.moves.enough) }
 
 -- what grew has room
 pub returns-in_ok-grow-in_default : goal.returns-in_ok-grow-in_default
@@ -54,5 +71,5 @@ returns-in_ok-grow-in_default g c =
     let known = before g (goal.at.returns-in_ok-grow-in_default g c).In_default in
     let grown = c.in_ok-grow-in_default.ensures in
     let made = extended_grown g.A.Item.Clone _ _ (tiny_view_of g.A.Slots c.args.self.now) _ _ _ _ refl
-    (rw known.0 at grown.items) (λ i. ap (tiny_view_of g.A.Slots) ((rw known.0 at grown.stays) i)) (rw known.0 at grown.room) c.extend_reserved.ensures in
+    (rw known.0 at grown.moves.items) (λ i. ap (tiny_view_of g.A.Slots) ((rw known.0 at grown.stays) i)) ((rw known.0 at grown.room) known.2) c.extend_reserved.ensures in
     record { inline_capacity = known.1; clones = made.clones; room = made.room; keeps = made.keeps; succeeds = made.succeeds; refused = made.refused }
