@@ -1,4 +1,4 @@
-use Rattle.std.proofs.Common.{◌∷◌, [], ◌++◌, arith, sym, ◌∙◌, ap, subst, length, length-append, append_assoc}
+use Rattle.std.proofs.Common.{◌∷◌, [], ◌++◌, arith, sym, ◌∙◌, ap, subst, length, length-append, append_assoc, rules}
 use Rattle.tinyvec_slots.specs.Drain.{DrainKeeps, drain_items}
 use Rattle.tinyvec_slots.proofs.DrainLemmas.{DrainKeeps-then}
 use Rattle.tinyvec.specs.SpliceLaws.{frame_then}
@@ -38,4 +38,18 @@ pub returns-clause-becomes : goal.returns-clause-becomes
 returns-clause-becomes g c =
     let new = c.drop-x-iterator.new.self.0 in
     let keeps = subst (λ d. DrainKeeps (tiny_drain_of g.A.Slots g.A.Item.Default.is_default) d c.loop-x.x-iterator) c.into_iter-x-iterator.ensures.into_iter_gives c.loop-x.invariant.keeps in
-    c.drain-x-items.ensures.begins.leaves new (keeps.leaves new (c.in-None.ensures.steps.1.leaves new c.drop-x-iterator.ensures))
+    let left = c.drain-x-items.ensures.begins.leaves new (keeps.leaves new (c.in-None.ensures.steps.1.leaves new c.drop-x-iterator.ensures)) in
+    let same = c.in-None.ensures.steps.1.same_reference ∙ keeps.same_reference in
+    let listed = left.items in
+    let place = left.place in
+    let capacity = left.capacity in
+    let fits = left.fits in record {
+      items = search rules;
+      place = search rules;
+      slot_rule = λ i j.
+          let ruled = left.slot_rule i (search rules) in
+          let behind = ruled.2 in
+          (ruled.0, (search rules, ruled.1.1), search rules);
+      capacity = search rules;
+      fits = search rules;
+    }
