@@ -101,16 +101,12 @@ pub text_shrunk : {k : ℕ} (n : ℕ) (old new : Bytes k) → IsText old → tin
 text_shrunk n (Inline v a) new is items kept spare = subst IsText (sym (kept refl)) is
 text_shrunk {k} n (Heap v) new is items kept spare = text_made n new (subst IsUtf8 (sym items) (text_utf8 {k = k} (Heap v) is)) (spare refl)
 
--- the ends of a range are boundaries of the bytes
+-- the ends of a range, which was resolved to p and q, are boundaries of the bytes
 pub text_range : {k : ℕ} (v : Bytes k) (t : Text) → text_of v ≡ t → IsText v → (a : ℕ) (end : ℕ → ℕ) → a ≤ end (text_len t)
-    → IsBoundary (text_chars t) a → IsBoundary (text_chars t) (end (text_len t)) → CutsAt (tiny_items v) a (end (tiny_len v))
-text_range v t same is a end order first last =
-    let utf8 = text_utf8 v is in
-    record {
-      order = subst (λ (u : Text). a ≤ end (text_len u)) (sym same) order;
-      first = split_from_boundary (tiny_items v) utf8 a (subst (λ (u : Text). IsBoundary (text_chars u) a) (sym same) first);
-      last = split_from_boundary (tiny_items v) utf8 (end (tiny_len v)) (subst (λ (u : Text). IsBoundary (text_chars u) (end (text_len u))) (sym same) last);
-    }
+    → IsBoundary (text_chars t) a → IsBoundary (text_chars t) (end (text_len t)) → (p q n : ℕ) → p ≡ a → q ≡ end n → n ≡ tiny_len v → CutsAt (tiny_items v) p q
+text_range v t same is a end order first last p q n starts ends count =
+    let at : q ≡ end (text_len t) = ends ∙ ap end (count ∙ ap text_len same) in
+    rw (starts, at) (record { order = order; first = text_cut v t same is a first; last = text_cut v t same is (end (text_len t)) last })
 
 -- a call that made room did so for the text
 pub text_room : {k : ℕ} {X E : Type 0} (exact : Bool) (need : ℕ) (old new : Bytes k) (r : Result X E) → MakesRoom exact need (tiny_view old) (tiny_view new) r
