@@ -1,25 +1,26 @@
 -- Lists of bytes as texts.
-use Rattle.std.proofs.Common.{◌≡◌, ℕ, ◌+◌, ◌-◌, ◌<◌, ◌≤◌, inl, inr, List, All, ◌++◌, IsUtf8, IsTrue, subst, sym, refl, ◌∙◌, arith, ap, length, take, drop, take_at, drop_at, take-append-drop, length-take, length-take-le, length-drop}
+use Rattle.std.proofs.Common.{chars, ◌≡◌, ℕ, ◌+◌, ◌-◌, ◌<◌, ◌≤◌, inl, inr, List, All, ◌++◌, IsUtf8, IsTrue, subst, sym, refl, ◌∙◌, arith, ap, length, take, drop, take_at, drop_at, take-append-drop, length-take, length-append, length-take-le, length-drop}
 use Rattle.std.specs.Prelude.{Bool, false, Result}
 use Rattle.std.proofs.Math.Seq.{drop-nil, take-take}
 use Rattle.std.proofs.lemmas.Result.{on_ok_weaker, on_err_weaker}
 use Rattle.std.proofs.lemmas.List.{drop-drop, same_lists}
 use Rattle.std.proofs.lemmas.List.Elements.{All-append, All-drop, All-take}
-use Rattle.std.proofs.lemmas.Str.{IsUtf8-had}
+use Rattle.std.proofs.lemmas.Str.{IsUtf8-had, IsUtf8-append, chars-append}
 use Rattle.tinyvec_slots.specs.Slots.{Slots, AreDefaults, SlotRule, items_in, len_in, spare_in}
 use Rattle.tinyvec_slots.proofs.BorderLemmas.{spare_from}
+use Rattle.tinyvec_slots.proofs.Lists.{length-replaced}
 use Rattle.tinyvec_array.proofs.Named.{array_slots}
 use Rattle.tinyvec.specs.SpliceLaws.{frame_becomes}
 use Rattle.tinyvec.specs.Lends.{tiny_with_items}
 use Rattle.tinyvec.specs.TinyVec.{tiny_items, tiny_len, tiny_spare, is_inline, IsInline, tiny_view}
 use Rattle.tinyvec.specs.Refused.{RefusedFor}
 use Rattle.tinyvec.specs.View.{TinyView, view_capacity, TinySlotRule, SameFrame, Becomes, Unchanged}
-use Rattle.tinyvec.specs.Room.{MakesRoom}
+use Rattle.tinyvec.specs.Room.{MakesRoom, GetsRoom}
 use Rattle.tinyvec.specs.declared.tiny_vec.TinyVec.TheVariants.{Inline, Heap}
 use Rattle.std.specs.String.Boundary.{IsSplitPoint}
-use Rattle.tinyvec.proofs.TinyLemmas.{tiny_items-with, tiny_framed-with}
+use Rattle.tinyvec.proofs.TinyLemmas.{tiny_items-with, tiny_framed-with, used_rule}
 use Rattle.tinyvec_text.specs.InlineText.{Text, Bytes, IsText, text_of, text_view, text_chars, text_len, IsBoundary}
-use Rattle.tinyvec_text.proofs.Boundaries.{split_from_boundary}
+use Rattle.tinyvec_text.proofs.Boundaries.{split_from_boundary, utf8_put, chars_put}
 
 -- a and b are boundaries of the bytes, in this order
 pub record CutsAt (bs : List ℕ) (a b : ℕ) : Type 0 where
@@ -59,6 +60,36 @@ text_stays old new bs made is utf8 = text_kept old new (λ i. subst IsTrue made.
 pub text_same : {k : ℕ} (old new : Bytes k) → Unchanged (tiny_view old) (tiny_view new) → IsText old → IsText new
 text_same old new h is = (subst (λ bs. ∥ IsUtf8 bs ∥₁) (sym h.items) is.0, subst (All (λ b. b ≡ 0)) (sym h.spare) is.1)
 
+-- a call that had room, or made it, left a list that is no shorter
+pub text_grown : {k : ℕ} {exact : Bool} {need : ℕ} (old new : Bytes k) (bs : List ℕ) → GetsRoom exact need (tiny_view old) (tiny_view new) → IsText old
+    → tiny_items new ≡ bs → tiny_len old ≤ length bs → IsUtf8 bs → IsText new
+text_grown old new bs room is made long utf8 =
+    text_kept old new (λ i. (room.place.0 i).0) (used_rule (λ b. b ≡ 0) (tiny_view old) (tiny_view new) (omega (arith, ap length made, long)) room.spare) is
+    (subst IsUtf8 (sym made) utf8)
+
+-- text was appended
+module _ {k : ℕ} (old new : Bytes k) (t : Text) (same : text_of old ≡ t) (is : IsText old) (put : List ℕ) (utf8 : IsUtf8 put)
+    (made : tiny_items new ≡ tiny_items old ++ put) where
+  pub utf8_joined : IsUtf8 (tiny_items old ++ put)
+  utf8_joined = IsUtf8-append _ _ (text_utf8 old is) utf8
+
+  pub text_joined : {exact : Bool} {need : ℕ} → GetsRoom exact need (tiny_view old) (tiny_view new) → IsText new
+  text_joined room = text_grown old new _ room is made (omega (arith, length-append (tiny_items old) put)) utf8_joined
+
+  pub chars_joined : text_chars (text_of new) ≡ text_chars t ++ chars put
+  chars_joined = ap chars made ∙ chars-append _ _ (text_utf8 old is) ∙ ap (λ (u : Text). text_chars u ++ chars put) same
+
+-- text was put in the place of the bytes from i up to j
+module _ {k : ℕ} (old new : Bytes k) (t : Text) (same : text_of old ≡ t) (is : IsText old) (i j : ℕ) (first : IsSplitPoint (tiny_items old) i)
+    (last : IsSplitPoint (tiny_items old) j) (put : List ℕ) (utf8 : IsUtf8 put) (made : tiny_items new ≡ take i (tiny_items old) ++ put ++ drop j (tiny_items old)) where
+  pub text_put : {exact : Bool} {need : ℕ} → j ≡ i → GetsRoom exact need (tiny_view old) (tiny_view new) → IsText new
+  text_put none room = text_grown old new _ room is made
+      (omega (arith, none, length-replaced i j put (tiny_items old) (omega (arith, none)) last.0)) (utf8_put (tiny_items old) (text_utf8 old is) i j first last put utf8)
+
+  pub chars_between : text_chars (text_of new) ≡ chars (take i t.bytes) ++ chars put ++ chars (drop j t.bytes)
+  chars_between = ap chars made ∙ chars_put (tiny_items old) (text_utf8 old is) i j first last put utf8
+      ∙ ap (λ (u : Text). chars (take i u.bytes) ++ chars put ++ chars (drop j u.bytes)) same
+
 -- a list that was made of a text's bytes
 pub text_made : {k : ℕ} (n : ℕ) (v : Bytes k) → IsUtf8 (tiny_items v) → (IsInline v → AreDefaults (λ b. b ≡ 0) n (tiny_spare v)) → IsText v
 text_made n (Inline v a) utf8 spare = (∣ utf8 ∣₁, (spare refl).1)
@@ -70,16 +101,12 @@ pub text_shrunk : {k : ℕ} (n : ℕ) (old new : Bytes k) → IsText old → tin
 text_shrunk n (Inline v a) new is items kept spare = subst IsText (sym (kept refl)) is
 text_shrunk {k} n (Heap v) new is items kept spare = text_made n new (subst IsUtf8 (sym items) (text_utf8 {k = k} (Heap v) is)) (spare refl)
 
--- the ends of a range are boundaries of the bytes
+-- the ends of a range, which was resolved to p and q, are boundaries of the bytes
 pub text_range : {k : ℕ} (v : Bytes k) (t : Text) → text_of v ≡ t → IsText v → (a : ℕ) (end : ℕ → ℕ) → a ≤ end (text_len t)
-    → IsBoundary (text_chars t) a → IsBoundary (text_chars t) (end (text_len t)) → CutsAt (tiny_items v) a (end (tiny_len v))
-text_range v t same is a end order first last =
-    let utf8 = text_utf8 v is in
-    record {
-      order = subst (λ (u : Text). a ≤ end (text_len u)) (sym same) order;
-      first = split_from_boundary (tiny_items v) utf8 a (subst (λ (u : Text). IsBoundary (text_chars u) a) (sym same) first);
-      last = split_from_boundary (tiny_items v) utf8 (end (tiny_len v)) (subst (λ (u : Text). IsBoundary (text_chars u) (end (text_len u))) (sym same) last);
-    }
+    → IsBoundary (text_chars t) a → IsBoundary (text_chars t) (end (text_len t)) → (p q n : ℕ) → p ≡ a → q ≡ end n → n ≡ tiny_len v → CutsAt (tiny_items v) p q
+text_range v t same is a end order first last p q n starts ends count =
+    let at : q ≡ end (text_len t) = ends ∙ ap end (count ∙ ap text_len same) in
+    rw (starts, at) (record { order = order; first = text_cut v t same is a first; last = text_cut v t same is (end (text_len t)) last })
 
 -- a call that made room did so for the text
 pub text_room : {k : ℕ} {X E : Type 0} (exact : Bool) (need : ℕ) (old new : Bytes k) (r : Result X E) → MakesRoom exact need (tiny_view old) (tiny_view new) r

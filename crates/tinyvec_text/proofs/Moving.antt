@@ -1,7 +1,7 @@
 -- Bytes that are moved within a list, block by block.
-use Rattle.std.proofs.Common.{◌≡◌, ℕ, ◌+◌, ◌-◌, ◌≤◌, List, ◌++◌, length, take, drop, sym, ap, ◌∙◌, arith, append_assoc, take-append-drop, take-add, length-append, length-take-le, length-drop, take_at, drop_at}
+use Rattle.std.proofs.Common.{◌≡◌, ℕ, ◌+◌, ◌-◌, ◌≤◌, List, [], ◌++◌, length, take, drop, sym, ap, ◌∙◌, arith, append_assoc, append-nil, take_all, take-append-drop, take-add, length-append, length-take-le, length-drop, take_at, drop_at}
 use Rattle.std.proofs.Math.Seq.{take-take, take-append-le, drop-append-le}
-use Rattle.std.proofs.lemmas.List.{drop-drop, drop-take}
+use Rattle.std.proofs.lemmas.List.{drop-drop, drop-take, drop_all}
 use Rattle.tinyvec_text.proofs.Filters.{CopiedDown}
 
 -- a block of k bytes was copied from one place of `bs` to another
@@ -55,6 +55,13 @@ pub inserted : (xs zs bs ys : List ℕ) (i n : ℕ) → i ≤ length xs → n �
 inserted xs zs bs ys i n le e is =
     let size : length (drop i xs) ≡ n = length-drop i xs ∙ sym e in
     rw (is, take-append-le i xs zs le, drop-append-le i xs zs le, take_at (drop i xs) zs n size)
+
+-- what was put in at the end
+pub at_end : (xs bs : List ℕ) (n : ℕ) → n ≡ length xs → take n xs ++ bs ++ drop n xs ≡ xs ++ bs
+at_end xs bs n at =
+    let front : take n xs ≡ xs = take_all n xs (omega (arith, at)) in
+    let none : drop n xs ≡ [] = drop_all n xs (omega (arith, at)) in
+    rw (front, none, append-nil (xs ++ bs))
 
 -- ys is xs and n bytes of zs, over which the n bytes at i were written
 pub repeated : (xs zs ys : List ℕ) (i l n : ℕ) → l ≡ length xs → i + n ≤ length xs → n ≤ length zs → ys ≡ xs ++ take n zs

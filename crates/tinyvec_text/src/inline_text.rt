@@ -126,15 +126,6 @@ impl<const N: usize> InlineText<N> {
         self.list.capacity()
     }
 
-    // Tells a proof that the text fits, and that an inline one has the room of the array.
-    #[inline(always)]
-    fn knows_room(&self)
-        ensures fits { text_len self.now ≤ capacity_in self.now.place }
-        ensures inline_capacity { IsTrue (lies_inline self.now.place) → capacity_in self.now.place ≡ N }
-    {
-        let _room = self.capacity();
-    }
-
     /// The text.
     // The bytes are checked at each call: no call of std takes bytes for text without a look at them and is safe.
     pub fn as_str(&self) -> &str

@@ -241,11 +241,7 @@ fn insert_on_heap(heap: &mut Vec<u8>, index: usize, bytes: &[u8])
     ensures { HeapBecomes heap.old heap.new (take index heap.old.items ++ bytes.now ++ drop index heap.old.items) }
 {
     let behind = heap.len() - index;
-    if bytes.len() < 16 {
-        append_few(heap, bytes);
-    } else {
-        append_many(heap, bytes);
-    }
+    append_on_heap(heap, bytes, false);
     put_before(heap.as_mut_slice(), index, behind, bytes, bytes.len());
 }
 
@@ -330,14 +326,7 @@ pub fn push_bytes<const N: usize>(
     match list {
         TinyVec::Inline(v, _) if bytes.len() <= v.capacity() - v.len() => append_inline(v, bytes),
         TinyVec::Heap(v) if v.len() + bytes.len() <= v.capacity() => {
-            // Fewer bytes are worth no call.
-            if 16 <= bytes.len() {
-                append_many(v, bytes);
-            } else if each {
-                append_each(v, bytes);
-            } else {
-                append_few(v, bytes);
-            }
+            append_on_heap(v, bytes, each);
         }
         _ => return push_slow(list, bytes),
     }
@@ -454,18 +443,18 @@ fn repeat_block(heap: &mut Vec<u8>, start: usize, count: usize)
 {
     let mut block = [0; BLOCK];
     block[..count].copy_from_slice(&heap.as_slice()[start..start + count]);
-    push_block(heap, &block, count);
+    append_few(heap, &block[..count]);
 }
 
-/// Appends `bytes` to a list that has room.
+/// Appends `bytes` to a list that has room. `each` is as of `push_bytes`.
 #[inline(always)]
-pub fn append_bytes<const N: usize>(list: &mut TinyVec<[u8; N]>, bytes: &[u8])
+pub fn append_bytes<const N: usize>(list: &mut TinyVec<[u8; N]>, bytes: &[u8], each: bool)
     requires { tiny_len list.old + length bytes.now ≤ tiny_capacity list.old }
     ensures { Becomes (λ b. b ≡ 0) (tiny_view list.old) (tiny_view list.new) (tiny_items list.old ++ bytes.now) }
 {
     match list {
         TinyVec::Inline(v, _) => append_inline(v, bytes),
-        _ => append_on_heap(list, bytes),
+        TinyVec::Heap(heap) => append_on_heap(heap, bytes, each),
     }
 }
 
@@ -480,7 +469,7 @@ fn push_slow<const N: usize>(list: &mut TinyVec<[u8; N]>, bytes: &[u8]) -> Resul
     ensures inline_capacity { IsInline list.old → tiny_capacity list.old ≡ N }
 {
     list.reserve(bytes.len())?;
-    append_bytes(list, bytes);
+    append_bytes(list, bytes, false);
     Ok(())
 }
 
@@ -493,9 +482,7 @@ fn append_inline<const N: usize>(v: &mut ArrayVec<[u8; N]>, bytes: &[u8])
     ensures slot_count { length (all_slots v.new) ≡ length (all_slots v.old) }
 {
     let len = v.len();
-    let end = bytes.len();
-    write_over(&mut v.grab_spare_slice_mut()[0..end], bytes, N);
-    v.set_len(len + end);
+    insert_inline(v, len, bytes);
 }
 
 // Writes `bytes` over as many, which are not more than `most`. Up to 64 go by two blocks that overlap.
@@ -566,25 +553,25 @@ fn write_ends<const W: usize>(to: &mut [u8], bytes: &[u8])
     *back = *last;
 }
 
-// Appends `bytes` to a list on the heap that has room. A call of its own, so that each push is short.
-#[inline(never)]
-fn append_on_heap<const N: usize>(list: &mut TinyVec<[u8; N]>, bytes: &[u8])
-    requires place { is_inline list.old ≡ false }
-    requires room { tiny_len list.old + length bytes.now ≤ tiny_capacity list.old }
-    ensures { Becomes (λ b. b ≡ 0) (tiny_view list.old) (tiny_view list.new) (tiny_items list.old ++ bytes.now) }
+// Appends `bytes` to a list on the heap that has room. `each` is as of `push_bytes`.
+#[inline(always)]
+fn append_on_heap(heap: &mut Vec<u8>, bytes: &[u8], each: bool)
+    requires room { vec_len heap.old + length bytes.now ≤ vec_capacity heap.old }
+    ensures { HeapBecomes heap.old heap.new (heap.old.items ++ bytes.now) }
 {
-    let TinyVec::Heap(heap) = list else {
-        unreachable!();
-    };
-    // So few bytes are worth no `memmove`.
-    if bytes.len() < 16 {
-        append_few(heap, bytes);
+    // Fewer bytes are worth no call.
+    if 16 <= bytes.len() {
+        append_many(heap, bytes);
         return;
     }
-    append_many(heap, bytes);
+    if each {
+        append_each(heap, bytes);
+        return;
+    }
+    append_few(heap, bytes);
 }
 
-// Appends a few bytes.
+// Appends a few bytes, or a block, by way of a local variable, whose length and pointer LLVM keeps in registers.
 #[inline(always)]
 fn append_few(heap: &mut Vec<u8>, bytes: &[u8])
     requires room { vec_len heap.old + length bytes.now ≤ vec_capacity heap.old }
@@ -592,14 +579,7 @@ fn append_few(heap: &mut Vec<u8>, bytes: &[u8])
 {
     let mut vec = mem::replace(heap, Vec::new(*heap.allocator()));
     append_each(&mut vec, bytes);
-    put_back(heap, vec);
-}
-
-// Puts the vector back to where it was. An empty one is there, which LLVM leaves out if it is not dropped.
-#[inline(always)]
-fn put_back(heap: &mut Vec<u8>, vec: Vec<u8>)
-    ensures { heap.new ≡ vec }
-{
+    // LLVM leaves out the empty vector that was there if it is not dropped.
     mem::forget(mem::replace(heap, vec));
 }
 
@@ -651,19 +631,5 @@ fn append_block(heap: &mut Vec<u8>, bytes: &[u8])
     let mut block = [0; BLOCK];
     let count = bytes.len();
     block[..count].copy_from_slice(bytes);
-    push_block(heap, &block, count);
-}
-
-// Appends the first `count` bytes of a block, by way of a local variable, whose length and pointer LLVM keeps in registers.
-#[inline(always)]
-fn push_block(heap: &mut Vec<u8>, block: &[u8; BLOCK], count: usize)
-    requires few { count ≤ length block.now }
-    requires room { vec_len heap.old + count ≤ vec_capacity heap.old }
-    ensures { HeapBecomes heap.old heap.new (heap.old.items ++ take count block.now) }
-{
-    let mut vec = mem::replace(heap, Vec::new(*heap.allocator()));
-    for i in 0..count {
-        vec.push_reserved(block[i]);
-    }
-    put_back(heap, vec);
+    append_few(heap, &block[..count]);
 }

@@ -40,7 +40,7 @@ impl<const N: usize> InlineText<N> {
         requires { text_len self.old + length string.now ≤ capacity_in self.old.place }
         ensures { TextBecomes self.old self.new (self.old.bytes ++ string.now) (text_chars self.old ++ chars string.now) }
     {
-        append_bytes(&mut self.list, string.as_bytes());
+        append_bytes(&mut self.list, string.as_bytes(), true);
     }
 
     /// Appends `ch` to a text that has room. It allocates nothing, so it cannot fail.

@@ -32,7 +32,7 @@ impl<const N: usize> Extend<char> for InlineText<N> {
         ensures known { (cs : List ℕ) → IntoIterYields U.into_iter_gives U.IntoIter.next_gives iter cs
             → text_len self.old + length (encode_utf8_all cs) ≤ capacity_in self.old.place → IsOk result }
     {
-        self.knows_room();
+        let _room = self.capacity();
         let mut rest = iter.into_iter();
         while let Some(c) = rest.next() {
             self.push(c)?;
@@ -65,7 +65,7 @@ impl<'a, const N: usize> Extend<&'a str> for InlineText<N> {
         ensures known { (xs : _) → IntoIterYields U.into_iter_gives U.IntoIter.next_gives iter xs
             → text_len self.old + length (flat_map (λ x. x.now) xs) ≤ capacity_in self.old.place → IsOk result }
     {
-        self.knows_room();
+        let _room = self.capacity();
         let mut rest = iter.into_iter();
         while let Some(s) = rest.next() {
             self.push_str(s)?;

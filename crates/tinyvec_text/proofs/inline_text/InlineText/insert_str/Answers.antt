@@ -1,9 +1,5 @@
-use Rattle.std.proofs.Common.{◌≡◌, ◌++◌, IsUtf8, ap, sym, subst, ◌∙◌, chars, length, take, drop, le_refl, arith, rules}
-use Rattle.tinyvec_slots.proofs.Lists.{length-replaced}
-use Rattle.tinyvec.proofs.TinyLemmas.{used_rule}
-use Rattle.tinyvec.specs.TinyVec.{tiny_items, tiny_view}
-use Rattle.tinyvec_text.proofs.Boundaries.{utf8_put, chars_put}
-use Rattle.tinyvec_text.proofs.Lists.{text_utf8, text_cut, text_kept, text_same}
+use Rattle.std.proofs.Common.{◌++◌, ap, ◌∙◌, chars, take, drop, refl, rules}
+use Rattle.tinyvec_text.proofs.Lists.{text_cut, text_same, text_put, chars_between}
 use Rattle.tinyvec_text.proofs.inline_text.InlineText.insert_str.Goals as goal
 
 pub put_bytes-requires : goal.put_bytes-requires
@@ -14,23 +10,14 @@ invariant_of-self g c = text_same c.self.inside.list c.put_bytes.new.list c.in_e
 
 pub invariant_of-self-2 : goal.invariant_of-self-2
 invariant_of-self-2 g c =
-    let list = c.self.inside.list in
-    let bs = tiny_items list in
-    let i = c.args.index in
-    let cut = text_cut list c.args.self.now c.self.view_is c.self.invariant i c.requires in
-    let put = c.as_bytes.result.now in
-    let room = c.in_ok-put_bytes.ensures.room in
-    let is : tiny_items c.put_bytes.new.list ≡ take i bs ++ put ++ drop i bs = search rules in
-    text_kept list c.put_bytes.new.list (λ j. (room.gets.place.0 j).0) (used_rule (λ b. b ≡ 0) (tiny_view list) (tiny_view c.put_bytes.new.list) (omega (arith, ap length is, length-replaced i i put bs (le_refl i) cut.0)) room.gets.spare) c.self.invariant
-    (subst IsUtf8 (sym is) (utf8_put bs (text_utf8 list c.self.invariant) i i cut cut put c.as_bytes.ensures.utf8))
+    let cut = text_cut c.self.inside.list c.args.self.now c.self.view_is c.self.invariant c.args.index c.requires in
+    text_put c.self.inside.list c.put_bytes.new.list c.args.self.now c.self.view_is c.self.invariant c.args.index c.args.index cut cut c.as_bytes.result.now
+    c.as_bytes.ensures.utf8 (search rules) refl c.in_ok-put_bytes.ensures.room.gets
 
 pub returns-clause-text : goal.returns-clause-text
 returns-clause-text g c =
-    let list = c.self.inside.list in
-    let bs = tiny_items list in
+    let bs = c.args.self.now.bytes in
     let i = c.args.index in
-    let cut = text_cut list c.args.self.now c.self.view_is c.self.invariant i c.requires in
-    let put = c.as_bytes.result.now in
-    let is : tiny_items c.put_bytes.new.list ≡ take i bs ++ put ++ drop i bs = search rules in
-    ap chars is ∙ chars_put bs (text_utf8 list c.self.invariant) i i cut cut put c.as_bytes.ensures.utf8
-    ∙ (λ j. chars (take i (c.self.view_is j).bytes) ++ chars (c.as_bytes.ensures.value j) ++ chars (drop i (c.self.view_is j).bytes))
+    let cut = text_cut c.self.inside.list c.args.self.now c.self.view_is c.self.invariant i c.requires in
+    chars_between c.self.inside.list c.put_bytes.new.list c.args.self.now c.self.view_is c.self.invariant i i cut cut c.as_bytes.result.now
+    c.as_bytes.ensures.utf8 (search rules) ∙ ap (λ put. chars (take i bs) ++ chars put ++ chars (drop i bs)) c.as_bytes.ensures.value

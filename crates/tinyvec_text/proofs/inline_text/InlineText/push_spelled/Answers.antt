@@ -1,11 +1,8 @@
-use Rattle.std.proofs.Common.{◌≡◌, ◌++◌, ◌∷◌, [], IsUtf8, ap, sym, subst, ◌∙◌, chars, length, length-append, arith, rules}
-use Rattle.tinyvec.proofs.TinyLemmas.{used_rule}
-use Rattle.std.specs.Char.{IsScalar}
-use Rattle.std.proofs.lemmas.Str.{IsUtf8-append, IsUtf8-encode, chars-append}
-use Rattle.tinyvec.specs.TinyVec.{tiny_items, tiny_view}
-use Rattle.tinyvec_text.specs.InlineText.{Text, text_chars}
+use Rattle.std.proofs.Common.{◌++◌, IsUtf8, ap, sym, subst, ◌∙◌, rules}
+use Rattle.std.proofs.lemmas.Str.{IsUtf8-encode}
+use Rattle.tinyvec_text.specs.InlineText.{text_chars}
 use Rattle.tinyvec_text.proofs.Boundaries.{chars_of_one}
-use Rattle.tinyvec_text.proofs.Lists.{text_utf8, text_kept, text_same}
+use Rattle.tinyvec_text.proofs.Lists.{text_same, text_joined, chars_joined}
 use Rattle.tinyvec_text.proofs.inline_text.InlineText.push_spelled.Goals as goal
 
 pub invariant_of-self : goal.invariant_of-self
@@ -13,19 +10,12 @@ invariant_of-self g c = text_same c.self.inside.list c.push_bytes.new.list c.in_
 
 pub invariant_of-self-2 : goal.invariant_of-self-2
 invariant_of-self-2 g c =
-    let list = c.self.inside.list in
-    let joined : tiny_items c.push_bytes.new.list ≡ tiny_items list ++ c.args.bytes.now = search rules in
-    let scalar : IsScalar c.args.c = search rules in
-    let put = subst IsUtf8 c.requires (IsUtf8-encode c.args.c scalar) in
-    let room = c.in_ok-push_bytes.ensures.room in
-    text_kept list c.push_bytes.new.list (λ i. (room.gets.place.0 i).0) (used_rule (λ b. b ≡ 0) (tiny_view list) (tiny_view c.push_bytes.new.list) (omega (arith, ap length joined, length-append (tiny_items list) c.args.bytes.now)) room.gets.spare) c.self.invariant
-    (subst IsUtf8 (sym joined) (IsUtf8-append _ _ (text_utf8 list c.self.invariant) put))
+    let put = subst IsUtf8 c.requires (IsUtf8-encode c.args.c (search rules)) in
+    text_joined c.self.inside.list c.push_bytes.new.list c.args.self.now c.self.view_is c.self.invariant c.args.bytes.now put (search rules)
+    c.in_ok-push_bytes.ensures.room.gets
 
 pub returns-clause-text : goal.returns-clause-text
 returns-clause-text g c =
-    let list = c.self.inside.list in
-    let joined : tiny_items c.push_bytes.new.list ≡ tiny_items list ++ c.args.bytes.now = search rules in
-    let scalar : IsScalar c.args.c = search rules in
-    let put = subst IsUtf8 c.requires (IsUtf8-encode c.args.c scalar) in
-    ap chars joined ∙ chars-append _ _ (text_utf8 list c.self.invariant)
-    ∙ ap (λ cs. chars (tiny_items list) ++ cs) (chars_of_one _ c.args.c put (sym c.requires)) ∙ ap (λ (t : Text). text_chars t ++ c.args.c ∷ []) c.self.view_is
+    let put = subst IsUtf8 c.requires (IsUtf8-encode c.args.c (search rules)) in
+    chars_joined c.self.inside.list c.push_bytes.new.list c.args.self.now c.self.view_is c.self.invariant c.args.bytes.now put (search rules)
+    ∙ ap (λ cs. text_chars c.args.self.now ++ cs) (chars_of_one _ c.args.c put (sym c.requires))
