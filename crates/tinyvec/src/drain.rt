@@ -60,7 +60,7 @@ impl<A: Array> TinyVec<A> {
     }
 }
 
-// The items of a drain's range lie in the list until it ends.
+// The items of a drain's range stay in the list until it ends.
 impl<A: Array> CanDrain for TinyVec<A> {
     ghost use Rattle.tinyvec.specs.FrameLaws.{FrameOf};
     ghost use Rattle.tinyvec.specs.SpliceLaws.{frame_refl, frame_then};

@@ -64,11 +64,6 @@ view_of-at g v xs i = record { slots = g.slots_written v.slots xs i; len = g.cou
 pub slots-parts : {S T L : Type 0} (g : Storage.Ghosts S T L) (v : ArrayVec S L) → slots_of g v ≡ items_of g v ++ spare_of g v
 slots-parts g v = sym (take-append-drop (g.count v.len) (g.slots v.slots))
 
--- a list in as many slots fits them
-pub still_fits : {S T L : Type 0} (g : Storage.Ghosts S T L) (v w : ArrayVec S L) (n : ℕ) → len_of g v + length (spare_of g v) ≡ n
-    → SameLender g v w → len_of g w ≤ n
-still_fits g v w n sum same = omega (arith, sum, parts_of g v, parts_of g w, same.slot_count)
-
 -- a call, or two one after the other, keeps to the same slots
 module _ {S T L : Type 0} (g : Storage.Ghosts S T L) where
   pub same_lender : (v : ArrayVec S L) → SameLender g v v

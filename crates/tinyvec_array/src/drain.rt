@@ -53,7 +53,7 @@ where
     }
 }
 
-// The items of a drain's range lie in the first spare slots.
+// The items of a drain's range are in the first spare slots.
 impl<S: Slots> CanDrain for ArrayVec<S>
 where
     S::Item: Default,

@@ -25,7 +25,7 @@ module _ {V T : Type 0} (g : CanDrain.Ghosts V T) where
   abbrev pub drain_items : Drain V T → List T
   drain_items d = slice_range (g.held d.vec.now) d.front d.back
 
-  -- what lies before and after the range, where its items lie
+  -- what precedes and follows the range in what holds its items
   abbrev pub drain_others : Drain V T → List T
   drain_others d = remove_range (g.held d.vec.now) d.start (d.start + d.gap)
 
@@ -61,7 +61,7 @@ module _ {V T : Type 0} (g : CanDrain.Ghosts V T) where
       (word : List End) (answers : List (Option T)) (later : Drain V T) → RunsWord DrainSteps DrainStepsBack d word answers later
       → TakesFromEnds (drain_items d) word answers (drain_items later) × DrainKeeps d later
 
-  -- d yields xs in order, which lie among `others` in the vector that v refers to. Once it is dropped, `After` holds of that.
+  -- d yields xs in order. What holds them, in the vector of v, has `others` around them. Once d is dropped, `After` holds of the vector.
   pub record DrainBegins (v : MutBor V) (xs others : List T) (After : V → Type 0) (d : Drain V T) : Type 0 where
     pub rest : drain_items d ≡ xs
     pub len : drain_len d ≡ length (drain_items d)

@@ -7,7 +7,7 @@ pub trait CanDrain {
     /// What the list holds.
     type Item: Default + Drop;
 
-    // What the items of the range lie in until they are taken: the list, or spare slots.
+    // What has the items of the range until they are taken: the list, or the spare slots.
     ghost held: { Self → List Self.Item };
 
     // What it leaves of all else when one of them is taken.
@@ -23,7 +23,7 @@ pub trait CanDrain {
     fn drain_name() -> &'static str
         ensures { result.now ≡ drain_word };
 
-    /// What the items of the range lie in.
+    /// What has the items of the range until they are taken.
     fn as_held(&self) -> &[Self::Item]
         ensures { result.now ≡ held self.now };
 

@@ -1,19 +1,10 @@
 -- Examples of a drain d of `[1, 2, 3, 4]` over 1..3, from which nothing was taken, and of one e that a call leaves.
-use Rattle.std.proofs.Common.{◌≡◌, ℕ, List, [], ◌∷◌, ◌++◌, Some, refl, rules}
+use Rattle.std.proofs.Common.{◌≡◌, ℕ, [], ◌∷◌, ◌++◌, Some, refl, rules}
 use Rattle.std.specs.Borrow.{MutBor}
 use Rattle.tinyvec_slots.specs.Ends.{RunsWord, TakesFromEnds, front, back}
 use Rattle.tinyvec_slots.specs.Drain.{drain_items, drain_len, drain_others, drain_vec, drain_lender, DrainCanStep, DrainLeaves, DrainSteps, DrainStepsBack, DrainsFromEnds, DrainBegins}
 use Rattle.tinyvec_slots.specs.declared.can_drain.CanDrain as CanDrain
 use Rattle.tinyvec_slots.specs.declared.drain.Drain.{Drain}
-use Rattle.tinyvec_array.proofs.Named.{array_slots}
-use Rattle.tinyvec_array.specs.ArrayVec.{spare}
-use Rattle.tinyvec_array.specs.DrainLaws.{drain_of}
-use Rattle.tinyvec_array.specs.declared.bound.UpTo.{UpTo}
-use Rattle.tinyvec_array.specs.declared.array_vec.ArrayVec.{ArrayVec}
-use Rattle.tinyvec.specs.TinyVec.{tiny_items}
-use Rattle.tinyvec.specs.DrainLaws.{tiny_drain_of}
-use Rattle.tinyvec.specs.declared.tiny_vec.TinyVec.{TinyVec}
-use Rattle.tinyvec_examples.proofs.words.Shown.{D}
 
 -- of any vector that a drain takes from
 module _ {V : Type 0} (G : CanDrain.Ghosts V ℕ) (d e : Drain V ℕ) (v : V) (vec : d.vec.now ≡ v) (held : G.held v ≡ 1 ∷ 2 ∷ 3 ∷ 4 ∷ []) (start : d.start ≡ 1) (gap : d.gap ≡ 2) (first : d.front ≡ 1) (last : d.back ≡ 3) where
@@ -49,9 +40,3 @@ module _ {V : Type 0} (G : CanDrain.Ghosts V ℕ) (d e : Drain V ℕ) (v : V) (v
 
   pub example-DrainBegins : (old : MutBor V) (After : V → Type 0) → DrainBegins G old (2 ∷ 3 ∷ []) (1 ∷ 4 ∷ []) After d → drain_items G d ≡ 2 ∷ 3 ∷ []
   example-DrainBegins old After h = h.rest
-
-pub example-drain_of : (v : ArrayVec (List ℕ) (UpTo 5)) → (drain_of (array_slots 5) D).held v ≡ spare v
-example-drain_of v = refl
-
-pub example-tiny_drain_of : (v : TinyVec (List ℕ) ℕ (UpTo 5)) → (tiny_drain_of (array_slots 5) D).held v ≡ tiny_items v
-example-tiny_drain_of v = refl

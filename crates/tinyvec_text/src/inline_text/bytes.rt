@@ -229,7 +229,7 @@ fn insert_inline<const N: usize>(v: &mut ArrayVec<[u8; N]>, index: usize, bytes:
 {
     let len = v.len();
     v.set_len(len + bytes.len());
-    // The minimum is all that is behind, which LLVM does not know.
+    // The minimum is all that follows, which LLVM does not know.
     put_before(v.as_mut_slice(), index, N.min(len - index), bytes, N);
 }
 
