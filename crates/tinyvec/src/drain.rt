@@ -15,7 +15,6 @@ pub type TinyVecDrain<'a, A> = Drain<'a, TinyVec<A>>;
 
 impl<A: Array> TinyVec<A> {
     ghost use Rattle.tinyvec_slots.specs.Drain.{DrainBegins, drain_vec};
-    ghost use Rattle.tinyvec.specs.DrainLaws.{tiny_drain_of};
 
     /// Removes the range, and yields its items from both ends. The items after the range move down when the drain is
     /// dropped.
@@ -26,7 +25,7 @@ impl<A: Array> TinyVec<A> {
     pub fn drain<R: RangeBounds<usize>>(&mut self, range: R) -> TinyVecDrain<'_, A>
         requires not_exhausted { R.has_bounds range }
         requires in_list { IsRangeOf (tiny_items_of A.Slots self.old) (R.start_bound range) (R.end_bound range) }
-        ensures begins { DrainBegins (tiny_drain_of A.Slots A.Item.is_default) self.entry
+        ensures begins { DrainBegins ⟦<TinyVec<A> as CanDrain>⟧ self.entry
             (removed (tiny_items_of A.Slots self.old) (R.start_bound range) (R.end_bound range))
             (before (tiny_items_of A.Slots self.old) (R.start_bound range)
             ++ after (tiny_items_of A.Slots self.old) (R.end_bound range))

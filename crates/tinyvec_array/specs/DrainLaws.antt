@@ -23,10 +23,10 @@ module _ {S T L : Type 0} (g : Storage.Ghosts S T L) where
   )
 
   module _ (D : T → Type 0) where
-    -- these slots, if they are the first, hold defaults before the other spare ones
+    -- the slots of the range, if they are the first spare ones, hold defaults before the others
     abbrev pub DrainEnded : ℕ → ℕ → ArrayVec S L → ArrayVec S L → Type 0
-    DrainEnded start gap old new = start ≡ 0 → gap ≤ length (spare_of g old) → DrainKept old new
-        × ((ds : List T) × AreDefaults D gap ds × (spare_of g new ≡ ds ++ drop gap (spare_of g old)))
+    DrainEnded start gap old new = DrainKept old new × (start ≡ 0 → gap ≤ length (spare_of g old)
+        → (ds : List T) × AreDefaults D gap ds × (spare_of g new ≡ ds ++ drop gap (spare_of g old)))
 
     -- what `CanDrain` says of the vector
     abbrev pub drain_of : CanDrain.Ghosts (ArrayVec S L) T
@@ -35,10 +35,11 @@ module _ {S T L : Type 0} (g : Storage.Ghosts S T L) where
     pub drain_kept_ended : (start gap : ℕ) (u v w : ArrayVec S L) → DrainKept u v → length (spare_of g v) ≡ length (spare_of g u)
         → remove_range (spare_of g v) start (start + gap) ≡ remove_range (spare_of g u) start (start + gap)
         → DrainEnded start gap v w → DrainEnded start gap u w
-    drain_kept_ended start gap u v w kept long others ended first fits =
-        let left = ended first (omega (arith, long, fits)) in
-        let all : 0 + gap ≡ gap = omega arith in
-        let behind : drop gap (spare_of g v) ≡ drop gap (spare_of g u) = rw (first, all) at others in (
-          drain_kept_then u v w kept left.0,
-          (left.1.0, left.1.1, left.1.2 ∙ ap (λ xs. left.1.0 ++ xs) behind),
-        )
+    drain_kept_ended start gap u v w kept long others ended = (
+      drain_kept_then u v w kept ended.0,
+      λ first fits.
+          let left = ended.1 first (omega (arith, long, fits)) in
+          let all : 0 + gap ≡ gap = omega arith in
+          let behind : drop gap (spare_of g v) ≡ drop gap (spare_of g u) = rw (first, all) at others in
+          (left.0, left.1, left.2 ∙ ap (λ xs. left.0 ++ xs) behind),
+    )

@@ -22,7 +22,6 @@ where
     S::Item: Default,
 {
     ghost use Rattle.tinyvec_slots.specs.Drain.{DrainBegins, drain_vec};
-    ghost use Rattle.tinyvec_array.specs.DrainLaws.{drain_of};
 
     /// Removes the range, and yields its items from both ends. The items after the range move down at the call. A caller
     /// that names an array or is generic over `Slots` knows what the vector holds afterwards; one that names `SliceVec`
@@ -32,7 +31,7 @@ where
     pub fn drain<R: RangeBounds<usize>>(&mut self, range: R) -> ArrayVecDrain<'_, S>
         requires not_exhausted { R.has_bounds range }
         requires in_list { IsRangeOf (items_of S.Slots self.old) (R.start_bound range) (R.end_bound range) }
-        ensures begins { DrainBegins (drain_of S.Slots S.Item.is_default) self.entry
+        ensures begins { DrainBegins ⟦<ArrayVec<S> as CanDrain>⟧ self.entry
             (removed (items_of S.Slots self.old) (R.start_bound range) (R.end_bound range)) (spare_of S.Slots self.old)
             (λ v. Loses S.Slots S.Item.is_default
             (length (removed (items_of S.Slots self.old) (R.start_bound range) (R.end_bound range))) self.old v

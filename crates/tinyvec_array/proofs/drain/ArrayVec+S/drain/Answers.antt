@@ -101,10 +101,10 @@ returns-clause-begins g c =
     let fits : n - 0 ≤ length spare = omega (arith, cut.2) in
     begins_as (drain_of g.S.Slots g.S.Item.Default.is_default) _ c.args.self _ _ _ _ _ _ c.drain_held.result c.drain_held.ensures.begins refl (ap (λ m. take m spare) none ∙ cut.0) behind
     (λ u ended.
-    let left = ended refl fits in record {
-      lender = record { same_reference = left.0.0.same_reference ∙ same.same_reference; slot_count = left.0.0.slot_count ∙ same.slot_count };
-      items = left.0.1 ∙ cut.3;
-      spare = (left.1.0, (left.1.1.0 ∙ none ∙ sym cut.1, left.1.1.1), left.1.2 ∙ ap (λ m. left.1.0 ++ drop m spare) none ∙ ap (λ xs. left.1.0 ++ xs) behind);
+    let left = ended.1 refl fits in record {
+      lender = record { same_reference = ended.0.0.same_reference ∙ same.same_reference; slot_count = ended.0.0.slot_count ∙ same.slot_count };
+      items = ended.0.1 ∙ cut.3;
+      spare = (left.0, (left.1.0 ∙ none ∙ sym cut.1, left.1.1), left.2 ∙ ap (λ m. left.0 ++ drop m spare) none ∙ ap (λ xs. left.0 ++ xs) behind);
     })
 
 pub returns-clause-lender : goal.returns-clause-lender
