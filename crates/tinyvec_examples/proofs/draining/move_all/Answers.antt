@@ -1,7 +1,8 @@
-use Rattle.std.proofs.Common.{◌++◌, ◌∷◌, [], length, sym, ap, ◌∙◌, arith, append_assoc, length-append}
+use Rattle.std.proofs.Common.{◌≡◌, rules, subst, ◌++◌, ◌∷◌, [], length, sym, ap, ◌∙◌, arith, append_assoc, length-append}
+use Rattle.std.proofs.Math.Seq.{drop-length}
 use Rattle.tinyvec_array.specs.ArrayVec.{items_of}
 use Rattle.tinyvec_array.specs.DrainLaws.{drain_of, drain_kept_then}
-use Rattle.tinyvec_slots.specs.Drain.{drain_items}
+use Rattle.tinyvec_slots.specs.Drain.{DrainKeeps, drain_items}
 use Rattle.tinyvec_array.proofs.ViewLemmas.{parts_of, SameLender-then}
 use Rattle.tinyvec_slots.proofs.DrainLemmas.{DrainKeeps-then}
 use Rattle.tinyvec_examples.proofs.draining.move_all.Goals as goal
@@ -28,3 +29,12 @@ loop-x-preserved g c =
       moved = inv.moved ∙ ap (λ l. to ++ l) step.0 ∙ sym (append_assoc to (c.in-Some.x ∷ []) rest) ∙ ap (λ l. l ++ rest) (sym c.push.ensures.items);
       lender = SameLender-then g.A.Slots c.args.to.now c.loop-x.to c.push.new.self inv.lender c.push.ensures.lender;
     }
+
+pub returns-clause-left : goal.returns-clause-left
+returns-clause-left g c =
+    let new = c.drop-x-iterator.new.self.0 in
+    let keeps = subst (λ d. DrainKeeps (drain_of g.A.Slots g.A.Item.Default.is_default) d c.loop-x.x-iterator) c.into_iter-x-iterator.ensures.into_iter_gives c.loop-x.invariant.keeps in
+    let lost = c.drain-x-items.ensures.begins.leaves new (keeps.leaves new (c.in-None.ensures.steps.1.leaves new c.drop-x-iterator.ensures)) in
+    let same = c.in-None.ensures.steps.1.same_reference ∙ keeps.same_reference in
+    let none : items_of g.A.Slots new ≡ [] = lost.items ∙ drop-length (items_of g.A.Slots c.args.from.now) in
+    search rules

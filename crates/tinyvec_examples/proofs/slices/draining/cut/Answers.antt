@@ -11,4 +11,4 @@ returns-clause-slot_rule g c =
     let start = range_start (g.R.RangeBounds.start_bound c.args.range) in
     let end = range_end (g.R.RangeBounds.end_bound c.args.range) (len_of g.B.Slots v) in
     let ruled = cut_slots g.B.Slots g.B.Item.Default.is_default v new start end c.requires.in_list.0 c.requires.in_list.1 (c.drain.ensures.begins.leaves new c.drop.ensures) in
-    search rules
+    (ruled.0, (search rules, ruled.1.1), search rules)
