@@ -1,4 +1,4 @@
-use Rattle.std.proofs.Common.{◌≡◌, ◌∷◌, [], Some, None, pos, get_or, slice_range, refl, ap, ◌∙◌, rules}
+use Rattle.std.proofs.Common.{◌≡◌, ◌∷◌, [], None, pos, get_or, slice_range, refl, ap, ◌∙◌, rules}
 use Rattle.tinyvec_slots.specs.Ends.{back, answered_by}
 use Rattle.tinyvec_slots.specs.Slots.{items_in}
 use Rattle.tinyvec_array.specs.ArrayVec.{all_slots}
