@@ -104,9 +104,8 @@ def inside(export):
 def of_the_kit():
     """The crates of the toolchain that the libraries use, each with its user."""
     known = crates.read_crates()
-    users = {name: known[name].row.partition(":")[2].split() for name in exports.LIBRARIES}
-    kit = {(it, name) for name, used in users.items() for it in used if it not in known}
-    return {(it, name) for it, name in kit if any(re.search(rf"^use {it}\b".encode(), text, re.M) for text in known[name].sources.values())}
+    kit = [(it, name, b"\n".join(known[name].sources.values())) for name in exports.LIBRARIES for it in known[name].of_kit]
+    return {(it, name) for it, name, text in kit if re.search(rf"^use {it}\b".encode(), text, re.M)}
 
 
 def is_told(line, found):

@@ -66,30 +66,22 @@ def faults():
         yield from crate.lost()
     unlisted = (it.parent.name for it in TOP.glob("crates/*/CALLING.md") if it.parent.name not in exports.LIBRARIES)
     yield from (f"crates/{it}: a library that scripts/reading/exports.py does not list" for it in unlisted)
-    for page, found in library.pages.items():
-        shown = " ".join(written[page].split())
-        yield from [f"docs/reference/{page}.md: more than {MOST} lines: give a section to its second page"] * (written[page].count("\n") > MOST)
-        for it in found:
-            marks = {name: it.mark(main_of(page) if main_of(name) == main_of(page) else None) for name in written}
-            places = [name for name, text in written.items() for _ in range(text.count(marks[name]))]
-            yield from [f"{it.source.path}: {it.key()} is on {len(places)} pages of docs/reference: {', '.join(places)}"] * (len(places) != 1)
-            yield from (f"{it.source.path}: not on {page}: {line}" for line in it.said() if line not in shown)
-            yield from (f"{it.source.path}: {it.key()}: a sentence without its end: {said[-60:]}" for said in it.prose() if not said.endswith((".", ":")))
-            if it.kind != "impl" and not it.item.comment:
-                yield f"{it.source.path}: {it.key()} has no `///`"
-            if it.key() in library.uncalled and not it.is_part:
-                yield f"docs/reference/{page}.md: no caller of {it.key()}: write one in crates/tinyvec_examples/src"
+    shown = {page: " ".join(text.split()) for page, text in written.items()}
+    for page, it in library.entries():
+        where, key = it.source.path, it.key()
+        yield from (f"{where}: not on {page}: {line}" for line in it.said() if line not in shown[page])
+        yield from (f"{where}: {key}: a sentence without its end: {said[-60:]}" for said in it.prose() if not said.endswith((".", ":")))
+        yield from [f"{where}: {key} has no `///`"] * (it.kind != "impl" and not it.item.comment)
+        if key in library.uncalled and not it.is_part:
+            yield f"docs/reference/{page}.md: no caller of {key}: write one in crates/tinyvec_examples/src"
     yield from exports.table_faults(COSTS, [it for it, _ in costs()], library.calls)
     yield from examples.faults(library.keys, library.calls)
-    sections = {it.section(main_of(page)) for page, found in library.pages.items() for it in found}
+    sections = {it.section(main_of(page)) for page, it in library.entries()}
     yield from (f"docs/reference/sections.txt: {it} is only there, or only on a page" for it in sorted(sections ^ set(SECTIONS)))
-    for page, found in library.pages.items():
-        for it in (it for it in found if it.key() in library.calls - library.uncalled - library.examples.keys()):
-            entry = written[page].partition(it.mark(main_of(page)))[2].partition("\n##")[0]
-            shown = re.search(r"\nA caller,[^\n]*\n\n```\n(.*?)\n```\n", entry, re.S)
-            is_short = not shown or shown[1].count("\n") < 2
-            yield from [f"docs/reference/{page}.md: {it.key()} shows fewer than three lines of a caller"] * is_short
-    yield from (f"docs/reference/{page}.md: {it}" for page, text in written.items() for it in said_twice(text))
+    yield from (f"{it} shows fewer than three lines of a caller" for it in sorted(library.short))
+    for page, text in written.items():
+        yield from [f"docs/reference/{page}.md: more than {MOST} lines: give a section to its second page"] * (text.count("\n") > MOST)
+        yield from (f"docs/reference/{page}.md: {it}" for it in said_twice(text))
     yield from wrong_errors(library)
     yield from (f"docs/DIFFERENCES.md: no such call: {it}" for it in library.notes if it not in library.keys)
     for cells in differences():
@@ -109,30 +101,13 @@ def said_twice(text):
 def wrong_errors(library):
     """Where the table of errors names other calls than those whose signature has the error."""
     above = (FOLDER / f"{INDEX}.md").read_text(encoding="utf-8").partition(MARK)[0]
-    rows = re.findall(r"^\| `(\w+)(?:<[^`]*)?` \| (.*?) \|", above, re.M)
-    entries = [it for found in library.pages.values() for it in found]
+    entries = [it for _, it in library.entries()]
     types = {it.name for it in entries if it.kind in ("struct", "enum")}
-    made = [it for it in entries if it.kind in ("fn", "method") and not it.is_part]
-    for error, cell in (it for it in rows if it[0] in types):
+    for error, cell in re.findall(r"^\| `(\w+)(?:<[^`]*)?` \| (.*?) \|", above, re.M):
+        made = (it for it in entries if it.kind in ("fn", "method") and not it.is_part)
         returning = {it.name for it in made if re.search(rf"-> .*\b{error}\b", it.item.signature())}
-        named = set(re.findall(r"`([a-z]\w+)`", cell))
-        yield from (f"docs/reference/{INDEX}.md: {error}: {it}" for it in sorted(returning ^ named))
-
-
-# Calls of one name that do different things.
-UNLIKE = ("as_inner", "as_mut_inner", "capacity", "drain", "from_slice", "split_off")
-
-
-def named():
-    """Calls of several vectors whose `///` begin with different sentences."""
-    library, found = Library(), {}
-    vectors = [main_of(it) for it in COLUMNS[:3]]
-    for it in (it for entries in library.pages.values() for it in entries if it.kind == "method" and it.of in vectors):
-        said = re.split(r"(?<=\.)\s", " ".join(it.item.comment))[0]
-        found.setdefault(it.name, {}).setdefault(said, it)
-    for name, said in found.items():
-        if len(said) > 1 and name not in UNLIKE:
-            yield "one call, two sentences: " + " ".join(f"{it.key()}: {text}" for text, it in said.items())
+        wrong = returning ^ set(re.findall(r"`([a-z]\w+)`", cell)) if error in types else ()
+        yield from (f"docs/reference/{INDEX}.md: {error}: {it}" for it in sorted(wrong))
 
 
 def main_of(page):
@@ -163,17 +138,19 @@ class Library:
         for it in (it for found in by_crate.values() for it in found):
             it.is_part = self.is_part(it)
         self.pages = {page: [it for it in by_crate[crate] if page_of(crate, it) == page] for page, (crate, _) in PAGES.items()}
-        self.keys = {it.key() for found in self.pages.values() for it in found}
+        self.keys = {it.key() for _, it in self.entries()}
         self.callers = {}
         for caller in callers.callers(callers.Known(self.crates)):
             for it in caller.calls:
                 self.callers[it] = min(self.callers.get(it, caller), caller, key=lambda one: len(one.text))
         self.uncalled = {it for it in self.keys if is_call(it)} - self.callers.keys()
-        self.calls = {it.key() for found in self.pages.values() for it in found if is_call(it.key()) and not it.is_part}
+        self.calls = {it.key() for _, it in self.entries() if is_call(it.key()) and not it.is_part}
         self.costs, self.examples = dict(costs()), dict(examples.examples())
-        self.notes = notes()
-        # Where a note is shown.
-        self.noted = {}
+        # Where a note is shown, and the calls of which few lines of a caller are.
+        self.notes, self.noted, self.short = notes(), {}, set()
+
+    def entries(self):
+        return [(page, it) for page, found in self.pages.items() for it in found]
 
     def is_part(self, entry):
         """Whether an export is what vectors are written with, and nothing for their users."""
@@ -188,10 +165,10 @@ class Library:
         calls, traits = {}, {}
         for page in COLUMNS:
             main = main_of(page)
-            shown = ((home, it) for home, found in self.pages.items() for it in found if not it.is_part)
-            for home, it in (pair for pair in shown if main == pair[1].of or main in pair[1].also and not pair[1].of.startswith("&")):
-                rows, name = (traits, it.trait) if it.trait else (calls, it.name)
-                rows.setdefault(name, {})[page] = f"[✓]({home}.md#{it.anchor(main_of(home))})"
+            for home, it in self.entries():
+                if not it.is_part and (main == it.of or main in it.also and not it.of.startswith("&")):
+                    rows, name = (traits, it.trait) if it.trait else (calls, it.name)
+                    rows.setdefault(name, {})[page] = f"[✓]({home}.md#{it.anchor(main_of(home))})"
         heads = " | ".join(f"[`{main_of(it)}`]({it}.md)" for it in COLUMNS)
         lines = []
         for title, rows in (("Call", calls), ("Trait", traits)):
@@ -264,12 +241,6 @@ class Entry(exports.Export):
             article = "a " * self.of.startswith("&")
             return f"`{self.trait}` for {article}`{self.of}`"
         return f"`{self.name}`" if self.of == main and self.of else f"`{self.key()}`"
-
-    def mark(self, main):
-        """What is once on the page of an export."""
-        if self.is_part:
-            return self.link()
-        return f'<a id="{self.anchor(main)}">' if self.is_row() else f"\n### {self.heading(main)}\n"
 
     def anchor(self, main):
         return anchor(self.heading(main))
@@ -512,11 +483,11 @@ class Page:
         yield from ["\n", *lines] if lines else ()
 
     def caller(self, it, caller):
-        if caller.text.count("\n") > LONGEST or caller.text in self.shown:
-            yield f"\nA caller, `{caller.name}` in {caller.link()}:\n\n```\n{caller.around(it.key())}\n```\n"
-        else:
-            self.shown.add(caller.text)
-            yield f"\nA caller, in {caller.link()}:\n\n```\n{caller.text}\n```\n"
+        is_part = caller.text.count("\n") > LONGEST or caller.text in self.shown
+        text, name = (caller.around(it.key()), f"`{caller.name}` ") if is_part else (caller.text, "")
+        self.shown |= {text} if not is_part else set()
+        self.library.short |= {f"docs/reference/{self.name}.md: {it.key()}"} if text.count("\n") < 2 else set()
+        yield f"\nA caller, {name}in {caller.link()}:\n\n```\n{text}\n```\n"
 
     def twin(self, it):
         """The entry above that has the same contract but for its name, as a call and its `try_` form, and what differs otherwise."""

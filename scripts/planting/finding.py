@@ -25,7 +25,8 @@ pub(crate) fn is(number: u32) -> bool {
 }
 """
 # Each crate has it, and of all in a program one is linked.
-CHOICE_IN_C = """#include <stdlib.h>
+CHOICE_IN_C = """char *getenv(const char *);
+int atoi(const char *);
 
 __attribute__((weak)) unsigned planted(void)
 {

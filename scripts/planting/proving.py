@@ -1,10 +1,10 @@
 """Which edits the prover refuses. One check tries many: it judges each function by the contracts of those that it calls, so
 an edit of a body hides none of another function."""
-import concurrent.futures
 import random
 import threading
 import time
 
+from building import running
 from . import checking, edits, functions
 
 # How many edits one check tries: more would leave cores idle at the end.
@@ -19,7 +19,6 @@ class Run:
         self.refused = {it: [] for it in checking.KINDS}
         self.survived, self.left = [], []
         self.rounds, self.desks = [], {}
-        self.libraries = checking.Libraries(room)
         # Only one crate or library is made ready at a time, with all jobs: more would need too much memory.
         self.guard, self.began, self.ended = threading.Lock(), time.monotonic(), 0
 
@@ -64,31 +63,22 @@ class Run:
             else:
                 do(batch)
 
-        with concurrent.futures.ThreadPoolExecutor(self.jobs) as pool:
-            try:
-                for it in [pool.submit(begin, batch) for batch in batches]:
-                    it.result()
-            except BaseException:
-                checking.running.stop()
-                pool.shutdown(cancel_futures=True)
-                raise
+        running.do_all([running.Step(lambda _, it=it: begin(it)) for it in batches], self.jobs)
 
     def desk(self, crate):
         """The crate's desk, where all that its edits change is proved as it stands."""
         if crate not in self.desks:
             with self.guard:
                 if crate not in self.desks:
-                    for one in self.crates[crate].below:
-                        self.require(one.name, self.libraries.add(one))
-                    desk = checking.Desk(self.crates[crate], self.libraries, self.room)
+                    lacking = [it for it in self.crates[crate].below if not it.is_built()]
+                    with running.lock(lacking):
+                        running.build_all(lacking)
+                    desk = checking.Desk(self.crates[crate], self.room)
                     said = desk.check({}, self.paths(it for it in self.owners if it.crate == crate), self.jobs, keeps=True)
-                    self.require(crate, None if said.is_proved else said)
+                    if not said.is_proved:
+                        raise SystemExit(f"mutants: {crate} is not proved as it stands: {said.first_error()}")
                     self.desks[crate] = desk
         return self.desks[crate]
-
-    def require(self, crate, wrong):
-        if wrong:
-            raise SystemExit(f"mutants: {crate} is not proved as it stands: {wrong.first_error()}")
 
     def paths(self, batch):
         return sorted({it.path() for edit in batch for it in self.owners[edit]})
