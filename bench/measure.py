@@ -107,7 +107,7 @@ def measure_growth(effort, is_kept):
     print(f"Times are the least of {effort.growth_runs} runs, of tv of {effort.length_runs}.\n")
     plots.print_all(grown, *lines)
     if is_kept:
-        plots.draw(TOP / "docs/pictures", grown, *lines)
+        plots.draw(grown, *lines)
 
 
 main()
