@@ -1,11 +1,12 @@
-"""Writes the reference, docs/reference/*.md: all that the library crates export, with contracts, callers and what differs in Rust.
+"""Writes the reference, docs/reference/*.md: all that the library crates export, with contracts, callers and differences of Rust's.
 
-`tests/docs` names the pages that differ from what this would write or have more than MOST lines, exports that are on no page or
-on two, comments that are missing, and calls without a caller. What precedes the line MARK of a page is written by hand.
+`tests/docs` names the pages that differ from what this would write or have more than MOST lines, comments that are missing, and
+calls without a caller. What precedes the line MARK of a page is written by hand.
 """
 import functools
 import re
 
+from building.crates import text_of
 from pages import examples, outcomes
 from reading import callers, exports
 from reading.exports import PAGES
@@ -17,23 +18,18 @@ MARK = "<!-- scripts/pages/reference.py writes what follows -->"
 
 # A page has at most so many lines.
 MOST = 2000
-
 # The page of the table of calls, and the types that it has.
 INDEX = "README"
 COLUMNS = ("ARRAY_VEC", "SLICE_VEC", "TINY_VEC", "INLINE_TEXT")
-
-# Of a caller of more lines than this, and of one that the page has shown, only the line of the call is shown, between its neighbours.
+# Of a caller of more lines, and of one that the page has shown, only the line of the call is shown, between its neighbours.
 LONGEST = 8
-
 # The sections that a type with two pages has on the second, whose name ends so.
 SECOND = "_BULK"
 BULK = ("extending", "drain", "splice", "filters", "clones", "into_iter")
-
 # A note is shown on the first of its pages in this order.
-ORDER = ("TINY_VEC", "TINY_VEC_BULK", "ARRAY_VEC", "ARRAY_VEC_BULK", "SLICE_VEC", "INLINE_TEXT", "BORSH", "COUNTED", "SCRIPT", "SLOTS")
-
+ORDER = ("TINY_VEC", "TINY_VEC_BULK", *(it for it in PAGES if not it.startswith("TINY_VEC")))
 # The sections of all pages, each with its title, if it has one of its own.
-LINES = (FOLDER / "sections.txt").read_text(encoding="utf-8").splitlines()
+LINES = text_of(FOLDER / "sections.txt").splitlines()
 SECTIONS = {it.split(" | ")[0]: it.partition(" | ")[2] for it in LINES if it and not it.startswith("#")}
 # The modules whose section is another's.
 TOGETHER = {"array": "slots", "bound": "slots", "takes_clones": "slots"}
@@ -58,9 +54,9 @@ def write():
 def faults():
     written = {}
     for file, _, below, text in pages():
-        name = file.relative_to(TOP)
-        written[file.stem] = file.read_text(encoding="utf-8")
-        yield from [f"{name}: not as scripts/pages/reference.py writes it: run tests/docs --write"] * (below != text)
+        written[file.stem] = text_of(file)
+        is_other = below != text
+        yield from [f"{file.relative_to(TOP)}: not as scripts/pages/reference.py writes it: run tests/docs --write"] * is_other
     library = Library()
     for crate in library.crates:
         yield from crate.lost()
@@ -100,7 +96,7 @@ def said_twice(text):
 
 def wrong_errors(library):
     """Where the table of errors names other calls than those whose signature has the error."""
-    above = (FOLDER / f"{INDEX}.md").read_text(encoding="utf-8").partition(MARK)[0]
+    above = text_of(FOLDER / f"{INDEX}.md").partition(MARK)[0]
     entries = [it for _, it in library.entries()]
     types = {it.name for it in entries if it.kind in ("struct", "enum")}
     for error, cell in re.findall(r"^\| `(\w+)(?:<[^`]*)?` \| (.*?) \|", above, re.M):
@@ -117,12 +113,9 @@ def main_of(page):
 def pages():
     """Each page: its file, what precedes MARK there and what follows it, and what should."""
     library = Library()
-    texts = {name: Page(library, name).text() for name in ORDER}
-    texts[INDEX] = library.table()
-    for name, text in texts.items():
-        file = FOLDER / f"{name}.md"
-        above, _, below = (file.read_text(encoding="utf-8") if file.is_file() else "").partition(MARK)
-        yield file, above, below, text
+    for name, text in {**{name: Page(library, name).text() for name in ORDER}, INDEX: library.table()}.items():
+        above, _, below = text_of(FOLDER / f"{name}.md").partition(MARK)
+        yield FOLDER / f"{name}.md", above, below, text
 
 
 @functools.cache
@@ -182,7 +175,7 @@ class Library:
             is_listed = lambda it: it.is_part or it.kind == "impl" or it.name == main or it.of in types and it.of == main
             others = (it for it in found if not is_listed(it))
             links = [f"[`{it.heading(main).strip('`')}`]({page}.md#{it.anchor(main)})" for it in others]
-            title = (FOLDER / f"{page}.md").read_text(encoding="utf-8").partition("\n")[0].removeprefix("# ")
+            title = text_of(FOLDER / f"{page}.md").partition("\n")[0].removeprefix("# ")
             lines += [f"\n| [{title}]({page}.md) | {', '.join(links)} |"] * bool(links)
         return "".join(lines) + "\n"
 
@@ -202,7 +195,7 @@ def is_call(key):
 def costs():
     """Each call, as `TinyVec::push`, `tiny_vec!` or `run`, with its line of COSTS: what takes its time, what it allocates, and names."""
     of = ""
-    for line in (it for it in COSTS.read_text(encoding="utf-8").splitlines() if it and not it.startswith("#")):
+    for line in (it for it in text_of(COSTS).splitlines() if it and not it.startswith("#")):
         *cost, names = (it.strip() for it in line.split("|"))
         of = of if cost else names
         for name in names.split() if cost else ():
@@ -213,20 +206,19 @@ def costs():
 def notes():
     """What the last column of the table of differences ties to a type and a call: `TinyVec::{extend, fill}`, `ArrayVec: Clone`."""
     found = {}
-    for cells in differences():
-        for of, mark, names in NAMES.findall(cells[2].replace("`", "")):
-            for name in re.findall(r"\w+!?", names):
-                # A macro is of no type.
-                key = name if name.endswith("!") else of + mark + name
-                found.setdefault(key, []).append(f"In Rust: {cells[0]}. Here: {cells[1]}.")
+    for rust, here, calls in differences():
+        named = NAMES.findall(calls.replace("`", ""))
+        for of, mark, name in ((of, mark, it) for of, mark, names in named for it in re.findall(r"\w+!?", names)):
+            # A macro is of no type.
+            key = name if name.endswith("!") else of + mark + name
+            found.setdefault(key, []).append(f"In Rust: {rust}. Here: {here}.")
     return found
 
 
 def differences():
     """The rows of the table of differences."""
-    rows = (TOP / "docs/DIFFERENCES.md").read_text(encoding="utf-8").splitlines()
-    found = ([it.strip() for it in row.strip("|").split(" | ")] for row in rows if row.startswith("| "))
-    return [it for it in found if len(it) == 3]
+    rows = (row for row in text_of(TOP / "docs/DIFFERENCES.md").splitlines() if row.startswith("| "))
+    return [it for it in (list(map(str.strip, row.strip("|").split(" | "))) for row in rows) if len(it) == 3]
 
 
 class Entry(exports.Export):
@@ -285,7 +277,7 @@ class Entry(exports.Export):
 
     def outcomes(self):
         """What the clauses of each of these functions tell."""
-        known = exports.imported(self.source.file.read_text(encoding="utf-8"))
+        known = exports.imported(text_of(self.source.file))
         return [(it.name, outcomes.Outcomes(it, known)) for it in self.functions()]
 
     def failure(self):
@@ -335,7 +327,7 @@ class Entry(exports.Export):
 
 def cited(file, text):
     """The words that a text of a file cites, with the path that defines each, but for operators, variants, proofs and std's prelude."""
-    known = exports.imported(file.read_text(encoding="utf-8"))
+    known = exports.imported(text_of(file))
     found = (known[it] for it in dict.fromkeys(re.findall(r"[^\s(){}.,;:\[\]]+", text)) if it in known)
     return [it for it in found if re.fullmatch(r"[\w-]+", it[1]) and not NO_WORDS.search(it[0])]
 

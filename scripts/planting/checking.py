@@ -14,12 +14,11 @@ PROVED = re.compile(r"^(?:logic=proved\b|only=(\d+) proved=\1$)", re.M)
 # another: it has a name of the code that is gone, or shows what is not to be shown any more.
 ERROR = re.compile(r"^(?:\./)?proofs/(\S+)/\w+\.antt:\d+:\d+: error: (.*(?:\n  .*)*)$", re.M)
 FOLLOWS = re.compile(r"which (?:was|were) rejected, (?:was|were) not checked")
-GONE = re.compile(r"has no field|is not in scope|has no `|was not admitted")
-DIFFERS = re.compile(r"the two types|but this has type|one side reads|≟")
+STALE = re.compile(r"has no field|is not in scope|has no `|was not admitted|the two types|but this has type|one side reads|≟")
 # What is said of a function where another edit of the round took the proof from one that it calls.
 HIDDEN = re.compile(r"no proof: (?:it calls |the borrow checker's part .* a call of `\S+`, which has no proof)")
 # How an edit is refused, from what shows most to what shows least.
-KINDS = ("refused", "refused by a written proof alone", "refused by a name that is gone")
+KINDS = ("refused", "refused by a written proof alone")
 JUDGED = re.compile(r"^(?:logic=(?:not-)?proved\b|only=\d+ proved=\d+$)", re.M)
 
 
@@ -41,9 +40,8 @@ class Said:
         told = [it for it in errors if not FOLLOWS.search(it)]
         if not verdict.startswith(("not proved", "no proof")) or HIDDEN.match(verdict) or errors and not told:
             return None
-        if verdict.startswith("no proof") or not all(GONE.search(it) or DIFFERS.search(it) for it in told) or not told:
-            return KINDS[0]
-        return KINDS[2] if all(GONE.search(it) for it in told) else KINDS[1]
+        is_stale = told and all(STALE.search(it) for it in told) and not verdict.startswith("no proof")
+        return KINDS[1] if is_stale else KINDS[0]
 
     def first_error(self):
         lines = self.text.splitlines()

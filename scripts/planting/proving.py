@@ -20,7 +20,7 @@ class Run:
         self.survived, self.left = [], []
         self.rounds, self.desks = [], {}
         # Only one crate or library is made ready at a time, with all jobs: more would need too much memory.
-        self.guard, self.began, self.ended = threading.Lock(), time.monotonic(), 0
+        self.guard, self.began = threading.Lock(), time.monotonic()
 
     def plan(self, found):
         """Puts the edits into rounds, the named ones first. One outside every function can only be tried alone."""
@@ -89,31 +89,25 @@ class Run:
         return self.desk(crate).check(edits.merged(batch, self.texts(crate)), [] if is_whole else self.paths(batch), 1)
 
     def try_round(self, batch):
-        started, said = time.monotonic(), self.check(batch)
+        began, said = time.monotonic(), self.check(batch)
         # A check that gives no verdict, as of an edit that does not compile, shows none of them.
         unseen = [it for it in batch if not (said.is_judged and self.takes_refusal(it, said))]
         self.unseen += unseen
-        self.ended += 1
-        print(
-            f"round {self.ended} of {len(self.rounds)}, {batch[0].crate}: {len(batch)} edits, {len(unseen)} of them to be tried "
-            f"alone, {time.monotonic() - started:.0f} s",
-            flush=True,
-        )
+        running.tell(f"{batch[0].crate}: {len(batch)} edits, {len(unseen)} to be tried alone, {running.duration(began)}")
 
     def takes_refusal(self, edit, said):
         """Notes how the edit is refused at a function that it changes, or at a closure in it, where it is."""
         own = {path for path in said.verdicts for it in self.owners[edit] if it.is_meant(path)}
         kinds = [it for it in map(said.refusal, own) if it]
         if not self.owners[edit] and said.is_judged and not said.is_proved:
-            kinds = checking.KINDS
+            kinds = checking.KINDS[:1]
         if kinds:
             self.refused[min(kinds, key=checking.KINDS.index)].append(edit)
         return bool(kinds)
 
     def try_alone(self, batch):
         """Tries an edit by a check of what it changes, and where that does not refuse it by one of the whole crate."""
-        started, edit = time.monotonic(), batch[0]
-        said = self.check(batch, not self.owners[edit])
+        edit, said = batch[0], self.check(batch, not self.owners[batch[0]])
         is_refused = self.takes_refusal(edit, said)
         if said.is_judged and self.owners[edit] and not is_refused:
             said = self.check(batch, True)
@@ -122,15 +116,12 @@ class Run:
             self.broken.append(f"{edit}: it does not compile: {said.first_error()}")
         elif not is_refused:
             self.survived.append(edit)
-        print(f"alone, {edit}: {time.monotonic() - started:.0f} s", flush=True)
 
     def report(self):
         """Says what survived, what is broken and what shows nothing, and returns the status to end with."""
-        shown, *rest = checking.KINDS
-        told = {"survived": self.survived, "broken": self.broken} | {it: self.refused[it] for it in rest}
-        for how, those in told.items():
-            for it in those:
-                print(f"{how}: {it}")
-        counts = {shown: self.refused[shown], "survived": self.survived, "left": self.left} | {it: told[it] for it in rest}
+        shown, rest = checking.KINDS
+        told = {"survived": self.survived, "broken": self.broken, rest: self.refused[rest]}
+        print("".join(f"{how}: {it}\n" for how, those in told.items() for it in those), end="")
+        counts = {shown: self.refused[shown], "survived": self.survived, "left": self.left, rest: self.refused[rest]}
         print("mutants: " + ", ".join(f"{len(those)} {how}" for how, those in counts.items()))
         return 1 if self.survived or self.broken else 0

@@ -205,7 +205,19 @@ def difference(wanted, requests, got, made):
     """What is told of a call that answers otherwise, or makes another number of requests. What is None is not known."""
     if wanted is not None and not re.fullmatch(re.escape(wanted).replace(re.escape(f" {ANY}"), " .*"), got or ""):
         return f"\n    wanted {short(wanted)}\n    got    {short(got or 'nothing')}"
-    return f": it made {made} requests for memory, and not {requests}" if None not in (requests, made) and requests != made else ""
+    is_other = None not in (requests, made) and requests != made
+    return f": it made {made} requests for memory, and not {requests}" if is_other else ""
+
+
+def first_fault(calls, said, made=None):
+    """The first call that answers otherwise: those after it stand on what it left. Of each call there is how it is told of, what
+    it should answer, and how many requests it should make. Text after the last answer is a fault too."""
+    for at, (call, wanted, requests) in enumerate(calls):
+        asked = None if made is None else made[at] if at < len(made) else "uncounted"
+        if told := difference(wanted, requests, said[at] if at < len(said) else None, asked):
+            return f"{call}{told}"
+    more = "".join(said[len(calls) :])
+    return f"{calls[-1][0]}: after the last call: {more}" if more else ""
 
 
 def short(text):
