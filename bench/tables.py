@@ -52,6 +52,8 @@ COUNTED = "instructions"
 OVER = " a round, and that over "
 WHY = f"Why above {LIMIT}"
 TABLE = re.compile(rf"(\*\*.*\*\*: {COUNTED}{OVER}(.*)\n\n.*\n.*\n)((?:\|.*\n)+)")
+# A place of PERFORMANCE for a table.
+PLACE = re.compile(r"^<!-- ([\w-]+) -->\n((?:\|.*\n)*)", re.M)
 
 
 def read(file):
@@ -178,19 +180,20 @@ def print_disagreements(times, instructions):
     print_table("Row", ["Capacity", "Peer", "Time", "Instructions"], rows)
 
 
-def put(name, table):
-    """Writes the table in place of the one on PERFORMANCE after the comment of this name."""
-    place = rf"(<!-- {re.escape(name)} -->\n)(?:\|.*\n)*"
-    text, count = re.subn(place, lambda it: it[1] + table.strip() + "\n", read(PERFORMANCE))
-    if count != 1:
-        raise ValueError(f"{PERFORMANCE} has {count} comments <!-- {name} -->")
+def first_table(name):
+    return re.search(r"(?:^\|.*\n)+", read(RESULTS / f"{name}.md"), re.M)[0]
+
+
+def put():
+    """Writes the first table of some results in place of those on PERFORMANCE, each after a comment with their name."""
+    text = PLACE.sub(lambda it: f"<!-- {it[1]} -->\n{first_table(it[1])}", read(PERFORMANCE))
     PERFORMANCE.write_text(text, encoding="utf-8")
 
 
 def faults():
-    """Tables of PERFORMANCE that bench/results lacks, rows above the limit with no reason, and reasons of no such row."""
-    for name, table in re.findall(r"<!-- (.*) -->\n((?:\|.*\n)*)", read(PERFORMANCE)):
-        if not table or table not in read(RESULTS / f"{name}.md"):
+    """Tables of PERFORMANCE that are none of bench/results, rows above the limit with no reason, and reasons of no such row."""
+    for name, table in PLACE.findall(read(PERFORMANCE)):
+        if table != first_table(name):
             yield f"docs/PERFORMANCE.md: the table {name} is not that of bench/results/{name}.md"
     used = set()
     for file in sorted(RESULTS.glob("*.md")):
@@ -232,4 +235,5 @@ if __name__ == "__main__":
 
     for name in RESULTS.glob("*.md"):
         name.write_text(explained(read(name)), encoding="utf-8")
+    put()
     quotes.put()

@@ -74,8 +74,7 @@ def too_long():
     """What has more words than a maintainer reads in a morning, or a newcomer in ten minutes."""
     counts = [("sentences", total(), MOST), ("documents", in_all(), MOST_IN_ALL)]
     for name, words, most in [*counts, *((it, in_all([it]), most) for it, most in ALONE.items())]:
-        if words > most:
-            yield f"{name}: {words} words, and {most} at most: scripts/prose.py counts them"
+        yield from [f"{name}: {words} words, and {most} at most: scripts/prose.py counts them"] * (words > most)
 
 
 def words_in(text):
@@ -87,8 +86,9 @@ def total():
     return sum(words_in(read(it)) for it in documents() if it not in UNCOUNTED)
 
 
-def unended():
-    """Paragraphs of documents without their end, and those with two ends side by side."""
+def faults():
+    """What tests/docs refuses: too many words, and paragraphs of documents without their end, or with two ends side by side."""
+    yield from too_long()
     for name in documents():
         text = re.sub(r"^#.*$|^!\[.*$|^<!--.*$", "", TABLE.sub("", CODE.sub("\n", read(name))), flags=re.M)
         for paragraph in re.split(r"\n\s*\n|\n(?=- |\d+\. )", text):
@@ -102,12 +102,6 @@ def unended():
 def named():
     """The hard sentences of the documents and of the pages that show the comments of the sources."""
     yield from (f"{name}: hard to read: {it}" for name in documents(*WHERE, PAGES) for it in hard(read(name)))
-
-
-def faults():
-    """What tests/docs refuses."""
-    yield from too_long()
-    yield from unended()
 
 
 def hard(text):

@@ -43,7 +43,7 @@ def read_all(crates):
             try:
                 found = {it: misfit(it, texts) for it in read(crate, path)}
             except BadEdit as why:
-                broken.append(f"{path.relative_to(FOLDER).with_suffix('')}: {why}")
+                broken.append(f"{path.relative_to(FOLDER)}: {why}")
                 continue
             edits += [it for it, why in found.items() if not why]
             broken += [f"{it}: {why}" for it, why in found.items() if why]
@@ -58,7 +58,7 @@ def read(crate, path):
     for block in re.sub(r"^# .*\n", "", path.read_text(encoding="utf-8"), flags=re.M).split("\n\n"):
         edit = EDIT.fullmatch(block.strip("\n") + "\n")
         if not edit:
-            raise BadEdit(f"this is no kind and name, and pairs of old and new: {block.strip()[:100]}")
+            raise BadEdit(f"this is no kind and name, and pairs of old and new: {block.strip().partition(chr(10))[0]}")
         file, changes = f"src/{path.relative_to(FOLDER / crate).with_suffix('.rt')}", []
         for other, after, old, new in PAIR.findall(edit[3]):
             file = other or file
