@@ -95,7 +95,8 @@ def inside(export):
         unnamed = re.match(r"pub struct \w+(?:<.*>)?\((.*)\);", code)
         fields += [at for at, it in enumerate(unnamed[1].split(", ")) if it.startswith("pub ")] if unnamed else []
         yield from (f"{name}::{it}" for it in fields)
-        yield from (f"{name}: {it}" for it in item.derives())
+        derived = " ".join(re.findall(r"#\[derive\((.*?)\)\]", " ".join(item.attributes)))
+        yield from (f"{name}: {it}" for it in re.findall(r"\w+", derived))
     if export.kind == "trait":
         yield from (f"{name}::{it.name}" for it in item.members() if it.kind in ("fn", "type", "const"))
 
