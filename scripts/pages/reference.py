@@ -72,7 +72,7 @@ def faults():
             yield f"docs/reference/{page}.md: no caller of {key}: write one in crates/tinyvec_examples/src"
     yield from exports.table_faults(COSTS, [it for it, _ in costs()], library.calls)
     yield from examples.faults(library.keys, library.calls)
-    sections = {it.section(main_of(page)) for page, it in library.entries()}
+    sections = {it.section() for _, it in library.entries()}
     yield from (f"docs/reference/sections.txt: {it} is only there, or only on a page" for it in sorted(sections ^ set(SECTIONS)))
     yield from (f"{it} shows fewer than three lines of a caller" for it in sorted(library.short))
     for page, text in written.items():
@@ -127,10 +127,8 @@ class Library:
         # What a vector's crate passes on is for its users, all else of `tinyvec_slots` for those who write vectors.
         self.passed_on = {it for crate in self.crates for it in crate.passed_on}
         self.passed_on |= {(self.crates[0].name, it) for crate in self.crates for it in crate.aliases.values()}
-        by_crate = {it.name: [Entry(export) for export in it.exports()] for it in self.crates}
-        for it in (it for found in by_crate.values() for it in found):
-            it.is_part = self.is_part(it)
-        self.pages = {page: [it for it in by_crate[crate] if page_of(crate, it) == page] for page, (crate, _) in PAGES.items()}
+        made = [Entry(export, self) for crate in self.crates for export in crate.exports()]
+        self.pages = {page: [it for it in made if it.page == page] for page in PAGES}
         self.keys = {it.key() for _, it in self.entries()}
         self.callers = {}
         for caller in callers.callers(callers.Known(self.crates)):
@@ -145,14 +143,6 @@ class Library:
     def entries(self):
         return [(page, it) for page, found in self.pages.items() for it in found]
 
-    def is_part(self, entry):
-        """Whether an export is what vectors are written with, and nothing for their users."""
-        slots = self.crates[0]
-        named = set(re.findall(r"\w+", f"{entry.trait or entry.of or entry.name} {entry.of or ''}")) & slots.names.keys()
-        if entry.source.crate != slots.name and entry.kind != "impl":
-            return False
-        return bool(named) and not any((slots.name, it) in self.passed_on for it in named)
-
     def table(self):
         """Which of the four types has a call, by name, and which implements a trait."""
         calls, traits = {}, {}
@@ -161,7 +151,7 @@ class Library:
             for home, it in self.entries():
                 if not it.is_part and (main == it.of or main in it.also and not it.of.startswith("&")):
                     rows, name = (traits, it.trait) if it.trait else (calls, it.name)
-                    rows.setdefault(name, {})[page] = f"[✓]({home}.md#{it.anchor(main_of(home))})"
+                    rows.setdefault(name, {})[page] = f"[✓]({home}.md#{it.anchor()})"
         heads = " | ".join(f"[`{main_of(it)}`]({it}.md)" for it in COLUMNS)
         lines = []
         for title, rows in (("Call", calls), ("Trait", traits)):
@@ -174,18 +164,10 @@ class Library:
             main = main_of(page)
             is_listed = lambda it: it.is_part or it.kind == "impl" or it.name == main or it.of in types and it.of == main
             others = (it for it in found if not is_listed(it))
-            links = [f"[`{it.heading(main).strip('`')}`]({page}.md#{it.anchor(main)})" for it in others]
+            links = [it.link(page) for it in others]
             title = text_of(FOLDER / f"{page}.md").partition("\n")[0].removeprefix("# ")
             lines += [f"\n| [{title}]({page}.md) | {', '.join(links)} |"] * bool(links)
         return "".join(lines) + "\n"
-
-
-def page_of(crate, export):
-    """The page of an export: that of its type or, if its section is there, the second one, or the first of the crate."""
-    found = [page for page, (of, _) in PAGES.items() if of == crate]
-    named = (export.of or export.name).lstrip("&").removeprefix("mut ")
-    page = next((page for page in found if main_of(page) and named.startswith(main_of(page))), found[0])
-    return page + SECOND if page + SECOND in found and export.section(main_of(page)) in BULK else page
 
 
 def is_call(key):
@@ -224,21 +206,32 @@ def differences():
 class Entry(exports.Export):
     """An export as a page shows it."""
 
-    def __init__(self, export):
+    def __init__(self, export, library):
         self.__dict__.update(export.__dict__)
-        self.is_part = False
+        slots = library.crates[0]
+        named = set(re.findall(r"\w+", f"{self.trait or self.of or self.name} {self.of or ''}")) & slots.names.keys()
+        is_passed_on = any((slots.name, it) in library.passed_on for it in named)
+        # Whether it is what vectors are written with, and nothing for their users.
+        self.is_part = bool(named) and not is_passed_on and (self.source.crate == slots.name or self.kind == "impl")
+        # That of its type or, if its section is there, the second one, or the first of the crate.
+        found = [page for page, (of, _) in PAGES.items() if of == self.source.crate]
+        of = (self.of or self.name).lstrip("&").removeprefix("mut ")
+        page = next((page for page in found if main_of(page) and of.startswith(main_of(page))), found[0])
+        self.main = main_of(page)
+        self.page = page + SECOND if page + SECOND in found and self.section() in BULK else page
 
-    def heading(self, main):
+    def heading(self):
         if self.trait:
             article = "a " * self.of.startswith("&")
             return f"`{self.trait}` for {article}`{self.of}`"
-        return f"`{self.name}`" if self.of == main and self.of else f"`{self.key()}`"
+        return f"`{self.name}`" if self.of == self.main and self.of else f"`{self.key()}`"
 
-    def anchor(self, main):
-        return anchor(self.heading(main))
+    def anchor(self):
+        return anchor(self.heading())
 
-    def link(self):
-        return f"[`{self.key()}`](../../{self.source.path})"
+    def link(self, page="", text=""):
+        """A link to it on a page, or on the one that has the link."""
+        return f"[`{text or self.heading().strip('`')}`]({page and f'{page}.md'}#{self.anchor()})"
 
     def is_row(self):
         """Whether a line of a table says all of an impl: no function of it has a contract."""
@@ -249,14 +242,14 @@ class Entry(exports.Export):
         shown = (re.sub(r"^ghost (.*?) = \{ (.*) \};$", r"\1 = \2", " ".join(" ".join(it.lines).split())) for it in self.ghosts())
         codes = "; ".join("`" + it.replace("|", "\\|") + "`" for it in shown)
         cell = ". ".join(it for it in (codes, " ".join(said)) if it)
-        return f'| <a id="{self.anchor(None)}"></a>`{self.item.signature().rstrip(",")}` | {cell} |\n'
+        return f'| <a id="{self.anchor()}"></a>`{self.item.signature().rstrip(",")}` | {cell} |\n'
 
     def ghosts(self):
         """What an impl defines, without its proofs."""
         return [it for it in self.item.members() if it.kind == "ghost" and not PROOFS.match(it.lines[0])]
 
-    def section(self, main):
-        stem = TOGETHER.get("/".join(self.source.module), self.source.file.stem)
+    def section(self):
+        main, stem = self.main, TOGETHER.get("/".join(self.source.module), self.source.file.stem)
         of = re.sub(r"^&(?:mut )?", "", self.of or self.name)
         if self.is_part:
             return "parts"
@@ -356,10 +349,9 @@ class Page:
     def __init__(self, library, name):
         self.library, self.name, self.entries, self.shown = library, name, library.pages[name], set()
         self.codes, self.told = {}, set()
-        self.main = main_of(name)
-        self.sections = {}
+        self.main, self.sections = main_of(name), {}
         for it in self.entries:
-            self.sections.setdefault(it.section(self.main), []).append(it)
+            self.sections.setdefault(it.section(), []).append(it)
         for found in self.sections.values():
             # The calls of the page's type, then what they return.
             found.sort(key=self.place)
@@ -374,42 +366,44 @@ class Page:
         title = SECTIONS.get(section) or self.sections[section][0].source.title.replace("`", "")
         return title.partition(". ")[0]
 
-    def contents(self, place=""):
-        """A row for each section, of a page at a place."""
-        for section in self.order:
-            shown = (it for it in self.sections[section] if not it.is_part)
-            links = ", ".join(f"[`{it.trait or it.heading(self.main).strip('`')}`]({place}#{it.anchor(self.main)})" for it in shown)
-            yield f"| [{self.title(section)}]({place}#{anchor(self.title(section))}) | {links} |\n"
+    def link(self, section, page=""):
+        """A link to a section of this page, on a page, and those to what it has."""
+        title, found = self.title(section), [it for it in self.sections[section] if not it.is_part]
+        return f"[{title}]({page and f'{page}.md'}#{anchor(title)})", found
+
+    def contents(self, page=""):
+        """A row for each section, for this page or another."""
+        for title, found in (self.link(it, page) for it in self.order):
+            yield f"| {title} | {', '.join(it.link(page, it.trait) for it in found)} |\n"
 
     def text(self):
         below, cited, rows = [], {}, [*self.contents()]
         if self.name + SECOND in PAGES:
-            rows += Page(self.library, self.name + SECOND).contents(f"{self.name}{SECOND}.md")
+            rows += Page(self.library, self.name + SECOND).contents(self.name + SECOND)
         for section in self.order:
             found = self.sections[section]
             below.append(f"\n## {self.title(section)}\n")
             # Each word has a link in the first section that cites it.
             words = [word for it in found if not it.is_part for word in it.words() if cited.setdefault(word, section) == section]
-            links = ", ".join(f"[`{name}`](WORDS.md#{exports.word_anchor(path, name)})" for path, name in sorted(set(words), key=lambda it: it[1].lower()))
+            words = sorted(set(words), key=lambda it: it[1].lower())
+            links = ", ".join(f"[`{name}`](WORDS.md#{exports.word_anchor(path, name)})" for path, name in words)
             below += [f"\nWords: {links}.\n"] if words else []
             below += self.parts(found) if section == "parts" else self.section(found)
         return f"\n\n{self.costs()}| | |\n|---|---|\n" + "".join(rows + below)
 
     def costs(self):
         """A table of what the calls cost, those of the page's type first."""
-        calls = {it.key(): it for it in self.entries if it.key() in self.library.costs}
-        rows = {}
+        calls, rows = {it.key(): it for it in self.entries}, {}
         for key, cost in self.library.costs.items():
             if key in calls:
-                it = calls[key]
-                rows.setdefault((*cost, it.failure()), []).append(f"[`{it.heading(self.main).strip('`')}`](#{it.anchor(self.main)})")
-        lines = [f"| {', '.join(links)} | {time} | {allocates} | {failure} |\n" for (time, allocates, _, failure), links in rows.items()]
-        return "| Calls | Time for | Allocate | Fail |\n|---|---|---|---|\n" + "".join(lines) + "\n## Contents\n\n" if lines else ""
+                rows.setdefault((*cost, calls[key].failure()), []).append(calls[key].link())
+        lines = (f"| {', '.join(links)} | {time} | {allocates} | {fails} |\n" for (time, allocates, _, fails), links in rows.items())
+        return "| Calls | Time for | Allocate | Fail |\n|---|---|---|---|\n" + "".join(lines) + "\n## Contents\n\n" if rows else ""
 
     def parts(self, found):
         yield "\nVectors are written with these; their contracts are in the sources.\n\n"
         for source in dict.fromkeys(it.source for it in found):
-            yield f"- {', '.join(it.link() for it in found if it.source == source)}\n"
+            yield f"- {', '.join(f'[`{it.key()}`](../../{source.path})' for it in found if it.source == source)}\n"
 
     def section(self, found):
         for it in found:
@@ -419,7 +413,7 @@ class Page:
 
     def entry(self, it):
         """What it is called as, what it does, an example or a caller, and its contract, which is folded."""
-        yield f"\n### {it.heading(self.main)}\n"
+        yield f"\n### {it.heading()}\n"
         code, twin, instead = it.code(), *self.twin(it)
         # A comment at its end is of what follows.
         head = re.sub(r"(?:\n +//[^\n]*)+$", "", CONTRACT.split(code, maxsplit=1)[0])
@@ -439,9 +433,10 @@ class Page:
         elif caller and is_call(it.key()):
             yield from self.caller(it, caller)
         if twin is not it:
-            yield f"\nIts contract is that of [`{twin.trait or twin.name}`](#{twin.anchor(self.main)}){instead}.{proved}\n"
+            yield f"\nIts contract is that of {twin.link('', twin.trait or twin.name)}{instead}.{proved}\n"
         elif head != code:
-            yield f"\n<details><summary>Contract</summary>\n\n```\n{code}\n```\n{proved and f'{chr(10)}{proved.strip()}{chr(10)}'}\n</details>\n"
+            below = f"\n{proved.strip()}\n" if proved else ""
+            yield f"\n<details><summary>Contract</summary>\n\n```\n{code}\n```\n{below}\n</details>\n"
 
     def aliased(self, it):
         """The calls and traits of the type that an alias names, as a table if these are in several sections."""
@@ -449,12 +444,11 @@ class Page:
         is_form = any(it.name in crate.forms.values() for crate in self.library.crates)
         has = lambda one: one.name == of or it.name in (one.of, *one.also) or one.of == of and not is_form
         rows = []
-        for page in (self if it == self.name else Page(self.library, it) for it in self.library.pages):
-            place = "" if page is self else f"{page.name}.md"
-            for section in page.order:
-                its = (one for one in page.sections[section] if not one.is_part and has(one))
-                links = [f"[`{one.trait or one.name}`]({place}#{one.anchor(page.main)})" for one in its]
-                rows += [(f"[{page.title(section)}]({place}#{anchor(page.title(section))})", ", ".join(links))] if links else []
+        for page in (self if name == self.name else Page(self.library, name) for name in self.library.pages):
+            place = "" if page is self else page.name
+            for title, found in (page.link(section, place) for section in page.order):
+                links = [one.link(place, one.trait or one.name) for one in found if has(one)]
+                rows += [(title, ", ".join(links))] if links else []
         if len(rows) > 2:
             yield "\n| Its type, calls and traits | |\n|---|---|\n" + "".join(f"| {title} | {links} |\n" for title, links in rows)
         elif rows:
@@ -495,18 +489,13 @@ class Page:
 
     def notes(self, it):
         for note in self.library.notes.get(it.key(), []):
-            page, first = self.library.noted.setdefault(note, (self.name, it))
-            if first is it:
-                yield note
-            else:
-                name = first.trait or first.name if page == self.name else first.key()
-                place = f"#{first.anchor(main_of(page))}"
-                yield f"In Rust: see [`{name}`]({'' if page == self.name else page + '.md'}{place})."
+            first = self.library.noted.setdefault(note, it)
+            link = first.link("", first.trait or first.name) if first.page == self.name else first.link(first.page, first.key())
+            yield note if first is it else f"In Rust: see {link}."
 
 
 def difference(old, new):
     """The words in which two declarations differ, if these are at most two numbers or constants."""
-    pairs = [*zip(old.split(), new.split())]
-    found = [it for it in dict.fromkeys(pairs) if it[0] != it[1]]
-    is_small = len(old.split()) == len(new.split()) and len(found) <= 2 and all(re.fullmatch(r"\d+|true|false", part) for it in found for part in it)
-    return found if is_small else None
+    found = [it for it in dict.fromkeys(zip(old.split(), new.split())) if it[0] != it[1]]
+    are_numbers = all(re.fullmatch(r"\d+|true|false", part) for it in found for part in it)
+    return found if len(old.split()) == len(new.split()) and len(found) <= 2 and are_numbers else None
