@@ -227,30 +227,31 @@ def short(text):
 def run(lines, is_tried=False, refusing=None):
     """What the program answers to each line: the parts of its calls. With a library that refuses memory also the number of
     requests of each window that the program opened."""
-    crate = crates.read_crates()[PROGRAM]
-    if not is_tried:
-        env = {**os.environ, "LD_PRELOAD": refusing.library} if refusing else None
-        answers, told = answered(crate, crate.out / PROGRAM, lines, env=env)
-        return (answers, [int(it) for it in WINDOW.findall(told)]) if refusing else answers
-    shares, said = [slice(it, None, crates.CORES) for it in range(crates.CORES)], [None] * len(lines)
+    crate, windows = crates.read_crates()[PROGRAM], []
     try:
-        program = trying.program_of(crate)
-        with concurrent.futures.ThreadPoolExecutor(crates.CORES) as pool:
-            answers = pool.map(lambda it: answered(crate, program, lines[it], is_tried)[0], shares)
-            for share, its in zip(shares, answers):
-                said[share] = its
-    except (trying.NotCompiled, subprocess.TimeoutExpired) as why:
+        program = trying.program_of(crate) if is_tried else crate.out / PROGRAM
+    except trying.NotCompiled as why:
         raise BadRow(f"no answer: {why}")
-    return said
+    # What is compiled with checks is slow.
+    count = crates.CORES if is_tried else 1
+    shares, answers = [slice(it, None, count) for it in range(count)], [None] * len(lines)
+    env = {**os.environ, "LD_PRELOAD": refusing.library} if refusing else None
+    with concurrent.futures.ThreadPoolExecutor(count) as pool:
+        for share, (its, said) in zip(shares, pool.map(lambda it: answered(crate, program, lines[it], env, is_tried), shares)):
+            answers[share] = its
+            windows += [int(it) for it in WINDOW.findall(said)]
+    return answers, windows if refusing else None
 
 
-def answered(crate, path, lines, is_tried=False, env=None):
+def answered(crate, program, lines, env, is_tried):
     """The parts of the answer to each line, and what the program writes to standard error."""
     given = "".join(f"{it}\n" for it in lines).encode()
     try:
-        ran = subprocess.run([path], input=given, capture_output=True, env=env, timeout=LIMIT if is_tried else None)
+        ran = subprocess.run([program], input=given, capture_output=True, env=env, timeout=LIMIT if is_tried else None)
     except FileNotFoundError:
         raise BadRow(f"{PROGRAM} is not built: scripts/build {PROGRAM} builds it, or --try runs the sources")
+    except subprocess.TimeoutExpired as why:
+        raise BadRow(f"no answer: {why}")
     said = ran.stdout.decode(errors="replace").split("\n")[:-1]
     if ran.returncode != 0 or len(said) != len(lines):
         # Where a check stopped the program, only `rt try` names the place.
