@@ -473,7 +473,7 @@ class Page:
         text, name = (caller.around(it.key()), f"`{caller.name}` ") if is_part else (caller.text, "")
         self.shown |= {text} if not is_part else set()
         self.library.short |= {f"docs/reference/{self.name}.md: {it.key()}"} if text.count("\n") < 2 else set()
-        yield f"\nA caller, {name}in {caller.link()}:\n\n```\n{text}\n```\n"
+        yield f"\nA caller, {name}in [`{caller.path}`]({caller.place()}):\n\n```\n{text}\n```\n"
 
     def twin(self, it):
         """The entry above that has the same contract but for its name, as a call and its `try_` form, and what differs otherwise."""
