@@ -13,8 +13,8 @@ WIDTH, HEIGHT, GAP, LEFT, TOP = 150, 120, 30, 48, 58
 
 # What stands in the legend, and the class of its line.
 LEGEND = {
-    "here": ("this library", "here"), "tv": ("tv", "here"), "tinyvec": ("tinyvec", "one"), "plain Rust": ("plain Rust", "one"),
-    "smallvec": ("smallvec", "two"), "arrayvec": ("arrayvec", "two"), "vec": ("Vec", "three"),
+    "here": ("this library", "here"), "tinyvec": ("tinyvec", "one"), "smallvec": ("smallvec", "two"),
+    "arrayvec": ("arrayvec", "two"), "vec": ("Vec", "three"), "tv": ("tv", "here"), "plain Rust": ("plain Rust", "one"),
 }
 
 

@@ -191,7 +191,7 @@ def put():
 
 
 def faults():
-    """Tables of PERFORMANCE that are none of bench/results, rows above the limit with no reason, and reasons of no such row."""
+    """Tables of PERFORMANCE that are none of bench/results, rows above the limit with no reason, and reasons of no row."""
     for name, table in PLACE.findall(read(PERFORMANCE)):
         if table != first_table(name):
             yield f"docs/PERFORMANCE.md: the table {name} is not that of bench/results/{name}.md"

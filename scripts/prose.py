@@ -87,7 +87,7 @@ def total():
 
 
 def faults():
-    """What tests/docs refuses: too many words, and paragraphs of documents without their end, or with two ends side by side."""
+    """What tests/docs refuses: too many words, and paragraphs of documents without their end, or with two side by side."""
     yield from too_long()
     for name in documents():
         text = re.sub(r"^#.*$|^!\[.*$|^<!--.*$", "", TABLE.sub("", CODE.sub("\n", read(name))), flags=re.M)

@@ -111,8 +111,7 @@ def duration(began):
 
 
 def lock(locked):
-    """Keeps other runs of these scripts, and of rt, out of the crates' folders until this process ends, or what is returned is
-    closed."""
+    """Keeps other runs of these scripts, and of rt, out of the crates' folders, until what is returned is closed."""
     held = contextlib.ExitStack()
     # In the order in which rt takes them, so that no two runs wait for each other.
     for crate in sorted(locked, key=lambda it: str(it.folder)):
@@ -127,7 +126,7 @@ def lock(locked):
 
 
 class Step:
-    """Something to do once other steps are over. What is last is begun only where a core is left, and nothing waits for it."""
+    """Something to do once other steps are over. What is last begins only where a core is left, and nothing waits for it."""
 
     def __init__(self, do, after=(), is_last=False):
         self.do, self.after, self.is_last = do, after, is_last
@@ -174,8 +173,8 @@ def jobs_of(step, beside):
 
 
 class Copy:
-    """A crate and those below it as a repository of their own, over links to their libraries and to what earlier checks kept: rt
-    removes such files and writes them anew, and never writes into them."""
+    """A crate and those below it as a repository of their own, over links to their libraries and to what earlier checks kept:
+    rt removes such files and writes them anew, and never writes into them."""
 
     def __init__(self, crate, top=None):
         self.crate, self.top = crate, top or crate.out / "copy"
@@ -231,7 +230,7 @@ def link(source, target):
 def build(crate, jobs):
     """Proves and builds a crate over those below it. Returns whether it is proved."""
     with Copy(crate) as copy:
-        # The program is run too, on no input: its status tells nothing, but rt's mark does, which it leaves where no flag is given.
+        # The program is run too, on no input: its status tells nothing, but rt's mark does, which a flag has it leave out.
         words = ["run" if crate.is_program else "lib", "--jobs", str(jobs), *crate.flags]
         if copy.rt(words, "build.log") == 0 and crate.flags:
             (copy.out / crate.mark).write_text(crate.sum, encoding="utf-8")

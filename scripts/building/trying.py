@@ -10,8 +10,8 @@ import tempfile
 
 from building import crates, running
 
-# It is linked to the program, and copies it where the program is run with no environment, as `rt try` does. No header of the C
-# library is needed, so the compiler of the kit is enough.
+# It is linked to the program, and copies it where the program is run with no environment, as `rt try` does. It needs no header
+# of the C library, so the compiler of the kit is enough.
 KEEPER = """extern char **environ;
 int open(const char *, int), creat(const char *, unsigned);
 long read(int, void *, unsigned long), write(int, const void *, unsigned long);

@@ -1,8 +1,8 @@
 """Whether two tables name each public call of the libraries, and rows and tests show what they say.
 
-tests/requests.txt has which calls never request memory: rows or tests show it. The rows themselves are run, and their requests
-counted, by `tests/answers`. bench/calls.txt has the row of the benchmarks at 64 and 16,384 items. What the vectors share, the
-crate of slots and the traits of slots and arrays, is measured by the vectors' calls.
+tests/requests.txt has which calls never request memory: rows or tests show it. The rows themselves are run, and their
+requests counted, by `tests/answers`. bench/calls.txt has the row of the benchmarks at 64 and 16,384 items. What the vectors
+share, the crate of slots and the traits of slots and arrays, is measured by the vectors' calls.
 """
 import re
 
@@ -10,7 +10,7 @@ from reading import exports
 from rows import rows
 
 REQUESTS = exports.TOP / "tests/requests.txt"
-# The types of these hold no allocator, so only a call that is passed one may request memory, or one of a vector that may hold one.
+# The types of these hold no allocator, so only a call that is passed one may request memory, or one that holds a vector.
 WITHOUT_ALLOCATOR, HOLDING = ("tinyvec_slots", "tinyvec_array"), ("Splice",)
 # The forms of numbers and lists are those of the traits.
 FORMS = ("BorshSerialize", "BorshDeserialize")
@@ -48,7 +48,8 @@ def faults():
 
 def faults_of_requests(calls):
     lines = exports.lines_of(REQUESTS)
-    yield from exports.table_faults(REQUESTS, [f"{kind}::{it}" for kind, _, names, _ in lines for it in names.split()], calls)
+    named = [f"{kind}::{it}" for kind, _, names, _ in lines for it in names.split()]
+    yield from exports.table_faults(REQUESTS, named, calls)
     walks = {(kind, it) for kind, how, names, by in lines if how == "never" for it in (by or names).split()}
     for path in (exports.TOP / "tests/cases").glob("*.txt"):
         for chain in rows.read_file(path):

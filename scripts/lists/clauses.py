@@ -1,8 +1,8 @@
 """Writes tests/clauses.txt, the lock: what each public call states, and each function with its edits.
 
-A line `clauses CALL: SUM NAMES` has the names of the call's clauses, each with the fields of the relations that it cites, as in
-`room(place)`, and a sum of what they state: of the clauses and ghost items, and of the definitions in `specs/` that these cite,
-and those that those cite, without comments and white space. std's words count by their names.
+A line `clauses CALL: SUM NAMES` has the names of the call's clauses, each with the fields of the relations that it cites, as
+in `room(place)`, and a sum of what they state: of the clauses and ghost items, and of the definitions in `specs/` that these
+cite, and those that those cite, without comments and white space. std's words count by their names.
 
 `tests/docs` names what the lock lacks and each sum that differs, which this writes, each clause that the sources lack, unless a
 line of the first part of CHANGELOG.md has it and its call in backticks (of a call that is gone, the call alone), and each edit
@@ -31,7 +31,8 @@ def write():
     for line, its in kept(names, current).items():
         current[line] = sorted({*current.get(line, ()), *its})
     sums |= stated
-    lines = {line: f"{sums[line]} {folded(its)}".rstrip() if line in sums else " ".join(its) for line, its in current.items()}
+    text_of = lambda line, its: f"{sums[line]} {folded(its)}".rstrip() if line in sums else " ".join(its)
+    lines = {line: text_of(line, its) for line, its in current.items()}
     LOCK.write_text("".join(f"{line}: {text}\n" for line, text in sorted(lines.items()) if text), encoding="utf-8")
 
 
@@ -40,9 +41,9 @@ def faults():
     name = LOCK.relative_to(TOP)
     lacking = {line: [it for it in names if it not in locked.get(line, ())] for line, names in current.items()}
     yield from (f"{name}: run tests/docs --write: {line} lacks {', '.join(its)}" for line, its in lacking.items() if its)
-    others = ", ".join(line.removeprefix("clauses ") for line, it in stated.items() if sums.get(line) != it and not lacking[line])
+    others = [line.removeprefix("clauses ") for line, it in stated.items() if sums.get(line) != it and not lacking[line]]
     why = "run tests/docs --write: these state something else than it was written for"
-    yield from [f"{name}: {why}: {others}"] * bool(others)
+    yield from [f"{name}: {why}: {', '.join(others)}"] * bool(others)
     for line, names in kept(locked, current).items():
         why = "no line of CHANGELOG.md says so" if line.startswith("clauses ") else "its function is there"
         yield from (f"{name}: {line}: {it} is gone, and {why}" for it in names)

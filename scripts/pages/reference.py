@@ -1,7 +1,7 @@
-"""Writes the reference, docs/reference/*.md: all that the library crates export, with contracts, callers and differences of Rust's.
+"""Writes the reference, docs/reference/*.md: all that the libraries export, with contracts, callers and what differs in Rust.
 
-`tests/docs` names the pages that differ from what this would write or have more than MOST lines, comments that are missing, and
-calls without a caller. What precedes the line MARK of a page is written by hand.
+`tests/docs` names the pages that differ from what this would write or have more than MOST lines, comments that are missing,
+and calls without a caller. What precedes the line MARK of a page is written by hand.
 """
 import functools
 import re
@@ -55,8 +55,8 @@ def faults():
     written = {}
     for file, _, below, text in pages():
         written[file.stem] = text_of(file)
-        is_other = below != text
-        yield from [f"{file.relative_to(TOP)}: not as scripts/pages/reference.py writes it: run tests/docs --write"] * is_other
+        if below != text:
+            yield f"{file.relative_to(TOP)}: not as scripts/pages/reference.py writes it: run tests/docs --write"
     library = Library()
     for crate in library.crates:
         yield from crate.lost()
@@ -66,7 +66,8 @@ def faults():
     for page, it in library.entries():
         where, key = it.source.path, it.key()
         yield from (f"{where}: not on {page}: {line}" for line in it.said() if line not in shown[page])
-        yield from (f"{where}: {key}: a sentence without its end: {said[-60:]}" for said in it.prose() if not said.endswith((".", ":")))
+        unended = (said[-60:] for said in it.prose() if not said.endswith((".", ":")))
+        yield from (f"{where}: {key}: a sentence without its end: {said}" for said in unended)
         yield from [f"{where}: {key} has no `///`"] * (it.kind != "impl" and not it.item.comment)
         if key in library.uncalled and not it.is_part:
             yield f"docs/reference/{page}.md: no caller of {key}: write one in crates/tinyvec_examples/src"
@@ -76,7 +77,8 @@ def faults():
     yield from (f"docs/reference/sections.txt: {it} is only there, or only on a page" for it in sorted(sections ^ set(SECTIONS)))
     yield from (f"{it} shows fewer than three lines of a caller" for it in sorted(library.short))
     for page, text in written.items():
-        yield from [f"docs/reference/{page}.md: more than {MOST} lines: give a section to its second page"] * (text.count("\n") > MOST)
+        if text.count("\n") > MOST:
+            yield f"docs/reference/{page}.md: more than {MOST} lines: give a section to its second page"
         yield from (f"docs/reference/{page}.md: {it}" for it in said_twice(text))
     yield from wrong_errors(library)
     yield from (f"docs/DIFFERENCES.md: no such call: {it}" for it in library.notes if it not in library.keys)
@@ -397,8 +399,10 @@ class Page:
         for key, cost in self.library.costs.items():
             if key in calls:
                 rows.setdefault((*cost, calls[key].failure()), []).append(calls[key].link())
-        lines = (f"| {', '.join(links)} | {time} | {allocates} | {fails} |\n" for (time, allocates, _, fails), links in rows.items())
-        return "| Calls | Time for | Allocate | Fail |\n|---|---|---|---|\n" + "".join(lines) + "\n## Contents\n\n" if rows else ""
+        lines = ["| Calls | Time for | Allocate | Fail |\n|---|---|---|---|\n"]
+        for (time, allocates, _, fails), links in rows.items():
+            lines.append(f"| {', '.join(links)} | {time} | {allocates} | {fails} |\n")
+        return "".join([*lines, "\n## Contents\n\n"]) if rows else ""
 
     def parts(self, found):
         yield "\nVectors are written with these; their contracts are in the sources.\n\n"
@@ -490,7 +494,8 @@ class Page:
     def notes(self, it):
         for note in self.library.notes.get(it.key(), []):
             first = self.library.noted.setdefault(note, it)
-            link = first.link("", first.trait or first.name) if first.page == self.name else first.link(first.page, first.key())
+            is_here = first.page == self.name
+            link = first.link("", first.trait or first.name) if is_here else first.link(first.page, first.key())
             yield note if first is it else f"In Rust: see {link}."
 
 

@@ -13,7 +13,8 @@ def text(x, y, words, kind=""):
 
 def write(name, title, style, width, height, drawn):
     """Writes what is drawn on a page of this size, in the style of the file of that name."""
-    head = f'<svg xmlns="http://www.w3.org/2000/svg" width="{width}" height="{height}" viewBox="0 0 {width} {height}" role="img">'
+    size = f'width="{width}" height="{height}" viewBox="0 0 {width} {height}"'
+    head = f'<svg xmlns="http://www.w3.org/2000/svg" {size} role="img">'
     css = textwrap.indent((FOLDER / f"{style}.css").read_text(encoding="utf-8"), "  ")
     page = f'<rect x="0.5" y="0.5" width="{width - 1}" height="{height - 1}" rx="8" class="page"/>'
     lines = "\n".join(f"  {it}" for it in [page, *drawn])

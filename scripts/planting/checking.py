@@ -14,7 +14,9 @@ PROVED = re.compile(r"^(?:logic=proved\b|only=(\d+) proved=\1$)", re.M)
 # another: it has a name of the code that is gone, or shows what is not to be shown any more.
 ERROR = re.compile(r"^(?:\./)?proofs/(\S+)/\w+\.antt:\d+:\d+: error: (.*(?:\n  .*)*)$", re.M)
 FOLLOWS = re.compile(r"which (?:was|were) rejected, (?:was|were) not checked")
-STALE = re.compile(r"has no field|is not in scope|has no `|was not admitted|the two types|but this has type|one side reads|≟")
+STALE = re.compile(
+    r"has no field|is not in scope|has no `|was not admitted|the two types|but this has type|one side reads|≟"
+)
 # What is said of a function where another edit of the round took the proof from one that it calls.
 HIDDEN = re.compile(r"no proof: (?:it calls |the borrow checker's part .* a call of `\S+`, which has no proof)")
 # How an edit is refused, from what shows most to what shows least.
@@ -50,8 +52,8 @@ class Said:
 
 
 class Desk:
-    """Where a crate's edits are tried, each check in a copy of its own over the libraries as they are now and the work that was
-    kept, so that other commands may build them anew."""
+    """Where a crate's edits are tried, each check in a copy of its own over the libraries as they are now and the work that
+    was kept, so that other commands may build them anew."""
 
     def __init__(self, crate, room):
         self.room, self.base = room, running.Copy(crate, room / crate.name)

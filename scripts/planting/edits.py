@@ -8,7 +8,7 @@ from building.crates import TOP
 
 FOLDER = TOP / "tests/mutations"
 
-# A text of a file, and what stands in its place. Where `after` is given, the text is the first after that one, which is once there.
+# A text of a file, and what stands in its place. Where `after` is given, it is the first after that one, which is once there.
 Change = collections.namedtuple("Change", "file old new after")
 PAIR = re.compile(r"(?:file: ?(.*)\n)?(?:in: ?(.*)\n)?old: ?(.*)\nnew: ?(.*)\n")
 EDIT = re.compile(rf"(edit|named|tested): (.*)\n((?:{PAIR.pattern})+)")

@@ -1,5 +1,6 @@
 """Which edits the prover refuses. One check tries many: it judges each function by the contracts of those that it calls, so
 an edit of a body hides none of another function."""
+import contextlib
 import random
 import threading
 import time
@@ -31,9 +32,6 @@ class Run:
             numbered += enumerate(self.grouped(sorted(its, key=lambda it: not it.is_named)))
         # The crates take turns, so that one is made ready while edits of another are tried.
         self.rounds = [it for _, it in sorted(numbered, key=lambda it: it[0])]
-
-    def texts(self, crate):
-        return edits.reader(self.crates[crate].folder)
 
     def grouped(self, fit):
         """As few rounds as come of a greedy choice, in none of which two edits change one function."""
@@ -67,17 +65,17 @@ class Run:
 
     def desk(self, crate):
         """The crate's desk, where all that its edits change is proved as it stands."""
-        if crate not in self.desks:
-            with self.guard:
-                if crate not in self.desks:
-                    lacking = [it for it in self.crates[crate].below if not it.is_built()]
-                    with running.lock(lacking):
-                        running.build_all(lacking)
-                    desk = checking.Desk(self.crates[crate], self.room)
-                    said = desk.check({}, self.paths(it for it in self.owners if it.crate == crate), self.jobs, keeps=True)
-                    if not said.is_proved:
-                        raise SystemExit(f"mutants: {crate} is not proved as it stands: {said.first_error()}")
-                    self.desks[crate] = desk
+        # Those that are ready do not wait.
+        with self.guard if crate not in self.desks else contextlib.nullcontext():
+            if crate not in self.desks:
+                lacking = [it for it in self.crates[crate].below if not it.is_built()]
+                with running.lock(lacking):
+                    running.build_all(lacking)
+                desk = checking.Desk(self.crates[crate], self.room)
+                said = desk.check({}, self.paths(it for it in self.owners if it.crate == crate), self.jobs, keeps=True)
+                if not said.is_proved:
+                    raise SystemExit(f"mutants: {crate} is not proved as it stands: {said.first_error()}")
+                self.desks[crate] = desk
         return self.desks[crate]
 
     def paths(self, batch):
@@ -85,8 +83,8 @@ class Run:
 
     def check(self, batch, is_whole=False):
         """Checks the functions that these edits of a crate change, or all of the crate."""
-        crate = batch[0].crate
-        return self.desk(crate).check(edits.merged(batch, self.texts(crate)), [] if is_whole else self.paths(batch), 1)
+        crate, paths = batch[0].crate, [] if is_whole else self.paths(batch)
+        return self.desk(crate).check(edits.merged(batch, edits.reader(self.crates[crate].folder)), paths, 1)
 
     def try_round(self, batch):
         began, said = time.monotonic(), self.check(batch)

@@ -47,7 +47,8 @@ class Word:
                 parts[-1][1] += f" {line.strip()}"
         self.fields = [(name, text) for name, text, _ in parts if is_record]
         self.variants = [name for name, _, _ in parts if not is_record]
-        told = "; ".join(code(f"{name} : {text}" if is_record else name) + f" ({said})" * bool(said) for name, text, said in parts)
+        shown = ((code(f"{name} : {text}" if is_record else name), said) for name, text, said in parts)
+        told = "; ".join(part + f" ({said})" * bool(said) for part, said in shown)
         self.meaning = self.comment + f". {'It has' if is_record else 'One of'} {told}" * bool(told)
 
 

@@ -210,8 +210,8 @@ def difference(wanted, requests, got, made):
 
 
 def first_fault(calls, said, made=None):
-    """The first call that answers otherwise: those after it stand on what it left. Of each call there is how it is told of, what
-    it should answer, and how many requests it should make. Text after the last answer is a fault too."""
+    """The first call that answers otherwise: those after it stand on what it left. Of each call there is how it is told of,
+    what it should answer, and how many requests it should make. Text after the last answer is a fault too."""
     for at, (call, wanted, requests) in enumerate(calls):
         asked = None if made is None else made[at] if at < len(made) else "uncounted"
         if told := difference(wanted, requests, said[at] if at < len(said) else None, asked):
@@ -237,7 +237,8 @@ def run(lines, is_tried=False, refusing=None):
     shares, answers = [slice(it, None, count) for it in range(count)], [None] * len(lines)
     env = {**os.environ, "LD_PRELOAD": refusing.library} if refusing else None
     with concurrent.futures.ThreadPoolExecutor(count) as pool:
-        for share, (its, said) in zip(shares, pool.map(lambda it: answered(crate, program, lines[it], env, is_tried), shares)):
+        found = pool.map(lambda it: answered(crate, program, lines[it], env, is_tried), shares)
+        for share, (its, said) in zip(shares, found):
             answers[share] = its
             windows += [int(it) for it in WINDOW.findall(said)]
     return answers, windows if refusing else None
