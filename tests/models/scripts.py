@@ -81,7 +81,7 @@ class Model:
         """What may be answered where memory is refused: `memory`, and nothing is changed, or what a splice has no room for. With
         each answer how it leaves the vectors."""
         name, _, text = line.decode("latin-1").partition(" ")
-        if text.startswith(("drain", "splice")):
+        if name in self.held and text.startswith(("drain", "splice")):
             yield self, f"memory {self.state(name)}".encode()
         for granted in range(6 if name in self.held else 0):
             left = copy.deepcopy(self)
