@@ -181,7 +181,7 @@ class Copy:
         self.folder = self.top / "crates" / crate.name
         self.out = self.folder / "out"
 
-    def lay(self):
+    def __enter__(self):
         # A run that was killed may have left one.
         shutil.rmtree(self.top, ignore_errors=True)
         needed = [*self.crate.below, self.crate]
@@ -192,9 +192,6 @@ class Copy:
         self.out.mkdir(exist_ok=True)
         if (self.crate.out / crates.KEPT).is_dir():
             link(self.crate.out / crates.KEPT, self.out / crates.KEPT)
-
-    def __enter__(self):
-        self.lay()
         return self
 
     def rt(self, words, log):

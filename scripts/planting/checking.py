@@ -56,8 +56,8 @@ class Desk:
     was kept, so that other commands may build them anew."""
 
     def __init__(self, crate, room):
-        self.room, self.base = room, running.Copy(crate, room / crate.name)
-        self.base.lay()
+        # It goes with the room, and puts nothing in place of what the crate has.
+        self.room, self.base = room, running.Copy(crate, room / crate.name).__enter__()
 
     def check(self, texts, paths, jobs, keeps=False):
         """Checks the functions of these paths, or the whole crate where there are none, with these texts in place of its own.
