@@ -42,12 +42,14 @@ def further(once, twice):
 
 def counted(command):
     """The rounds and instructions of each row."""
-    with tempfile.TemporaryDirectory() as folder:
-        counts = f"{folder}/counts"
-        printed = run(command, counts, stdout=subprocess.PIPE)
-        with open(counts, encoding="utf-8") as file:
-            totals = totals_of(file)
-    rows = [line.split() for line in printed.splitlines()]
+    printed, lines = run(command, stdout=subprocess.PIPE)
+    rows, totals, is_row = [line.split() for line in printed.splitlines()], [], False
+    # Those of the parts that the end of a row made.
+    for line in lines:
+        if line.startswith("desc: Trigger:"):
+            is_row = "--dump-before" in line
+        elif is_row and line.startswith("totals:"):
+            totals.append(int(line.split()[1]))
     if len(rows) != len(totals):
         raise ValueError(f"{command}: {len(rows)} rows, but {len(totals)} counts")
     return {(row[0], int(row[1])): (int(row[2]), total) for row, total in zip(rows, totals)}
@@ -55,29 +57,18 @@ def counted(command):
 
 def of_run(command, source):
     """The instructions of a run that reads the file."""
-    with tempfile.TemporaryDirectory() as folder, open(source, "rb") as lines:
-        counts = f"{folder}/counts"
-        run(command, counts, stdin=lines, stdout=subprocess.DEVNULL)
-        with open(counts, encoding="utf-8") as file:
-            return next(int(line.split()[1]) for line in file if line.startswith("totals:"))
+    with open(source, "rb") as given:
+        _, lines = run(command, stdin=given, stdout=subprocess.DEVNULL)
+    return next(int(line.split()[1]) for line in lines if line.startswith("totals:"))
 
 
-def run(command, counts, **streams):
-    """Runs the program, writes its counts to the file of this name, and returns what it printed."""
+def run(command, **streams):
+    """What the program printed, and the lines of its counts."""
     program, *words = command
-    ran = subprocess.run(
-        [shutil.which(COUNTER[0]), *COUNTER[1:], f"--callgrind-out-file={counts}", f"./{program.name}", *words],
-        check=True, stderr=subprocess.DEVNULL, text=True, cwd=program.parent, env=ENVIRONMENT, **streams,
-    )
-    return ran.stdout
-
-
-def totals_of(file):
-    """The counts of the parts that the end of a row made."""
-    totals, is_row = [], False
-    for line in file:
-        if line.startswith("desc: Trigger:"):
-            is_row = "--dump-before" in line
-        elif is_row and line.startswith("totals:"):
-            totals.append(int(line.split()[1]))
-    return totals
+    with tempfile.TemporaryDirectory() as folder:
+        ran = subprocess.run(
+            [shutil.which(COUNTER[0]), *COUNTER[1:], f"--callgrind-out-file={folder}/counts", f"./{program.name}", *words],
+            check=True, stderr=subprocess.DEVNULL, text=True, cwd=program.parent, env=ENVIRONMENT, **streams,
+        )
+        with open(f"{folder}/counts", encoding="utf-8") as file:
+            return ran.stdout, file.readlines()

@@ -6,10 +6,8 @@ proved as it is.
 """
 import functools
 import re
-import shutil
-import sys
 
-from building import crates
+from building import crates, running
 
 NAME = "tinyvec_bench"
 CPU = "x86-64-v3"
@@ -59,15 +57,6 @@ class Made(crates.Crate):
         return text
 
 
-class Run(crates.Run):
-    def rt(self, crate, folder, words, log):
-        status = super().rt(crate, folder, [*words, *crate.flags], log)
-        if crate.flags and status == 0:
-            # rt leaves no mark of its own where a flag is given.
-            (folder / "out" / crate.mark).write_text(crate.sum, encoding="utf-8")
-        return status
-
-
 def words():
     """What each block of WORDS puts in the place of which patterns."""
     found = {}
@@ -97,19 +86,16 @@ def programs():
 
 
 def main():
-    crates.lock(crates.with_below([base()]))
-    for name, crate in programs().items():
-        if crate.is_built():
-            continue
+    running.lock(crates.with_below([base()]))
+    lacking = [it for it in programs().values() if not it.is_built()]
+    for crate in lacking:
         crate.out.mkdir(parents=True, exist_ok=True)
-        kept = "incremental"
         # The functions that the other words leave as they were are proved once, with the program as it is.
-        if (crate.base.out / kept).is_dir() and not (crate.out / kept).exists():
-            shutil.copytree(crate.base.out / kept, crate.out / kept)
-        crates.say(f"{NAME}, {name}: proved and built now")
-        if not Run([crate]).build(crate, crates.CORES):
-            sys.exit(f"{crate.out}/build.log: not proved")
+        if (crate.base.out / crates.KEPT).is_dir() and not (crate.out / crates.KEPT).exists():
+            running.link(crate.base.out / crates.KEPT, crate.out / crates.KEPT)
+        # All cores for one after the other, since each needs much memory.
+        running.build_all([crate])
 
 
 if __name__ == "__main__":
-    crates.run_main(main)
+    running.run_main(main)

@@ -8,7 +8,6 @@ toolchain's and Rust's, and prints a table of each: instructions as callgrind co
            documents quote, and how the time grows into docs/pictures, and names the rows that rose by 3 %
 """
 import contextlib
-import io
 import os
 import sys
 
@@ -45,10 +44,10 @@ def main():
     with result("programs", is_kept):
         measured = whole.measure(effort.program_lines, effort.program_runs, CORE)
         print(f"{effort.program_lines} lines for each program. Times are the least of {effort.program_runs} runs.\n")
-        print_table("programs", is_kept, tables.print_programs, measured)
+        tables.print_programs(measured)
     for name, programs in (("toolchain", beside_toolchain()), ("rust", beside_rust())):
         with result(name, is_kept):
-            measure_rows(name, programs, effort, is_kept)
+            measure_rows(programs, effort)
     with result(kit.CPU, is_kept):
         # The instructions of both sides for another processor.
         counted = instructions.count(beside_rust(kit.CPU), effort.counted_rounds)
@@ -57,6 +56,7 @@ def main():
     with result("growth", is_kept):
         measure_growth(effort, is_kept)
     if is_kept:
+        tables.put()
         quotes.put()
 
 
@@ -77,25 +77,16 @@ def result(name, is_kept):
         rises.put(name, before, path.read_text(encoding="utf-8"))
 
 
-def measure_rows(name, programs, effort, is_kept):
+def measure_rows(programs, effort):
     check_sums(programs, "rows")
     counted = instructions.count(programs, effort.counted_rounds)
-    print_table(name, is_kept, tables.print_means, counted)
+    tables.print_means(counted)
     tables.print_groups(counted, "instructions")
     os.sched_setaffinity(0, CORE)
     timed = nanoseconds(programs, "rows", effort.runs, effort.rounds)
     print(f"Times are the least of {effort.runs} runs.\n")
     tables.print_groups(timed, "nanoseconds")
     tables.print_disagreements(timed, counted)
-
-
-def print_table(name, is_kept, print_it, measured):
-    """Prints a table that is on docs/PERFORMANCE.md too."""
-    with contextlib.redirect_stdout(io.StringIO()) as table:
-        print_it(measured)
-    print(table.getvalue(), end="")
-    if is_kept:
-        tables.put(name, table.getvalue())
 
 
 def measure_growth(effort, is_kept):
@@ -107,7 +98,7 @@ def measure_growth(effort, is_kept):
     print(f"Times are the least of {effort.growth_runs} runs, of tv of {effort.length_runs}.\n")
     plots.print_all(grown, *lines)
     if is_kept:
-        plots.draw(TOP / "docs/pictures", grown, *lines)
+        plots.draw(grown, *lines)
 
 
 main()

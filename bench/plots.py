@@ -1,11 +1,9 @@
 """How the time grows with the number of items, and that of `tv` with the number of lines: tables, and pictures of small
-plots side by side, both axes by powers. A picture has its own background, and is dark where the reader's system is."""
-import html
+plots side by side, both axes by powers."""
 import math
-import pathlib
-import textwrap
 
 import tables
+from pages import svg
 
 # What a row of growth is measured on, by the prefix of its name.
 KINDS = {"array_": "ArrayVec", "tiny_": "TinyVec"}
@@ -13,16 +11,11 @@ CALLS = ["push", "extend", "splice", "drain", "retain"]
 
 WIDTH, HEIGHT, GAP, LEFT, TOP = 150, 120, 30, 48, 58
 
-# What stands in the legend, in the order of its classes.
-NAMES = {
-    "here": "this library", "tinyvec": "tinyvec", "smallvec": "smallvec", "arrayvec": "arrayvec", "vec": "Vec",
-    "tv": "tv", "plain Rust": "plain Rust",
+# What stands in the legend, and the class of its line.
+LEGEND = {
+    "here": ("this library", "here"), "tinyvec": ("tinyvec", "one"), "smallvec": ("smallvec", "two"),
+    "arrayvec": ("arrayvec", "two"), "vec": ("Vec", "three"), "tv": ("tv", "here"), "plain Rust": ("plain Rust", "one"),
 }
-CLASSES = {
-    "here": "here", "tv": "here", "tinyvec": "one", "plain Rust": "one", "smallvec": "two", "arrayvec": "two", "vec": "three",
-}
-
-STYLE = textwrap.indent((tables.TOP / "docs/pictures/growth.css").read_text(encoding="utf-8"), "  ")
 
 
 def lines_of(measured, row):
@@ -42,30 +35,30 @@ def print_all(measured, micros, peaks):
 
 def print_table(title, first, lines, digits):
     print(f"{title}\n")
-    tables.print_head(first, lines)
-    for count in sorted({count for values in lines.values() for count in values}):
-        tables.print_line(count, (f"{it[count]:.{digits}f}" if count in it else tables.NOTHING for it in lines.values()))
-    print(flush=True)
+    counts = sorted({count for values in lines.values() for count in values})
+    cell = lambda values, count: f"{values[count]:.{digits}f}" if count in values else tables.NOTHING
+    tables.print_table(first, [*lines], [(count, [cell(it, count) for it in lines.values()]) for count in counts])
 
 
-def draw(folder, measured, micros, peaks):
+def draw(measured, micros, peaks):
     for prefix, kind in KINDS.items():
         panels = [(call, lines_of(measured, prefix + call)) for call in CALLS]
-        write(folder, f"growth_{kind.lower()}", f"{kind}: nanoseconds an item, against the number of items", panels)
+        write(f"growth_{kind.lower()}", f"{kind}: nanoseconds an item, against the number of items", panels)
     panels = [("microseconds a line", micros), ("peak of memory, KiB", peaks)]
-    write(folder, "growth_tv", "tv against the number of lines", panels)
+    write("growth_tv", "tv against the number of lines", panels)
 
 
-def write(folder, name, title, panels):
+def write(name, title, panels):
     width, height = max(LEFT + len(panels) * (WIDTH + GAP), 420), TOP + HEIGHT + 62
-    drawn = [f'<rect x="0.5" y="0.5" width="{width - 1}" height="{height - 1}" rx="8" class="page"/>', text(16, 24, title)]
+    drawn, x = [svg.text(16, 24, title)], 16
     for i, (words, lines) in enumerate(panels):
         drawn += panel(LEFT + i * (WIDTH + GAP), words, lines)
-    drawn += legend(height - 16, list(dict.fromkeys(it for _, lines in panels for it in lines)))
-    lines = "\n".join(f"  {it}" for it in drawn)
-    head = f'<svg xmlns="http://www.w3.org/2000/svg" width="{width}" height="{height}" viewBox="0 0 {width} {height}" role="img">'
-    svg = f"{head}\n  <title>{html.escape(title)}</title>\n  <style>\n{STYLE}  </style>\n{lines}\n</svg>\n"
-    (pathlib.Path(folder) / f"{name}.svg").write_text(svg, encoding="utf-8")
+    y = height - 16
+    for it in dict.fromkeys(it for _, lines in panels for it in lines):
+        words, kind = LEGEND[it]
+        drawn += [f'<polyline points="{x},{y - 4} {x + 22},{y - 4}" class="{kind}"/>', svg.text(x + 28, y, words)]
+        x += 46 + 7 * len(words)
+    svg.write(name, title, "growth", width, height, drawn)
 
 
 def powers(numbers):
@@ -79,17 +72,17 @@ def panel(left, words, lines):
     xs = powers([count for values in lines.values() for count in values])
     ys = powers([value for values in lines.values() for value in values.values()])
     drawn = [f'<rect x="{left}" y="{TOP}" width="{WIDTH}" height="{HEIGHT}" class="frame"/>']
-    drawn.append(text(left + WIDTH / 2, TOP - 10, words, "title"))
+    drawn.append(svg.text(left + WIDTH / 2, TOP - 10, words, "title"))
     for power in range(xs[0], xs[1] + 1, 2 if xs[1] - xs[0] > 4 else 1):
-        drawn.append(text(place(10**power, xs, left, WIDTH), TOP + HEIGHT + 14, amount(power), "mark"))
+        drawn.append(svg.text(place(10**power, xs, left, WIDTH), TOP + HEIGHT + 14, amount(power), "mark"))
     for power in range(ys[0], ys[1] + 1):
-        drawn.append(text(left - 4, place(10**power, ys, TOP + HEIGHT, -HEIGHT) + 3, amount(power), "mark left"))
+        drawn.append(svg.text(left - 4, place(10**power, ys, TOP + HEIGHT, -HEIGHT) + 3, amount(power), "mark left"))
     for name, values in lines.items():
         points = (
             f"{place(count, xs, left, WIDTH):.1f},{place(value, ys, TOP + HEIGHT, -HEIGHT):.1f}"
             for count, value in sorted(values.items())
         )
-        drawn.append(f'<polyline points="{" ".join(points)}" class="{CLASSES[name]}"/>')
+        drawn.append(f'<polyline points="{" ".join(points)}" class="{LEGEND[name][1]}"/>')
     return drawn
 
 
@@ -103,16 +96,3 @@ def amount(power):
         return f"{10**power:.{-power}f}"
     unit = ["", "k", "M", "G"][power // 3]
     return f"{10 ** (power % 3)}{unit}"
-
-
-def legend(y, names):
-    drawn, x = [], 16
-    for name in names:
-        drawn.append(f'<polyline points="{x},{y - 4} {x + 22},{y - 4}" class="{CLASSES[name]}"/>')
-        drawn.append(text(x + 28, y, NAMES[name]))
-        x += 46 + 7 * len(NAMES[name])
-    return drawn
-
-
-def text(x, y, words, kind=""):
-    return f'<text x="{x:g}" y="{y:g}" class="{kind}">{html.escape(words)}</text>'

@@ -52,6 +52,12 @@ COUNTED = "instructions"
 OVER = " a round, and that over "
 WHY = f"Why above {LIMIT}"
 TABLE = re.compile(rf"(\*\*.*\*\*: {COUNTED}{OVER}(.*)\n\n.*\n.*\n)((?:\|.*\n)+)")
+# A place of PERFORMANCE for a table.
+PLACE = re.compile(r"^<!-- ([\w-]+) -->\n((?:\|.*\n)*)", re.M)
+
+
+def read(file):
+    return file.read_text(encoding="utf-8")
 
 
 def group_of(row):
@@ -83,12 +89,21 @@ def peers_of(measured, keys):
     return [it for it in measured if it != "here" and any(key in measured[it] for key in keys)]
 
 
+def print_table(first, columns, rows):
+    for name, cells in [(first, columns), ("---", ["---"] * len(columns)), *rows]:
+        print(line_of(name, cells).replace(" --- ", "---"))
+    print(flush=True)
+
+
+def line_of(first, cells):
+    return f"| {first} | {' | '.join(map(str, cells))} |"
+
+
 def print_programs(measured):
     """A line for each program, by unit: what it takes, and how much of the plain Rust program's that is."""
-    print_head("Program, over plain Rust", measured)
-    for name in next(iter(measured.values()))["here"]:
-        print_line(f"`{name}`", (cell(it, ["plain Rust"], name) for it in measured.values()))
-    print(flush=True)
+    names = next(iter(measured.values()))["here"]
+    cells = ((f"`{name}`", [cell(it, ["plain Rust"], name) for it in measured.values()]) for name in names)
+    print_table("Program, over plain Rust", [*measured], cells)
 
 
 def groups(measured):
@@ -104,16 +119,16 @@ def print_groups(measured, unit):
         names = [name_of(it, group) for it in peers]
         capacities = sorted({capacity for _, capacity in keys})
         print(f"**{group}**: {unit}{OVER}{', '.join(names)}\n")
-        print_head("Row", [*capacities, WHY] if unit == COUNTED else capacities)
-        for row in dict.fromkeys(row for row, _ in keys):
-            cells = [cell(measured, peers, (row, it)) for it in capacities]
-            print_line(row, [*cells, why(row, slow(names, cells))] if unit == COUNTED else cells)
-        print(flush=True)
+        rows = {row: [cell(measured, peers, (row, it)) for it in capacities] for row, _ in keys}
+        if unit == COUNTED:
+            capacities.append(WHY)
+            rows = {row: [*cells, why(row, names, cells)] for row, cells in rows.items()}
+        print_table("Row", capacities, rows.items())
 
 
-def why(row, peers):
-    """The last cell of a row that is above the limit over these peers."""
-    return ", ".join(dict.fromkeys(it.key for it in reasons_of(row, peers)))
+def why(row, peers, cells):
+    """The last cell of a row, of the peers that it is above the limit of."""
+    return ", ".join(dict.fromkeys(it.key for it in reasons_of(row, slow(peers, cells))))
 
 
 def slow(peers, cells):
@@ -128,28 +143,14 @@ def is_above(ratio):
 
 def print_means(measured):
     """A line for each vector and peer: the geometric mean at each capacity, and the cells above the limit."""
-    print_head("Instructions of", [*CAPACITIES, f"cells above {LIMIT}"])
-    for group, keys, peers in groups(measured):
-        for peer in peers:
-            ratios = {key: ratio(measured, peer, key) for key in keys if key in measured[peer]}
-            known = ([it for key, it in ratios.items() if key[1] == capacity] for capacity in CAPACITIES)
-            means = [statistics.geometric_mean(it) if it else None for it in known]
-            above = sum(is_above(text_of(it)) for it in ratios.values())
-            print_line(f"{group} over `{name_of(peer, group)}`", [*map(text_of, means), f"{above} of {len(ratios)}"])
-    print(flush=True)
-
-
-def print_head(first, columns):
-    print_line(first, columns)
-    print(f"|---|{'---|' * len(columns)}")
-
-
-def print_line(first, cells):
-    print(line_of(first, cells))
-
-
-def line_of(first, cells):
-    return f"| {first} | {' | '.join(map(str, cells))} |"
+    rows = []
+    for group, keys, peer in ((group, keys, peer) for group, keys, peers in groups(measured) for peer in peers):
+        ratios = {key: ratio(measured, peer, key) for key in keys if key in measured[peer]}
+        known = ([it for key, it in ratios.items() if key[1] == capacity] for capacity in CAPACITIES)
+        means = [statistics.geometric_mean(it) if it else None for it in known]
+        above = sum(is_above(text_of(it)) for it in ratios.values())
+        rows.append((f"{group} over `{name_of(peer, group)}`", [*map(text_of, means), f"{above} of {len(ratios)}"]))
+    print_table("Instructions of", [*CAPACITIES, f"cells above {LIMIT}"], rows)
 
 
 def cell(measured, peers, key):
@@ -171,28 +172,28 @@ def text_of(ratio):
 def print_disagreements(times, instructions):
     """Where one measure has this library well behind a peer, and the other before it."""
     print(f"Rows of which the time is above {LIMIT} of a peer's and the instructions below 1.0, or the other way round\n")
-    print_head("Row", ["Capacity", "Peer", "Time", "Instructions"])
-    for key in times["here"]:
-        for peer in peers_of(times, [key]):
-            time, count = ratio(times, peer, key), ratio(instructions, peer, key)
-            if max(time, count) > LIMIT and min(time, count) < 1.0:
-                print_line(key[0], [key[1], name_of(peer, group_of(key[0])), text_of(time), text_of(count)])
-    print(flush=True)
+    rows = []
+    for row, capacity, peer in ((*key, peer) for key in times["here"] for peer in peers_of(times, [key])):
+        time, count = (ratio(it, peer, (row, capacity)) for it in (times, instructions))
+        if max(time, count) > LIMIT and min(time, count) < 1.0:
+            rows.append((row, [capacity, name_of(peer, group_of(row)), text_of(time), text_of(count)]))
+    print_table("Row", ["Capacity", "Peer", "Time", "Instructions"], rows)
 
 
-def put(name, table):
-    """Writes the table in place of the one on PERFORMANCE after the comment of this name."""
-    place = rf"(<!-- {re.escape(name)} -->\n)(?:\|.*\n)*"
-    text, count = re.subn(place, lambda it: it[1] + table.strip() + "\n", read(PERFORMANCE))
-    if count != 1:
-        raise ValueError(f"{PERFORMANCE} has {count} comments <!-- {name} -->")
+def first_table(name):
+    return re.search(r"(?:^\|.*\n)+", read(RESULTS / f"{name}.md"), re.M)[0]
+
+
+def put():
+    """Writes the first table of some results in place of those on PERFORMANCE, each after a comment with their name."""
+    text = PLACE.sub(lambda it: f"<!-- {it[1]} -->\n{first_table(it[1])}", read(PERFORMANCE))
     PERFORMANCE.write_text(text, encoding="utf-8")
 
 
 def faults():
-    """Tables of PERFORMANCE that bench/results lacks, rows above the limit with no reason, and reasons of no such row."""
-    for name, table in re.findall(r"<!-- (.*) -->\n((?:\|.*\n)*)", read(PERFORMANCE)):
-        if not table or table not in read(RESULTS / f"{name}.md"):
+    """Tables of PERFORMANCE that are none of bench/results, rows above the limit with no reason, and reasons of no row."""
+    for name, table in PLACE.findall(read(PERFORMANCE)):
+        if table != first_table(name):
             yield f"docs/PERFORMANCE.md: the table {name} is not that of bench/results/{name}.md"
     used = set()
     for file in sorted(RESULTS.glob("*.md")):
@@ -220,7 +221,7 @@ def explained(text):
 
     def explained_table(table):
         rows = ((row, cells) for row, *cells, _ in map(cells_of, table[3].splitlines()))
-        return table[1] + "".join(line_of(row, [*it, why(row, slow(table[2].split(", "), it))]) + "\n" for row, it in rows)
+        return table[1] + "".join(line_of(row, [*it, why(row, table[2].split(", "), it)]) + "\n" for row, it in rows)
 
     return TABLE.sub(explained_table, text)
 
@@ -229,13 +230,10 @@ def cells_of(line):
     return [it.strip() for it in line[1:-1].split("|")]
 
 
-def read(file):
-    return file.read_text(encoding="utf-8")
-
-
 if __name__ == "__main__":
     import quotes
 
     for name in RESULTS.glob("*.md"):
         name.write_text(explained(read(name)), encoding="utf-8")
+    put()
     quotes.put()

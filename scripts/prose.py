@@ -34,25 +34,24 @@ MARK = {".rt": r" *//[/!]? ?", ".antt": r" *-- ?"}
 
 
 def main():
-    arguments = sys.argv[1:]
-    if arguments[:1] == ["--comments"]:
-        count = 0
-        for file in sorted([*TOP.glob("crates/*/src/**/*.rt"), *TOP.glob("crates/*/specs/*.antt")]):
-            if len(arguments) == 1 or file.relative_to(TOP).parts[1] in arguments:
-                # The comments, each as a paragraph.
-                mark, text = MARK[file.suffix], file.read_text(encoding="utf-8")
-                found = hard(re.sub(rf"^{mark}", "", re.sub(rf"^(?!{mark}).*$", "", text, flags=re.M), flags=re.M))
-                count += len(found)
-                print("".join(f"{file.relative_to(TOP)}: {it}\n" for it in found), end="")
-        print(f"prose: {count} hard sentences in comments")
-        return
-    for name in arguments or documents():
-        text = read(name)
+    names = sys.argv[1:]
+    are_comments = names[:1] == ["--comments"]
+    for name, text in comments(names[1:]) if are_comments else ((it, read(it)) for it in names or documents()):
         found = hard(text)
-        print(f"{name}: {words_in(text)} words, {len(found)} hard sentences")
-        print("".join(f"    {it}\n" for it in found if arguments), end="")
+        if found or not are_comments:
+            print(f"{name}: {words_in(text)} words, {len(found)} hard sentences")
+        print("".join(f"    {it}\n" for it in found if names), end="")
     print(f"prose: {len(documents())} documents, {total()} words of {MOST} in sentences, {in_all()} of {MOST_IN_ALL} in all")
     sys.exit(any(too_long()))
+
+
+def comments(names):
+    """The comments of these crates, or of all, by file, each as a paragraph."""
+    for file in sorted([*TOP.glob("crates/*/src/**/*.rt"), *TOP.glob("crates/*/specs/*.antt")]):
+        if not names or file.relative_to(TOP).parts[1] in names:
+            mark, text = MARK[file.suffix], file.read_text(encoding="utf-8")
+            only = re.sub(rf"^(?!{mark}).*$", "", text, flags=re.M)
+            yield file.relative_to(TOP), re.sub(rf"^{mark}", "", only, flags=re.M)
 
 
 def documents(*where):
@@ -74,8 +73,7 @@ def too_long():
     """What has more words than a maintainer reads in a morning, or a newcomer in ten minutes."""
     counts = [("sentences", total(), MOST), ("documents", in_all(), MOST_IN_ALL)]
     for name, words, most in [*counts, *((it, in_all([it]), most) for it, most in ALONE.items())]:
-        if words > most:
-            yield f"{name}: {words} words, and {most} at most: scripts/prose.py counts them"
+        yield from [f"{name}: {words} words, and {most} at most: scripts/prose.py counts them"] * (words > most)
 
 
 def words_in(text):
@@ -87,8 +85,9 @@ def total():
     return sum(words_in(read(it)) for it in documents() if it not in UNCOUNTED)
 
 
-def unended():
-    """Paragraphs of documents without their end, and those with two ends side by side."""
+def faults():
+    """What tests/docs refuses: too many words, and paragraphs of documents without their end, or with two side by side."""
+    yield from too_long()
     for name in documents():
         text = re.sub(r"^#.*$|^!\[.*$|^<!--.*$", "", TABLE.sub("", CODE.sub("\n", read(name))), flags=re.M)
         for paragraph in re.split(r"\n\s*\n|\n(?=- |\d+\. )", text):
@@ -102,12 +101,6 @@ def unended():
 def named():
     """The hard sentences of the documents and of the pages that show the comments of the sources."""
     yield from (f"{name}: hard to read: {it}" for name in documents(*WHERE, PAGES) for it in hard(read(name)))
-
-
-def faults():
-    """What tests/docs refuses."""
-    yield from too_long()
-    yield from unended()
 
 
 def hard(text):

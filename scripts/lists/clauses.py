@@ -1,10 +1,8 @@
 """Writes tests/clauses.txt, the lock: what each public call states, and each function with its edits.
 
-A line `clauses CALL: SUM NAMES` has the names of the call's clauses and a sum of what they state. A clause that cites a
-relation has the fields of that too, as proofs cite them: `room.place` is in `room(place)`. The fields of a clause without a
-name stand alone. A line of a call and its form is of both: `clauses ArrayVec::pop, of SliceVec: ..`. The sum is of the clauses
-and ghost items, and of the definitions in `specs/` that these cite, and those that those cite, without comments and white space;
-std's words count by their names.
+A line `clauses CALL: SUM NAMES` has the names of the call's clauses, each with the fields of the relations that it cites, as
+in `room(place)`, and a sum of what they state: of the clauses and ghost items, and of the definitions in `specs/` that these
+cite, and those that those cite, without comments and white space. std's words count by their names.
 
 `tests/docs` names what the lock lacks and each sum that differs, which this writes, each clause that the sources lack, unless a
 line of the first part of CHANGELOG.md has it and its call in backticks (of a call that is gone, the call alone), and each edit
@@ -32,7 +30,10 @@ def write():
     current, stated = found()
     for line, its in kept(names, current).items():
         current[line] = sorted({*current.get(line, ()), *its})
-    LOCK.write_text(written(current, {**sums, **stated}), encoding="utf-8")
+    sums |= stated
+    text_of = lambda line, its: f"{sums[line]} {folded(its)}".rstrip() if line in sums else " ".join(its)
+    lines = {line: text_of(line, its) for line, its in current.items()}
+    LOCK.write_text("".join(f"{line}: {text}\n" for line, text in sorted(lines.items()) if text), encoding="utf-8")
 
 
 def faults():
@@ -41,7 +42,8 @@ def faults():
     lacking = {line: [it for it in names if it not in locked.get(line, ())] for line, names in current.items()}
     yield from (f"{name}: run tests/docs --write: {line} lacks {', '.join(its)}" for line, its in lacking.items() if its)
     others = [line.removeprefix("clauses ") for line, it in stated.items() if sums.get(line) != it and not lacking[line]]
-    yield from [f"{name}: run tests/docs --write: these state something else than it was written for: {', '.join(others)}"] * bool(others)
+    why = "run tests/docs --write: these state something else than it was written for"
+    yield from [f"{name}: {why}: {', '.join(others)}"] * bool(others)
     for line, names in kept(locked, current).items():
         why = "no line of CHANGELOG.md says so" if line.startswith("clauses ") else "its function is there"
         yield from (f"{name}: {line}: {it} is gone, and {why}" for it in names)
@@ -74,11 +76,6 @@ def read():
     return names, sums
 
 
-def written(names, sums):
-    lines = {line: f"{sums[line]} {folded(names[line])}".rstrip() if line in sums else " ".join(names[line]) for line in names}
-    return "".join(f"{line}: {text}\n" for line, text in sorted(lines.items()) if text)
-
-
 def folded(names):
     """Names with their fields, as `room(place spare)`."""
     inside = {}
@@ -103,12 +100,13 @@ def unfolded(text):
 
 def found():
     """The names by call, as the sources have them, and the edits by function; and the sums of the calls."""
-    calls = [(f"clauses {key}", sorted(set(names)), text) for crate in exports.LIBRARIES for key, names, text in stated(crate)]
-    names = {line: its for line, its, _ in calls}
+    names, sums = {}, {}
+    for key, its, text in (it for crate in exports.LIBRARIES for it in stated(crate)):
+        names[f"clauses {key}"] = sorted(set(its))
+        sums |= {f"clauses {key}": hashlib.sha256(text.encode()).hexdigest()[:8]} if text else {}
     for line, edit in edits_by_function():
-        names.setdefault(line, [])
-        names[line] += [edit.name] if edit else []
-    return names, {line: hashlib.sha256(text.encode()).hexdigest()[:8] for line, _, text in calls if text}
+        names[line] = names.get(line, []) + ([edit.name] if edit else [])
+    return names, sums
 
 
 def stated(crate):
@@ -133,10 +131,6 @@ def names_of(clauses, scope):
         yield from [name] * bool(name)
         yield from (f"{name}.{it}" if name else it for it in fields)
         yield from ["ensures"] * (not name and not fields)
-
-
-def squeezed(text):
-    return " ".join(text.split())
 
 
 @functools.cache
@@ -176,9 +170,10 @@ class Scope:
         while left:
             scope, text = left.pop()
             new = [it for it in scope.cited(sources.SPACE.split(text)) if it[1] not in reached]
-            reached |= {word: squeezed(word.whole) for _, word in new}
+            reached |= {word: word.whole for _, word in new}
             left += [(home, word.whole) for home, word in new]
-        return "\n".join([*map(squeezed, texts), *sorted(set(reached.values()))])
+        squeezed = lambda texts: [" ".join(it.split()) for it in texts]
+        return "\n".join([*squeezed(texts), *sorted({*squeezed(reached.values())})])
 
 
 @functools.cache

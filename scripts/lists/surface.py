@@ -57,7 +57,10 @@ def gone(lines):
         elif not (found := LINE.match(line)):
             yield f"this line says neither where a name is nor why it is not here: {line}"
         elif found["why"]:
-            if not any(is_told(it, found) for it in told) and found["why"] not in reference.notes():
+            # A feature is named there.
+            feature = found["name"].removeprefix("feature ")
+            lines_of_it = (it for it in told if feature == found["name"] or f"`{feature}`" in it)
+            if not any(it.startswith(found["why"]) for it in lines_of_it) and found["why"] not in reference.notes():
                 yield f"docs/DIFFERENCES.md no longer says why {found['name']} is not here: {found['why']}"
         elif (found["crate"], found["other"] or found["name"]) not in known:
             yield f"{found['other'] or found['name']} is gone from {found['crate']}" + f", by which {found['name']} was here" * bool(found["other"])
@@ -95,7 +98,8 @@ def inside(export):
         unnamed = re.match(r"pub struct \w+(?:<.*>)?\((.*)\);", code)
         fields += [at for at, it in enumerate(unnamed[1].split(", ")) if it.startswith("pub ")] if unnamed else []
         yield from (f"{name}::{it}" for it in fields)
-        yield from (f"{name}: {it}" for it in item.derives())
+        derived = " ".join(re.findall(r"#\[derive\((.*?)\)\]", " ".join(item.attributes)))
+        yield from (f"{name}: {it}" for it in re.findall(r"\w+", derived))
     if export.kind == "trait":
         yield from (f"{name}::{it.name}" for it in item.members() if it.kind in ("fn", "type", "const"))
 
@@ -104,12 +108,5 @@ def inside(export):
 def of_the_kit():
     """The crates of the toolchain that the libraries use, each with its user."""
     known = crates.read_crates()
-    users = {name: known[name].row.partition(":")[2].split() for name in exports.LIBRARIES}
-    kit = {(it, name) for name, used in users.items() for it in used if it not in known}
-    return {(it, name) for it, name in kit if any(re.search(rf"^use {it}\b".encode(), text, re.M) for text in known[name].sources.values())}
-
-
-def is_told(line, found):
-    """Whether a line of docs/DIFFERENCES.md is the one that tells of a name. A feature is named there."""
-    feature = found["name"].removeprefix("feature ")
-    return line.startswith(found["why"]) and (feature == found["name"] or f"`{feature}`" in line)
+    kit = [(it, name, b"\n".join(known[name].sources.values())) for name in exports.LIBRARIES for it in known[name].of_kit]
+    return {(it, name) for it, name, text in kit if re.search(rf"^use {it}\b".encode(), text, re.M)}

@@ -53,13 +53,11 @@ def faults(keys, calls):
 
 def crate(callers):
     """The crate whose tests the examples are, each by the name of its call. It uses what the crate of the callers uses."""
-    one = crates.Crate("examples", f"examples: {' '.join(it.name for it in callers.uses)}", callers.uses)
+    one, tests = crates.Crate("examples", f"examples: {' '.join(it.name for it in callers.uses)}", callers.uses), []
+    for name, text in examples():
+        lines = "let alloc = rt.alloc();\n" * bool(re.search(r"\balloc\b", text)) + text
+        name = re.sub(r"\W+", "_", name.replace("!", "_macro")).lower()
+        tests.append(TEST.format(name=name, lines=textwrap.indent(lines, "    ")))
     one.out = callers.out
-    one.files = one.sources = {"src/lib.rt": (HEAD + "".join(map(test, *zip(*examples())))).encode()}
+    one.files = one.sources = {"src/lib.rt": (HEAD + "".join(tests)).encode()}
     return one
-
-
-def test(name, text):
-    lines = "let alloc = rt.alloc();\n" * bool(re.search(r"\balloc\b", text)) + text
-    name = re.sub(r"\W+", "_", name.replace("!", "_macro")).lower()
-    return TEST.format(name=name, lines=textwrap.indent(lines, "    "))

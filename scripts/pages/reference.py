@@ -1,11 +1,12 @@
-"""Writes the reference, docs/reference/*.md: all that the library crates export, with contracts, callers and what differs in Rust.
+"""Writes the reference, docs/reference/*.md: all that the libraries export, with contracts, callers and what differs in Rust.
 
-`tests/docs` names the pages that differ from what this would write or have more than MOST lines, exports that are on no page or
-on two, comments that are missing, and calls without a caller. What precedes the line MARK of a page is written by hand.
+`tests/docs` names the pages that differ from what this would write or have more than MOST lines, comments that are missing,
+and calls without a caller. What precedes the line MARK of a page is written by hand.
 """
 import functools
 import re
 
+from building.crates import text_of
 from pages import examples, outcomes
 from reading import callers, exports
 from reading.exports import PAGES
@@ -17,23 +18,18 @@ MARK = "<!-- scripts/pages/reference.py writes what follows -->"
 
 # A page has at most so many lines.
 MOST = 2000
-
 # The page of the table of calls, and the types that it has.
 INDEX = "README"
 COLUMNS = ("ARRAY_VEC", "SLICE_VEC", "TINY_VEC", "INLINE_TEXT")
-
-# Of a caller of more lines than this, and of one that the page has shown, only the line of the call is shown, between its neighbours.
+# Of a caller of more lines, and of one that the page has shown, only the line of the call is shown, between its neighbours.
 LONGEST = 8
-
 # The sections that a type with two pages has on the second, whose name ends so.
 SECOND = "_BULK"
 BULK = ("extending", "drain", "splice", "filters", "clones", "into_iter")
-
 # A note is shown on the first of its pages in this order.
-ORDER = ("TINY_VEC", "TINY_VEC_BULK", "ARRAY_VEC", "ARRAY_VEC_BULK", "SLICE_VEC", "INLINE_TEXT", "BORSH", "COUNTED", "SCRIPT", "SLOTS")
-
+ORDER = ("TINY_VEC", "TINY_VEC_BULK", *(it for it in PAGES if not it.startswith("TINY_VEC")))
 # The sections of all pages, each with its title, if it has one of its own.
-LINES = (FOLDER / "sections.txt").read_text(encoding="utf-8").splitlines()
+LINES = text_of(FOLDER / "sections.txt").splitlines()
 SECTIONS = {it.split(" | ")[0]: it.partition(" | ")[2] for it in LINES if it and not it.startswith("#")}
 # The modules whose section is another's.
 TOGETHER = {"array": "slots", "bound": "slots", "takes_clones": "slots"}
@@ -58,38 +54,32 @@ def write():
 def faults():
     written = {}
     for file, _, below, text in pages():
-        name = file.relative_to(TOP)
-        written[file.stem] = file.read_text(encoding="utf-8")
-        yield from [f"{name}: not as scripts/pages/reference.py writes it: run tests/docs --write"] * (below != text)
+        written[file.stem] = text_of(file)
+        if below != text:
+            yield f"{file.relative_to(TOP)}: not as scripts/pages/reference.py writes it: run tests/docs --write"
     library = Library()
     for crate in library.crates:
         yield from crate.lost()
     unlisted = (it.parent.name for it in TOP.glob("crates/*/CALLING.md") if it.parent.name not in exports.LIBRARIES)
     yield from (f"crates/{it}: a library that scripts/reading/exports.py does not list" for it in unlisted)
-    for page, found in library.pages.items():
-        shown = " ".join(written[page].split())
-        yield from [f"docs/reference/{page}.md: more than {MOST} lines: give a section to its second page"] * (written[page].count("\n") > MOST)
-        for it in found:
-            marks = {name: it.mark(main_of(page) if main_of(name) == main_of(page) else None) for name in written}
-            places = [name for name, text in written.items() for _ in range(text.count(marks[name]))]
-            yield from [f"{it.source.path}: {it.key()} is on {len(places)} pages of docs/reference: {', '.join(places)}"] * (len(places) != 1)
-            yield from (f"{it.source.path}: not on {page}: {line}" for line in it.said() if line not in shown)
-            yield from (f"{it.source.path}: {it.key()}: a sentence without its end: {said[-60:]}" for said in it.prose() if not said.endswith((".", ":")))
-            if it.kind != "impl" and not it.item.comment:
-                yield f"{it.source.path}: {it.key()} has no `///`"
-            if it.key() in library.uncalled and not it.is_part:
-                yield f"docs/reference/{page}.md: no caller of {it.key()}: write one in crates/tinyvec_examples/src"
+    shown = {page: " ".join(text.split()) for page, text in written.items()}
+    for page, it in library.entries():
+        where, key = it.source.path, it.key()
+        yield from (f"{where}: not on {page}: {line}" for line in it.said() if line not in shown[page])
+        unended = (said[-60:] for said in it.prose() if not said.endswith((".", ":")))
+        yield from (f"{where}: {key}: a sentence without its end: {said}" for said in unended)
+        yield from [f"{where}: {key} has no `///`"] * (it.kind != "impl" and not it.item.comment)
+        if key in library.uncalled and not it.is_part:
+            yield f"docs/reference/{page}.md: no caller of {key}: write one in crates/tinyvec_examples/src"
     yield from exports.table_faults(COSTS, [it for it, _ in costs()], library.calls)
     yield from examples.faults(library.keys, library.calls)
-    sections = {it.section(main_of(page)) for page, found in library.pages.items() for it in found}
+    sections = {it.section() for _, it in library.entries()}
     yield from (f"docs/reference/sections.txt: {it} is only there, or only on a page" for it in sorted(sections ^ set(SECTIONS)))
-    for page, found in library.pages.items():
-        for it in (it for it in found if it.key() in library.calls - library.uncalled - library.examples.keys()):
-            entry = written[page].partition(it.mark(main_of(page)))[2].partition("\n##")[0]
-            shown = re.search(r"\nA caller,[^\n]*\n\n```\n(.*?)\n```\n", entry, re.S)
-            is_short = not shown or shown[1].count("\n") < 2
-            yield from [f"docs/reference/{page}.md: {it.key()} shows fewer than three lines of a caller"] * is_short
-    yield from (f"docs/reference/{page}.md: {it}" for page, text in written.items() for it in said_twice(text))
+    yield from (f"{it} shows fewer than three lines of a caller" for it in sorted(library.short))
+    for page, text in written.items():
+        if text.count("\n") > MOST:
+            yield f"docs/reference/{page}.md: more than {MOST} lines: give a section to its second page"
+        yield from (f"docs/reference/{page}.md: {it}" for it in said_twice(text))
     yield from wrong_errors(library)
     yield from (f"docs/DIFFERENCES.md: no such call: {it}" for it in library.notes if it not in library.keys)
     for cells in differences():
@@ -108,31 +98,14 @@ def said_twice(text):
 
 def wrong_errors(library):
     """Where the table of errors names other calls than those whose signature has the error."""
-    above = (FOLDER / f"{INDEX}.md").read_text(encoding="utf-8").partition(MARK)[0]
-    rows = re.findall(r"^\| `(\w+)(?:<[^`]*)?` \| (.*?) \|", above, re.M)
-    entries = [it for found in library.pages.values() for it in found]
+    above = text_of(FOLDER / f"{INDEX}.md").partition(MARK)[0]
+    entries = [it for _, it in library.entries()]
     types = {it.name for it in entries if it.kind in ("struct", "enum")}
-    made = [it for it in entries if it.kind in ("fn", "method") and not it.is_part]
-    for error, cell in (it for it in rows if it[0] in types):
+    for error, cell in re.findall(r"^\| `(\w+)(?:<[^`]*)?` \| (.*?) \|", above, re.M):
+        made = (it for it in entries if it.kind in ("fn", "method") and not it.is_part)
         returning = {it.name for it in made if re.search(rf"-> .*\b{error}\b", it.item.signature())}
-        named = set(re.findall(r"`([a-z]\w+)`", cell))
-        yield from (f"docs/reference/{INDEX}.md: {error}: {it}" for it in sorted(returning ^ named))
-
-
-# Calls of one name that do different things.
-UNLIKE = ("as_inner", "as_mut_inner", "capacity", "drain", "from_slice", "split_off")
-
-
-def named():
-    """Calls of several vectors whose `///` begin with different sentences."""
-    library, found = Library(), {}
-    vectors = [main_of(it) for it in COLUMNS[:3]]
-    for it in (it for entries in library.pages.values() for it in entries if it.kind == "method" and it.of in vectors):
-        said = re.split(r"(?<=\.)\s", " ".join(it.item.comment))[0]
-        found.setdefault(it.name, {}).setdefault(said, it)
-    for name, said in found.items():
-        if len(said) > 1 and name not in UNLIKE:
-            yield "one call, two sentences: " + " ".join(f"{it.key()}: {text}" for text, it in said.items())
+        wrong = returning ^ set(re.findall(r"`([a-z]\w+)`", cell)) if error in types else ()
+        yield from (f"docs/reference/{INDEX}.md: {error}: {it}" for it in sorted(wrong))
 
 
 def main_of(page):
@@ -142,12 +115,9 @@ def main_of(page):
 def pages():
     """Each page: its file, what precedes MARK there and what follows it, and what should."""
     library = Library()
-    texts = {name: Page(library, name).text() for name in ORDER}
-    texts[INDEX] = library.table()
-    for name, text in texts.items():
-        file = FOLDER / f"{name}.md"
-        above, _, below = (file.read_text(encoding="utf-8") if file.is_file() else "").partition(MARK)
-        yield file, above, below, text
+    for name, text in {**{name: Page(library, name).text() for name in ORDER}, INDEX: library.table()}.items():
+        above, _, below = text_of(FOLDER / f"{name}.md").partition(MARK)
+        yield FOLDER / f"{name}.md", above, below, text
 
 
 @functools.cache
@@ -159,39 +129,31 @@ class Library:
         # What a vector's crate passes on is for its users, all else of `tinyvec_slots` for those who write vectors.
         self.passed_on = {it for crate in self.crates for it in crate.passed_on}
         self.passed_on |= {(self.crates[0].name, it) for crate in self.crates for it in crate.aliases.values()}
-        by_crate = {it.name: [Entry(export) for export in it.exports()] for it in self.crates}
-        for it in (it for found in by_crate.values() for it in found):
-            it.is_part = self.is_part(it)
-        self.pages = {page: [it for it in by_crate[crate] if page_of(crate, it) == page] for page, (crate, _) in PAGES.items()}
-        self.keys = {it.key() for found in self.pages.values() for it in found}
+        made = [Entry(export, self) for crate in self.crates for export in crate.exports()]
+        self.pages = {page: [it for it in made if it.page == page] for page in PAGES}
+        self.keys = {it.key() for _, it in self.entries()}
         self.callers = {}
         for caller in callers.callers(callers.Known(self.crates)):
             for it in caller.calls:
                 self.callers[it] = min(self.callers.get(it, caller), caller, key=lambda one: len(one.text))
         self.uncalled = {it for it in self.keys if is_call(it)} - self.callers.keys()
-        self.calls = {it.key() for found in self.pages.values() for it in found if is_call(it.key()) and not it.is_part}
+        self.calls = {it.key() for _, it in self.entries() if is_call(it.key()) and not it.is_part}
         self.costs, self.examples = dict(costs()), dict(examples.examples())
-        self.notes = notes()
-        # Where a note is shown.
-        self.noted = {}
+        # Where a note is shown, and the calls of which few lines of a caller are.
+        self.notes, self.noted, self.short = notes(), {}, set()
 
-    def is_part(self, entry):
-        """Whether an export is what vectors are written with, and nothing for their users."""
-        slots = self.crates[0]
-        named = set(re.findall(r"\w+", f"{entry.trait or entry.of or entry.name} {entry.of or ''}")) & slots.names.keys()
-        if entry.source.crate != slots.name and entry.kind != "impl":
-            return False
-        return bool(named) and not any((slots.name, it) in self.passed_on for it in named)
+    def entries(self):
+        return [(page, it) for page, found in self.pages.items() for it in found]
 
     def table(self):
         """Which of the four types has a call, by name, and which implements a trait."""
         calls, traits = {}, {}
         for page in COLUMNS:
             main = main_of(page)
-            shown = ((home, it) for home, found in self.pages.items() for it in found if not it.is_part)
-            for home, it in (pair for pair in shown if main == pair[1].of or main in pair[1].also and not pair[1].of.startswith("&")):
-                rows, name = (traits, it.trait) if it.trait else (calls, it.name)
-                rows.setdefault(name, {})[page] = f"[✓]({home}.md#{it.anchor(main_of(home))})"
+            for home, it in self.entries():
+                if not it.is_part and (main == it.of or main in it.also and not it.of.startswith("&")):
+                    rows, name = (traits, it.trait) if it.trait else (calls, it.name)
+                    rows.setdefault(name, {})[page] = f"[✓]({home}.md#{it.anchor()})"
         heads = " | ".join(f"[`{main_of(it)}`]({it}.md)" for it in COLUMNS)
         lines = []
         for title, rows in (("Call", calls), ("Trait", traits)):
@@ -204,18 +166,10 @@ class Library:
             main = main_of(page)
             is_listed = lambda it: it.is_part or it.kind == "impl" or it.name == main or it.of in types and it.of == main
             others = (it for it in found if not is_listed(it))
-            links = [f"[`{it.heading(main).strip('`')}`]({page}.md#{it.anchor(main)})" for it in others]
-            title = (FOLDER / f"{page}.md").read_text(encoding="utf-8").partition("\n")[0].removeprefix("# ")
+            links = [it.link(page) for it in others]
+            title = text_of(FOLDER / f"{page}.md").partition("\n")[0].removeprefix("# ")
             lines += [f"\n| [{title}]({page}.md) | {', '.join(links)} |"] * bool(links)
         return "".join(lines) + "\n"
-
-
-def page_of(crate, export):
-    """The page of an export: that of its type or, if its section is there, the second one, or the first of the crate."""
-    found = [page for page, (of, _) in PAGES.items() if of == crate]
-    named = (export.of or export.name).lstrip("&").removeprefix("mut ")
-    page = next((page for page in found if main_of(page) and named.startswith(main_of(page))), found[0])
-    return page + SECOND if page + SECOND in found and export.section(main_of(page)) in BULK else page
 
 
 def is_call(key):
@@ -225,7 +179,7 @@ def is_call(key):
 def costs():
     """Each call, as `TinyVec::push`, `tiny_vec!` or `run`, with its line of COSTS: what takes its time, what it allocates, and names."""
     of = ""
-    for line in (it for it in COSTS.read_text(encoding="utf-8").splitlines() if it and not it.startswith("#")):
+    for line in (it for it in text_of(COSTS).splitlines() if it and not it.startswith("#")):
         *cost, names = (it.strip() for it in line.split("|"))
         of = of if cost else names
         for name in names.split() if cost else ():
@@ -236,46 +190,50 @@ def costs():
 def notes():
     """What the last column of the table of differences ties to a type and a call: `TinyVec::{extend, fill}`, `ArrayVec: Clone`."""
     found = {}
-    for cells in differences():
-        for of, mark, names in NAMES.findall(cells[2].replace("`", "")):
-            for name in re.findall(r"\w+!?", names):
-                # A macro is of no type.
-                key = name if name.endswith("!") else of + mark + name
-                found.setdefault(key, []).append(f"In Rust: {cells[0]}. Here: {cells[1]}.")
+    for rust, here, calls in differences():
+        named = NAMES.findall(calls.replace("`", ""))
+        for of, mark, name in ((of, mark, it) for of, mark, names in named for it in re.findall(r"\w+!?", names)):
+            # A macro is of no type.
+            key = name if name.endswith("!") else of + mark + name
+            found.setdefault(key, []).append(f"In Rust: {rust}. Here: {here}.")
     return found
 
 
 def differences():
     """The rows of the table of differences."""
-    rows = (TOP / "docs/DIFFERENCES.md").read_text(encoding="utf-8").splitlines()
-    found = ([it.strip() for it in row.strip("|").split(" | ")] for row in rows if row.startswith("| "))
-    return [it for it in found if len(it) == 3]
+    rows = (row for row in text_of(TOP / "docs/DIFFERENCES.md").splitlines() if row.startswith("| "))
+    return [it for it in (list(map(str.strip, row.strip("|").split(" | "))) for row in rows) if len(it) == 3]
 
 
 class Entry(exports.Export):
     """An export as a page shows it."""
 
-    def __init__(self, export):
+    def __init__(self, export, library):
         self.__dict__.update(export.__dict__)
-        self.is_part = False
+        slots = library.crates[0]
+        named = set(re.findall(r"\w+", f"{self.trait or self.of or self.name} {self.of or ''}")) & slots.names.keys()
+        is_passed_on = any((slots.name, it) in library.passed_on for it in named)
+        # Whether it is what vectors are written with, and nothing for their users.
+        self.is_part = bool(named) and not is_passed_on and (self.source.crate == slots.name or self.kind == "impl")
+        # That of its type or, if its section is there, the second one, or the first of the crate.
+        found = [page for page, (of, _) in PAGES.items() if of == self.source.crate]
+        of = (self.of or self.name).lstrip("&").removeprefix("mut ")
+        page = next((page for page in found if main_of(page) and of.startswith(main_of(page))), found[0])
+        self.main = main_of(page)
+        self.page = page + SECOND if page + SECOND in found and self.section() in BULK else page
 
-    def heading(self, main):
+    def heading(self):
         if self.trait:
             article = "a " * self.of.startswith("&")
             return f"`{self.trait}` for {article}`{self.of}`"
-        return f"`{self.name}`" if self.of == main and self.of else f"`{self.key()}`"
+        return f"`{self.name}`" if self.of == self.main and self.of else f"`{self.key()}`"
 
-    def mark(self, main):
-        """What is once on the page of an export."""
-        if self.is_part:
-            return self.link()
-        return f'<a id="{self.anchor(main)}">' if self.is_row() else f"\n### {self.heading(main)}\n"
+    def anchor(self):
+        return anchor(self.heading())
 
-    def anchor(self, main):
-        return anchor(self.heading(main))
-
-    def link(self):
-        return f"[`{self.key()}`](../../{self.source.path})"
+    def link(self, page="", text=""):
+        """A link to it on a page, or on the one that has the link."""
+        return f"[`{text or self.heading().strip('`')}`]({page and f'{page}.md'}#{self.anchor()})"
 
     def is_row(self):
         """Whether a line of a table says all of an impl: no function of it has a contract."""
@@ -286,14 +244,14 @@ class Entry(exports.Export):
         shown = (re.sub(r"^ghost (.*?) = \{ (.*) \};$", r"\1 = \2", " ".join(" ".join(it.lines).split())) for it in self.ghosts())
         codes = "; ".join("`" + it.replace("|", "\\|") + "`" for it in shown)
         cell = ". ".join(it for it in (codes, " ".join(said)) if it)
-        return f'| <a id="{self.anchor(None)}"></a>`{self.item.signature().rstrip(",")}` | {cell} |\n'
+        return f'| <a id="{self.anchor()}"></a>`{self.item.signature().rstrip(",")}` | {cell} |\n'
 
     def ghosts(self):
         """What an impl defines, without its proofs."""
         return [it for it in self.item.members() if it.kind == "ghost" and not PROOFS.match(it.lines[0])]
 
-    def section(self, main):
-        stem = TOGETHER.get("/".join(self.source.module), self.source.file.stem)
+    def section(self):
+        main, stem = self.main, TOGETHER.get("/".join(self.source.module), self.source.file.stem)
         of = re.sub(r"^&(?:mut )?", "", self.of or self.name)
         if self.is_part:
             return "parts"
@@ -314,7 +272,7 @@ class Entry(exports.Export):
 
     def outcomes(self):
         """What the clauses of each of these functions tell."""
-        known = exports.imported(self.source.file.read_text(encoding="utf-8"))
+        known = exports.imported(text_of(self.source.file))
         return [(it.name, outcomes.Outcomes(it, known)) for it in self.functions()]
 
     def failure(self):
@@ -364,7 +322,7 @@ class Entry(exports.Export):
 
 def cited(file, text):
     """The words that a text of a file cites, with the path that defines each, but for operators, variants, proofs and std's prelude."""
-    known = exports.imported(file.read_text(encoding="utf-8"))
+    known = exports.imported(text_of(file))
     found = (known[it] for it in dict.fromkeys(re.findall(r"[^\s(){}.,;:\[\]]+", text)) if it in known)
     return [it for it in found if re.fullmatch(r"[\w-]+", it[1]) and not NO_WORDS.search(it[0])]
 
@@ -393,10 +351,9 @@ class Page:
     def __init__(self, library, name):
         self.library, self.name, self.entries, self.shown = library, name, library.pages[name], set()
         self.codes, self.told = {}, set()
-        self.main = main_of(name)
-        self.sections = {}
+        self.main, self.sections = main_of(name), {}
         for it in self.entries:
-            self.sections.setdefault(it.section(self.main), []).append(it)
+            self.sections.setdefault(it.section(), []).append(it)
         for found in self.sections.values():
             # The calls of the page's type, then what they return.
             found.sort(key=self.place)
@@ -411,42 +368,46 @@ class Page:
         title = SECTIONS.get(section) or self.sections[section][0].source.title.replace("`", "")
         return title.partition(". ")[0]
 
-    def contents(self, place=""):
-        """A row for each section, of a page at a place."""
-        for section in self.order:
-            shown = (it for it in self.sections[section] if not it.is_part)
-            links = ", ".join(f"[`{it.trait or it.heading(self.main).strip('`')}`]({place}#{it.anchor(self.main)})" for it in shown)
-            yield f"| [{self.title(section)}]({place}#{anchor(self.title(section))}) | {links} |\n"
+    def link(self, section, page=""):
+        """A link to a section of this page, on a page, and those to what it has."""
+        title, found = self.title(section), [it for it in self.sections[section] if not it.is_part]
+        return f"[{title}]({page and f'{page}.md'}#{anchor(title)})", found
+
+    def contents(self, page=""):
+        """A row for each section, for this page or another."""
+        for title, found in (self.link(it, page) for it in self.order):
+            yield f"| {title} | {', '.join(it.link(page, it.trait) for it in found)} |\n"
 
     def text(self):
         below, cited, rows = [], {}, [*self.contents()]
         if self.name + SECOND in PAGES:
-            rows += Page(self.library, self.name + SECOND).contents(f"{self.name}{SECOND}.md")
+            rows += Page(self.library, self.name + SECOND).contents(self.name + SECOND)
         for section in self.order:
             found = self.sections[section]
             below.append(f"\n## {self.title(section)}\n")
             # Each word has a link in the first section that cites it.
             words = [word for it in found if not it.is_part for word in it.words() if cited.setdefault(word, section) == section]
-            links = ", ".join(f"[`{name}`](WORDS.md#{exports.word_anchor(path, name)})" for path, name in sorted(set(words), key=lambda it: it[1].lower()))
+            words = sorted(set(words), key=lambda it: it[1].lower())
+            links = ", ".join(f"[`{name}`](WORDS.md#{exports.word_anchor(path, name)})" for path, name in words)
             below += [f"\nWords: {links}.\n"] if words else []
             below += self.parts(found) if section == "parts" else self.section(found)
         return f"\n\n{self.costs()}| | |\n|---|---|\n" + "".join(rows + below)
 
     def costs(self):
         """A table of what the calls cost, those of the page's type first."""
-        calls = {it.key(): it for it in self.entries if it.key() in self.library.costs}
-        rows = {}
+        calls, rows = {it.key(): it for it in self.entries}, {}
         for key, cost in self.library.costs.items():
             if key in calls:
-                it = calls[key]
-                rows.setdefault((*cost, it.failure()), []).append(f"[`{it.heading(self.main).strip('`')}`](#{it.anchor(self.main)})")
-        lines = [f"| {', '.join(links)} | {time} | {allocates} | {failure} |\n" for (time, allocates, _, failure), links in rows.items()]
-        return "| Calls | Time for | Allocate | Fail |\n|---|---|---|---|\n" + "".join(lines) + "\n## Contents\n\n" if lines else ""
+                rows.setdefault((*cost, calls[key].failure()), []).append(calls[key].link())
+        lines = ["| Calls | Time for | Allocate | Fail |\n|---|---|---|---|\n"]
+        for (time, allocates, _, fails), links in rows.items():
+            lines.append(f"| {', '.join(links)} | {time} | {allocates} | {fails} |\n")
+        return "".join([*lines, "\n## Contents\n\n"]) if rows else ""
 
     def parts(self, found):
         yield "\nVectors are written with these; their contracts are in the sources.\n\n"
         for source in dict.fromkeys(it.source for it in found):
-            yield f"- {', '.join(it.link() for it in found if it.source == source)}\n"
+            yield f"- {', '.join(f'[`{it.key()}`](../../{source.path})' for it in found if it.source == source)}\n"
 
     def section(self, found):
         for it in found:
@@ -456,7 +417,7 @@ class Page:
 
     def entry(self, it):
         """What it is called as, what it does, an example or a caller, and its contract, which is folded."""
-        yield f"\n### {it.heading(self.main)}\n"
+        yield f"\n### {it.heading()}\n"
         code, twin, instead = it.code(), *self.twin(it)
         # A comment at its end is of what follows.
         head = re.sub(r"(?:\n +//[^\n]*)+$", "", CONTRACT.split(code, maxsplit=1)[0])
@@ -476,9 +437,10 @@ class Page:
         elif caller and is_call(it.key()):
             yield from self.caller(it, caller)
         if twin is not it:
-            yield f"\nIts contract is that of [`{twin.trait or twin.name}`](#{twin.anchor(self.main)}){instead}.{proved}\n"
+            yield f"\nIts contract is that of {twin.link('', twin.trait or twin.name)}{instead}.{proved}\n"
         elif head != code:
-            yield f"\n<details><summary>Contract</summary>\n\n```\n{code}\n```\n{proved and f'{chr(10)}{proved.strip()}{chr(10)}'}\n</details>\n"
+            below = f"\n{proved.strip()}\n" if proved else ""
+            yield f"\n<details><summary>Contract</summary>\n\n```\n{code}\n```\n{below}\n</details>\n"
 
     def aliased(self, it):
         """The calls and traits of the type that an alias names, as a table if these are in several sections."""
@@ -486,12 +448,11 @@ class Page:
         is_form = any(it.name in crate.forms.values() for crate in self.library.crates)
         has = lambda one: one.name == of or it.name in (one.of, *one.also) or one.of == of and not is_form
         rows = []
-        for page in (self if it == self.name else Page(self.library, it) for it in self.library.pages):
-            place = "" if page is self else f"{page.name}.md"
-            for section in page.order:
-                its = (one for one in page.sections[section] if not one.is_part and has(one))
-                links = [f"[`{one.trait or one.name}`]({place}#{one.anchor(page.main)})" for one in its]
-                rows += [(f"[{page.title(section)}]({place}#{anchor(page.title(section))})", ", ".join(links))] if links else []
+        for page in (self if name == self.name else Page(self.library, name) for name in self.library.pages):
+            place = "" if page is self else page.name
+            for title, found in (page.link(section, place) for section in page.order):
+                links = [one.link(place, one.trait or one.name) for one in found if has(one)]
+                rows += [(title, ", ".join(links))] if links else []
         if len(rows) > 2:
             yield "\n| Its type, calls and traits | |\n|---|---|\n" + "".join(f"| {title} | {links} |\n" for title, links in rows)
         elif rows:
@@ -512,11 +473,11 @@ class Page:
         yield from ["\n", *lines] if lines else ()
 
     def caller(self, it, caller):
-        if caller.text.count("\n") > LONGEST or caller.text in self.shown:
-            yield f"\nA caller, `{caller.name}` in {caller.link()}:\n\n```\n{caller.around(it.key())}\n```\n"
-        else:
-            self.shown.add(caller.text)
-            yield f"\nA caller, in {caller.link()}:\n\n```\n{caller.text}\n```\n"
+        is_part = caller.text.count("\n") > LONGEST or caller.text in self.shown
+        text, name = (caller.around(it.key()), f"`{caller.name}` ") if is_part else (caller.text, "")
+        self.shown |= {text} if not is_part else set()
+        self.library.short |= {f"docs/reference/{self.name}.md: {it.key()}"} if text.count("\n") < 2 else set()
+        yield f"\nA caller, {name}in [`{caller.path}`]({caller.place()}):\n\n```\n{text}\n```\n"
 
     def twin(self, it):
         """The entry above that has the same contract but for its name, as a call and its `try_` form, and what differs otherwise."""
@@ -532,18 +493,14 @@ class Page:
 
     def notes(self, it):
         for note in self.library.notes.get(it.key(), []):
-            page, first = self.library.noted.setdefault(note, (self.name, it))
-            if first is it:
-                yield note
-            else:
-                name = first.trait or first.name if page == self.name else first.key()
-                place = f"#{first.anchor(main_of(page))}"
-                yield f"In Rust: see [`{name}`]({'' if page == self.name else page + '.md'}{place})."
+            first = self.library.noted.setdefault(note, it)
+            is_here = first.page == self.name
+            link = first.link("", first.trait or first.name) if is_here else first.link(first.page, first.key())
+            yield note if first is it else f"In Rust: see {link}."
 
 
 def difference(old, new):
     """The words in which two declarations differ, if these are at most two numbers or constants."""
-    pairs = [*zip(old.split(), new.split())]
-    found = [it for it in dict.fromkeys(pairs) if it[0] != it[1]]
-    is_small = len(old.split()) == len(new.split()) and len(found) <= 2 and all(re.fullmatch(r"\d+|true|false", part) for it in found for part in it)
-    return found if is_small else None
+    found = [it for it in dict.fromkeys(zip(old.split(), new.split())) if it[0] != it[1]]
+    are_numbers = all(re.fullmatch(r"\d+|true|false", part) for it in found for part in it)
+    return found if len(old.split()) == len(new.split()) and len(found) <= 2 and are_numbers else None

@@ -7,6 +7,7 @@ page is written by hand, and stays: there std's words have a line each. `tests/d
 """
 import re
 
+from building.crates import text_of
 from pages import reference
 from reading import contracts, exports
 from reading.definitions import COMMENT, code, source_of, words_of
@@ -26,10 +27,8 @@ def write():
 
 
 def faults():
-    words = Words()
-    page = PAGE.relative_to(TOP)
-    if PAGE.read_text(encoding="utf-8") != words.page():
-        yield f"{page}: not as scripts/pages/words.py writes it: run tests/docs --write"
+    words, page = Words(), PAGE.relative_to(TOP)
+    yield from [f"{page}: not as scripts/pages/words.py writes it: run tests/docs --write"] * (text_of(PAGE) != words.page())
     for path, name in words.cited:
         if path.startswith("std."):
             yield from [f"{page}: std's `{name}` has no line"] * (f'<a id="std-{name}">' not in words.above)
@@ -41,7 +40,8 @@ def faults():
             yield from [f"{EXAMPLES}: no `example-{name}` of {path}, or an empty one"] * (not example)
             is_named = re.search(rf"(?<![\w.-]){re.escape(name)}(?![\w-])", example)
             yield from [f"{EXAMPLES}: `example-{name}` of {path} does not show {name}"] * bool(example and not is_named)
-    yield from (f"{EXAMPLES}: no contract of the reference cites `{name}` of {path}" for path, name in words.examples if (path, name) not in words.cited)
+    uncited = (it for it in words.examples if it not in words.cited)
+    yield from (f"{EXAMPLES}: no contract of the reference cites `{name}` of {path}" for path, name in uncited)
 
 
 def words_of_caller(caller):
@@ -59,22 +59,21 @@ class Words:
         self.cited = dict.fromkeys(word for it in found for word in it.words())
         self.examples = {}
         for file in sorted(TOP.glob(f"{EXAMPLES}/*.antt")):
-            text = file.read_text(encoding="utf-8")
-            known = exports.imported(text)
+            known = exports.imported(text_of(file))
             of = lambda path, name: (path, name) if path else known.get(name, (file.stem, name))
-            for path, said, _, name, shown in EXAMPLE.findall(text):
+            for path, said, _, name, shown in EXAMPLE.findall(text_of(file)):
                 self.examples[of(path, name)] = (file, said and f"{said}: ", plain(" ".join(shown.split())))
-        self.cited.update(dict.fromkeys(word for it in library.callers.values() for word in words_of_caller(it) if word in self.examples))
-        self.define()
+        self.add(word for it in library.callers.values() for word in words_of_caller(it))
         for path, name in [it for it in self.cited if it in self.defined]:
-            known = exports.imported(source_of(path).read_text(encoding="utf-8"))
-            named = [known.get(it, (path, it)) for it in re.findall(r"\w+", self.defined[path, name].text)]
-            self.cited.update(dict.fromkeys(it for it in named if it in self.examples))
-        self.define()
-        self.above = PAGE.read_text(encoding="utf-8").partition(MARK)[0]
+            known = exports.imported(text_of(source_of(path)))
+            self.add(known.get(it, (path, it)) for it in re.findall(r"\w+", self.defined[path, name].text))
+        self.above = text_of(PAGE).partition(MARK)[0]
 
-    def define(self):
-        self.files = sorted({path for path, _ in self.cited if not path.startswith("std.")}, key=lambda it: (exports.LIBRARIES.index(it.split(".")[0]), it))
+    def add(self, found):
+        """Cites those of these words that have an example."""
+        self.cited |= dict.fromkeys(it for it in found if it in self.examples)
+        order = lambda path: (exports.LIBRARIES.index(path.split(".")[0]), path)
+        self.files = sorted({path for path, _ in self.cited if not path.startswith("std.")}, key=order)
         self.defined = {(path, it.name): it for path in self.files for it in words_of(source_of(path))}
 
     def page(self):
@@ -83,11 +82,12 @@ class Words:
     def section(self, path):
         crate, _, stem = path.partition(".specs.")
         file = source_of(path)
-        title = COMMENT.match(file.read_text(encoding="utf-8"))
+        title = COMMENT.match(text_of(file))
         rows = [it for it in self.defined if it[0] == path and it in self.cited]
         shown = sorted({self.examples[it][0] for it in rows if it in self.examples})
         links = " and ".join(f"[`{it.relative_to(TOP)}`](../../{it.relative_to(TOP)})" for it in shown)
-        head = f"\n\n## `{stem}` of `{crate}`\n\n{title[1] if title else ''} In [`{file.name}`](../../{file.relative_to(TOP)})" + f", examples in {links}" * bool(shown) + ".\n"
+        place = f"In [`{file.name}`](../../{file.relative_to(TOP)})" + f", examples in {links}" * bool(shown)
+        head = f"\n\n## `{stem}` of `{crate}`\n\n{title[1] if title else ''} {place}.\n"
         return f"{head}\n| Word | Means | For example |\n|---|---|---|\n" + "\n".join(map(self.row, rows))
 
     def example(self, word):

@@ -1,14 +1,11 @@
 """A copy of a crate, checked with edits over the libraries that it uses and work that earlier checks kept."""
-import os
 import pathlib
 import re
-import shutil
 import subprocess
 import tempfile
 
-from building import crates
+from building import crates, running
 
-KEPT = "out/incremental"
 VERDICT = re.compile(r"^fn (\S+): (.*)$", re.M)
 # The last line of a check of a whole crate, and of some functions.
 PROVED = re.compile(r"^(?:logic=proved\b|only=(\d+) proved=\1$)", re.M)
@@ -17,12 +14,13 @@ PROVED = re.compile(r"^(?:logic=proved\b|only=(\d+) proved=\1$)", re.M)
 # another: it has a name of the code that is gone, or shows what is not to be shown any more.
 ERROR = re.compile(r"^(?:\./)?proofs/(\S+)/\w+\.antt:\d+:\d+: error: (.*(?:\n  .*)*)$", re.M)
 FOLLOWS = re.compile(r"which (?:was|were) rejected, (?:was|were) not checked")
-GONE = re.compile(r"has no field|is not in scope|has no `|was not admitted")
-DIFFERS = re.compile(r"the two types|but this has type|one side reads|≟")
+STALE = re.compile(
+    r"has no field|is not in scope|has no `|was not admitted|the two types|but this has type|one side reads|≟"
+)
 # What is said of a function where another edit of the round took the proof from one that it calls.
 HIDDEN = re.compile(r"no proof: (?:it calls |the borrow checker's part .* a call of `\S+`, which has no proof)")
 # How an edit is refused, from what shows most to what shows least.
-KINDS = ("refused", "refused by a written proof alone", "refused by a name that is gone")
+KINDS = ("refused", "refused by a written proof alone")
 JUDGED = re.compile(r"^(?:logic=(?:not-)?proved\b|only=\d+ proved=\d+$)", re.M)
 
 
@@ -44,9 +42,8 @@ class Said:
         told = [it for it in errors if not FOLLOWS.search(it)]
         if not verdict.startswith(("not proved", "no proof")) or HIDDEN.match(verdict) or errors and not told:
             return None
-        if verdict.startswith("no proof") or not all(GONE.search(it) or DIFFERS.search(it) for it in told) or not told:
-            return KINDS[0]
-        return KINDS[2] if all(GONE.search(it) for it in told) else KINDS[1]
+        is_stale = told and all(STALE.search(it) for it in told) and not verdict.startswith("no proof")
+        return KINDS[1] if is_stale else KINDS[0]
 
     def first_error(self):
         lines = self.text.splitlines()
@@ -54,69 +51,28 @@ class Said:
         return (found or lines[-1:] or ["nothing"])[0][:200]
 
 
-class Libraries:
-    """The libraries that checks stand on, held still while other commands may build them anew."""
-
-    def __init__(self, room):
-        self.folder = room / "libraries"
-        self.folder.mkdir()
-
-    def add(self, crate):
-        """Takes a library as its files are now, and builds it first where it is not. Returns what is wrong."""
-        built, held = crate.format.parent, self.folder / f"{crate.name}.rlib"
-        if held.is_dir():
-            return None
-        said = None if crate.has_library() and crate.is_built() else Said(run(["rt", "lib"], crate.folder)[1])
-        if not built.is_dir():
-            return said
-        link(built, held)
-        return None
-
-    def words(self, crate):
-        """Gives a check the libraries below the crate."""
-        given = [f"--extern={it.name}={self.folder / it.name}.rlib" for it in crate.uses]
-        return [*given, "-L", f"dependency={self.folder}"]
-
-
 class Desk:
-    """Where a crate's edits are tried, each check in a copy of its own over the work that was kept."""
+    """Where a crate's edits are tried, each check in a copy of its own over the libraries as they are now and the work that
+    was kept, so that other commands may build them anew."""
 
-    def __init__(self, crate, libraries, room):
-        self.crate, self.libraries, self.room, self.kept = crate, libraries, room / crate.name, crate.folder / KEPT
-        self.room.mkdir()
+    def __init__(self, crate, room):
+        # It goes with the room, and puts nothing in place of what the crate has.
+        self.room, self.base = room, running.Copy(crate, room / crate.name).__enter__()
 
     def check(self, texts, paths, jobs, keeps=False):
         """Checks the functions of these paths, or the whole crate where there are none, with these texts in place of its own.
         Later checks begin with what this one kept where they are to."""
-        with tempfile.TemporaryDirectory(prefix="check-", dir=self.room) as top:
-            copy = self.lay(pathlib.Path(top))
+        with tempfile.TemporaryDirectory(prefix="check-", dir=self.room) as room:
+            running.link(self.base.top, pathlib.Path(room, "top"))
+            copy = pathlib.Path(room, "top") / self.base.folder.relative_to(self.base.top)
             for path, text in texts.items():
+                # Not through the link.
+                (copy / path).unlink()
                 (copy / path).write_text(text, encoding="utf-8")
-            words = ["rt", "check", f"--jobs={jobs}", *(f"--only={it}" for it in paths), *self.libraries.words(self.crate)]
-            said = Said(run(words, copy)[1])
+            said = Said(run(["rt", "check", f"--jobs={jobs}", *(f"--only={it}" for it in paths)], copy)[1])
             if keeps and said.is_proved:
-                self.kept = (copy / KEPT).replace(self.room / "kept")
+                running.replace(copy / "out" / crates.KEPT, self.base.out / crates.KEPT)
         return said
-
-    def lay(self, top):
-        """Makes a repository of the crate alone, which lists only libraries of the toolchain, so that no check builds another."""
-        copy = top / "crates" / self.crate.name
-        crates.lay(top, [self.crate], lambda it: it.sources)
-        if self.kept.is_dir():
-            link(self.kept, copy / KEPT)
-        name, _, used = self.crate.row.partition(":")
-        others = [it for it in used.split() if it not in [one.name for one in self.crate.uses]]
-        (top / "crates.txt").write_text(f"{name}: {' '.join(others)}\n", encoding="utf-8")
-        return copy
-
-
-def link(source, target):
-    """Copies a folder by links to its files, which a check replaces and never writes to."""
-    shutil.copytree(source, target, copy_function=os.link)
-
-
-# What is under way ends where this process is told to end.
-running = crates.Run([])
 
 
 def run(words, folder, limit=None, env=None):

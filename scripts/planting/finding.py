@@ -25,7 +25,8 @@ pub(crate) fn is(number: u32) -> bool {
 }
 """
 # Each crate has it, and of all in a program one is linked.
-CHOICE_IN_C = """#include <stdlib.h>
+CHOICE_IN_C = """char *getenv(const char *);
+int atoi(const char *);
 
 __attribute__((weak)) unsigned planted(void)
 {
@@ -38,11 +39,16 @@ __attribute__((weak)) unsigned planted(void)
 def find(found, room, jobs):
     """Tells which test finds which edit, and returns the status to end with."""
     known = crates.read_crates()
-    numbered, others = bodies(found)
+    changed = {edit: new_body(edit, owners, texts) for edit, owners, texts in functions.owned(found)}
+    numbered = [(edit, *it) for edit, it in changed.items() if it]
     lay(room, numbered)
     left = dict(enumerate((edit for edit, *_ in numbered), 1))
-    for it in (it for it in others if it.is_tested):
-        left[lay_alone(room / f"alone-{len(left)}", it)] = it
+    for edit in (it for it, body in changed.items() if not body and it.is_tested):
+        alone = room / f"alone-{len(left)}"
+        lay(alone, [])
+        folder = alone / "crates" / edit.crate
+        crates.write_files(folder, {file: text.encode() for file, text in edits.applied(edit, edits.reader(folder))[1].items()})
+        left[alone] = edit
     count = len(left)
     with concurrent.futures.ThreadPoolExecutor(jobs) as pool:
         for name, tested, words in tests_of(room, known):
@@ -54,31 +60,21 @@ def find(found, room, jobs):
                     print(f"{left.pop(key)}: found by {name}: {fault}", flush=True)
     for it in left.values():
         print(f"not found: {it}")
-    for it in (it for it in others if not it.is_tested):
+    for it in (it for it, body in changed.items() if not body and not it.is_tested):
         print(f"left out, since it changes more than the body of one function: {it}")
     print(f"mutants: tests find {count - len(left)} of {count} edits")
     return 1 if 100 * (count - len(left)) < FLOOR * count or not count else 0
 
 
-def bodies(found):
-    """The edits that change one body, each with its function and the new body, and the others."""
-    numbered, others = [], []
-    for edit, owners, texts in functions.owned(found):
-        body = len(owners) == 1 and new_body(edit, owners[0], texts)
-        if body:
-            numbered.append((edit, owners[0], body))
-        else:
-            others.append(edit)
-    return numbered, others
-
-
-def new_body(edit, owner, texts):
-    """The edited body of the function, or None where the edit changes anything else."""
-    text, changed = texts(owner.file), edits.applied(edit, texts)[1]
-    new, after = changed.pop(owner.file), text[owner.end :]
-    if changed or new[: owner.body] != text[: owner.body] or not new.endswith(after):
+def new_body(edit, owners, texts):
+    """The one function that the edit changes, and its new body, or None where the edit changes anything else."""
+    if len(owners) != 1:
         return None
-    return new[owner.body : len(new) - len(after)]
+    owner, changed = owners[0], edits.applied(edit, texts)[1]
+    text, new = texts(owner.file), changed.pop(owner.file)
+    after = text[owner.end :]
+    is_body = not changed and new[: owner.body] == text[: owner.body] and new.endswith(after)
+    return (owner, new[owner.body : len(new) - len(after)]) if is_body else None
 
 
 def lay(top, numbered):
@@ -100,15 +96,6 @@ def lay(top, numbered):
         with open(root, "a", encoding="utf-8") as written:
             written.write("\nmod planted;\n")
         crates.write_files(folder, {"src/planted.rt": CHOICE.encode(), "c/planted.c": CHOICE_IN_C.encode()})
-
-
-def lay_alone(top, edit):
-    """Copies the repository with an edit, and returns where."""
-    lay(top, [])
-    folder = top / "crates" / edit.crate
-    for file, text in edits.applied(edit, edits.reader(folder))[1].items():
-        (folder / file).write_text(text, encoding="utf-8")
-    return top
 
 
 def tests_of(top, known):

@@ -63,7 +63,9 @@ def owned(found):
     for crate in dict.fromkeys(it.crate for it in found):
         folder = exports.TOP / "crates" / crate
         texts = edits.reader(folder)
-        yield from ((it, edits.owners(it, of_crate(folder), texts), texts) for it in found if it.crate == crate)
+        for edit in (it for it in found if it.crate == crate):
+            places = edits.applied(edit, texts)[0]
+            yield edit, [it for it in of_crate(folder) if any(it.is_at(*place) for place in places)], texts
 
 
 @functools.cache

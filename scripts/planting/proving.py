@@ -1,10 +1,11 @@
 """Which edits the prover refuses. One check tries many: it judges each function by the contracts of those that it calls, so
 an edit of a body hides none of another function."""
-import concurrent.futures
+import contextlib
 import random
 import threading
 import time
 
+from building import running
 from . import checking, edits, functions
 
 # How many edits one check tries: more would leave cores idle at the end.
@@ -19,9 +20,8 @@ class Run:
         self.refused = {it: [] for it in checking.KINDS}
         self.survived, self.left = [], []
         self.rounds, self.desks = [], {}
-        self.libraries = checking.Libraries(room)
         # Only one crate or library is made ready at a time, with all jobs: more would need too much memory.
-        self.guard, self.began, self.ended = threading.Lock(), time.monotonic(), 0
+        self.guard, self.began = threading.Lock(), time.monotonic()
 
     def plan(self, found):
         """Puts the edits into rounds, the named ones first. One outside every function can only be tried alone."""
@@ -32,9 +32,6 @@ class Run:
             numbered += enumerate(self.grouped(sorted(its, key=lambda it: not it.is_named)))
         # The crates take turns, so that one is made ready while edits of another are tried.
         self.rounds = [it for _, it in sorted(numbered, key=lambda it: it[0])]
-
-    def texts(self, crate):
-        return edits.reader(self.crates[crate].folder)
 
     def grouped(self, fit):
         """As few rounds as come of a greedy choice, in none of which two edits change one function."""
@@ -64,66 +61,51 @@ class Run:
             else:
                 do(batch)
 
-        with concurrent.futures.ThreadPoolExecutor(self.jobs) as pool:
-            try:
-                for it in [pool.submit(begin, batch) for batch in batches]:
-                    it.result()
-            except BaseException:
-                checking.running.stop()
-                pool.shutdown(cancel_futures=True)
-                raise
+        running.do_all([running.Step(lambda _, it=it: begin(it)) for it in batches], self.jobs)
 
     def desk(self, crate):
         """The crate's desk, where all that its edits change is proved as it stands."""
-        if crate not in self.desks:
-            with self.guard:
-                if crate not in self.desks:
-                    for one in self.crates[crate].below:
-                        self.require(one.name, self.libraries.add(one))
-                    desk = checking.Desk(self.crates[crate], self.libraries, self.room)
-                    said = desk.check({}, self.paths(it for it in self.owners if it.crate == crate), self.jobs, keeps=True)
-                    self.require(crate, None if said.is_proved else said)
-                    self.desks[crate] = desk
+        # Those that are ready do not wait.
+        with self.guard if crate not in self.desks else contextlib.nullcontext():
+            if crate not in self.desks:
+                lacking = [it for it in self.crates[crate].below if not it.is_built()]
+                with running.lock(lacking):
+                    running.build_all(lacking)
+                desk = checking.Desk(self.crates[crate], self.room)
+                said = desk.check({}, self.paths(it for it in self.owners if it.crate == crate), self.jobs, keeps=True)
+                if not said.is_proved:
+                    raise SystemExit(f"mutants: {crate} is not proved as it stands: {said.first_error()}")
+                self.desks[crate] = desk
         return self.desks[crate]
-
-    def require(self, crate, wrong):
-        if wrong:
-            raise SystemExit(f"mutants: {crate} is not proved as it stands: {wrong.first_error()}")
 
     def paths(self, batch):
         return sorted({it.path() for edit in batch for it in self.owners[edit]})
 
     def check(self, batch, is_whole=False):
         """Checks the functions that these edits of a crate change, or all of the crate."""
-        crate = batch[0].crate
-        return self.desk(crate).check(edits.merged(batch, self.texts(crate)), [] if is_whole else self.paths(batch), 1)
+        crate, paths = batch[0].crate, [] if is_whole else self.paths(batch)
+        return self.desk(crate).check(edits.merged(batch, edits.reader(self.crates[crate].folder)), paths, 1)
 
     def try_round(self, batch):
-        started, said = time.monotonic(), self.check(batch)
+        began, said = time.monotonic(), self.check(batch)
         # A check that gives no verdict, as of an edit that does not compile, shows none of them.
         unseen = [it for it in batch if not (said.is_judged and self.takes_refusal(it, said))]
         self.unseen += unseen
-        self.ended += 1
-        print(
-            f"round {self.ended} of {len(self.rounds)}, {batch[0].crate}: {len(batch)} edits, {len(unseen)} of them to be tried "
-            f"alone, {time.monotonic() - started:.0f} s",
-            flush=True,
-        )
+        running.tell(f"{batch[0].crate}: {len(batch)} edits, {len(unseen)} to be tried alone, {running.duration(began)}")
 
     def takes_refusal(self, edit, said):
         """Notes how the edit is refused at a function that it changes, or at a closure in it, where it is."""
         own = {path for path in said.verdicts for it in self.owners[edit] if it.is_meant(path)}
         kinds = [it for it in map(said.refusal, own) if it]
         if not self.owners[edit] and said.is_judged and not said.is_proved:
-            kinds = checking.KINDS
+            kinds = checking.KINDS[:1]
         if kinds:
             self.refused[min(kinds, key=checking.KINDS.index)].append(edit)
         return bool(kinds)
 
     def try_alone(self, batch):
         """Tries an edit by a check of what it changes, and where that does not refuse it by one of the whole crate."""
-        started, edit = time.monotonic(), batch[0]
-        said = self.check(batch, not self.owners[edit])
+        edit, said = batch[0], self.check(batch, not self.owners[batch[0]])
         is_refused = self.takes_refusal(edit, said)
         if said.is_judged and self.owners[edit] and not is_refused:
             said = self.check(batch, True)
@@ -132,15 +114,12 @@ class Run:
             self.broken.append(f"{edit}: it does not compile: {said.first_error()}")
         elif not is_refused:
             self.survived.append(edit)
-        print(f"alone, {edit}: {time.monotonic() - started:.0f} s", flush=True)
 
     def report(self):
         """Says what survived, what is broken and what shows nothing, and returns the status to end with."""
-        shown, *rest = checking.KINDS
-        told = {"survived": self.survived, "broken": self.broken} | {it: self.refused[it] for it in rest}
-        for how, those in told.items():
-            for it in those:
-                print(f"{how}: {it}")
-        counts = {shown: self.refused[shown], "survived": self.survived, "left": self.left} | {it: told[it] for it in rest}
+        shown, rest = checking.KINDS
+        told = {"survived": self.survived, "broken": self.broken, rest: self.refused[rest]}
+        print("".join(f"{how}: {it}\n" for how, those in told.items() for it in those), end="")
+        counts = {shown: self.refused[shown], "survived": self.survived, "left": self.left, rest: self.refused[rest]}
         print("mutants: " + ", ".join(f"{len(those)} {how}" for how, those in counts.items()))
         return 1 if self.survived or self.broken else 0

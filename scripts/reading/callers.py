@@ -55,9 +55,6 @@ class Caller:
         shown = min(closed, key=lambda it: abs(it[0] - at + 1) + abs(it[1] - at - 2), default=(first, last))
         return textwrap.dedent("\n".join(self.lines[slice(*shown)]))
 
-    def link(self):
-        return f"[`{self.path}`]({self.place()})"
-
     def place(self):
         return f"../../{self.path}#L{self.at}-L{self.at + len(self.lines) - 1}"
 

@@ -68,12 +68,10 @@ def differences(quote, functions):
     name = " ".join(signature.split())
     if rest:
         return [f"{name}: this is no clause: {rest.splitlines()[0]}"]
-    found = [differences_from(it[1], clauses, is_short) for it in functions if squeezed(it[0]) == squeezed(signature)]
+    found = []
+    for own in (it[1] for it in functions if squeezed(it[0]) == squeezed(signature)):
+        lacking = [it for it in own if it not in clauses]
+        faults = [f"not in the source: {clauses[it]}" for it in clauses if it not in own]
+        faults += [f"left out: {own[it]}" for it in lacking if it.startswith("requires") or not is_short]
+        found.append(faults + ["`// ..` stands for nothing"] * (is_short and not lacking))
     return [f"{name}: {it}" for it in min(found, key=len, default=["no function of the crate has this signature"])]
-
-
-def differences_from(clauses, quoted, is_short):
-    lacking = [it for it in clauses if it not in quoted]
-    faults = [f"not in the source: {quoted[it]}" for it in quoted if it not in clauses]
-    faults += [f"left out: {clauses[it]}" for it in lacking if it.startswith("requires") or not is_short]
-    return faults + (["`// ..` stands for nothing"] if is_short and not lacking else [])

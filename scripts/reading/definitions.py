@@ -32,28 +32,24 @@ class Word:
         equation = next((it.strip() for it in lines if re.match(rf" *{re.escape(self.name)} .*=( |$)", it)), "")
         left = re.sub(r"\{\w+\} ", "", equation).partition(" =")[0]
         own = given_by(head) if self.kind else [left.removeprefix(self.name)] * bool(re.fullmatch(r"[\w ]+", left))
-        # What it is given, by name, and the fields of a record with their statements.
+        # What it is given, by name.
         self.given = " ".join([*given, *own]).split()
         self.shown = code(" ".join([self.name, *self.given]))
-        found = self.read_parts(body) if self.kind else []
-        self.fields = [(name, text) for name, text, _ in found] if self.kind == "record" else []
-        self.variants = [name for name, _, _ in found] if self.kind == "data" else []
-        shown = [(code(f"{name} : {text}" if self.kind == "record" else name), said) for name, text, said in found]
-        parts = "; ".join(part + f" ({said})" * bool(said) for part, said in shown)
-        self.meaning = self.comment + f". {'It has' if self.kind == 'record' else 'One of'} {parts}" * bool(parts)
-
-    def read_parts(self, body):
-        """The fields of a record, or the variants of a data type, each with its statement and its comment."""
-        shown, said = [], ""
-        for line in body:
+        # The fields of a record, or the variants of a data type, each with its statement and its comment.
+        parts, said, is_record = [], "", self.kind == "record"
+        for line in body if self.kind else ():
             if found := COMMENT.match(line):
                 said = f"{said} {found[1]}".strip()
             elif found := FIELD.match(line):
-                shown.append([found[1], found[2], said])
+                parts.append([found[1], found[2], said])
                 said = ""
-            elif shown:
-                shown[-1][1] += f" {line.strip()}"
-        return shown
+            elif parts:
+                parts[-1][1] += f" {line.strip()}"
+        self.fields = [(name, text) for name, text, _ in parts if is_record]
+        self.variants = [name for name, _, _ in parts if not is_record]
+        shown = ((code(f"{name} : {text}" if is_record else name), said) for name, text, said in parts)
+        told = "; ".join(part + f" ({said})" * bool(said) for part, said in shown)
+        self.meaning = self.comment + f". {'It has' if is_record else 'One of'} {told}" * bool(told)
 
 
 def code(text):

@@ -49,24 +49,21 @@ class Item:
 
     def head(self):
         """The lines up to a body, by which a function has its contract."""
-        ends = next((at for at, it in enumerate(self.lines) if it == "{"), None)
-        if ends is not None:
-            return self.lines[:ends]
+        if "{" in self.lines:
+            return self.lines[: self.lines.index("{")]
         ends = next((at for at, it in enumerate(self.lines) if it.endswith((" {", "{}"))), None)
         if ends is None or self.kind in ("struct", "enum"):
             return self.lines
         return [*self.lines[:ends], re.sub(r" ?\{\}?$", "", self.lines[ends])]
 
-    def derives(self):
-        return re.findall(r"\w+", " ".join(re.findall(r"#\[derive\((.*?)\)\]", " ".join(self.attributes))))
-
     def members(self):
         """What stands in an impl or a trait."""
         if self.kind not in ("impl", "trait"):
             return []
-        above = len(self.head()) + (len(self.head()) < len(self.lines) and self.lines[len(self.head())] == "{")
-        lines = [it[4:] if it.startswith("    ") else it for it in self.lines[above:]]
-        return list(items_in(lines[:-1] if lines and lines[-1] == "}" else lines, self.at + above))
+        head = len(self.head())
+        above = head + (self.lines[head : head + 1] == ["{"])
+        lines = [it.removeprefix("    ") for it in self.lines[above:]]
+        return list(items_in(lines[:-1] if lines[-1:] == ["}"] else lines, self.at + above))
 
     def signature(self):
         return " ".join(" ".join(self.head()).split())
@@ -150,10 +147,11 @@ class Crate:
         self.names, self.passed_on = {}, []
         # Other names under which something of these is exported: `pub use runs::{run_array as run_slice}`.
         self.renamed = {}
-        items = ((source, it) for source in self.sources.values() for it in source.items)
+        items = [(source, it) for source in self.sources.values() for it in source.items]
         self.public = {it.name: (source, it) for source, it in items if it.is_public and it.kind in (*TYPES, "fn")}
         self.export(())
-        self.declared = {it.name: it for source in self.sources.values() for it in source.items if it.kind in TYPES}
+        self.names |= {it.name: (source, it) for source, it in items if it.kind == "macro_rules!" and it.is_public}
+        self.declared = {it.name: it for _, it in items if it.kind in TYPES}
         named = {it.name: re.search(r"= (.*);", it.signature())[1] for it in self.declared.values() if it.kind == "type"}
         self.aliases = {alias: head_of(of) for alias, of in named.items()}
         # The aliases that name a form of a type of this crate: `ArrayVec<&mut [T]>` is a `SliceVec`.
@@ -175,8 +173,6 @@ class Crate:
                 self.export((*module, item.name))
             elif item.name in self.public:
                 self.names[item.name] = self.public[item.name]
-        macros = ((source, it) for source in self.sources.values() for it in source.items if it.kind == "macro_rules!")
-        self.names.update({it.name: (source, it) for source, it in macros if it.is_public})
 
     def exports(self):
         """All that a caller can name, file by file."""
@@ -220,9 +216,11 @@ class Crate:
             members = (it for item in source.items if item.kind == "impl" for it in item.members())
             lost += [it.at for it in members if it.is_public and it.kind != "fn"]
             yield from (f"{source.path}:{at}: scripts/reading/exports.py does not read what begins here" for at in lost)
-        text = (TOP / "crates" / self.name / "src/lib.rt").read_text(encoding="utf-8")
-        listed = {name for path, names in USED.findall(text) for name, _ in NAMED.findall(names)}
-        yield from (f"crates/{self.name}/src/lib.rt: {it} is exported, and not found" for it in listed - self.names.keys() - {it for _, it in self.passed_on})
+        lib = f"crates/{self.name}/src/lib.rt"
+        used = USED.findall((TOP / lib).read_text(encoding="utf-8"))
+        listed = {name for _, names in used for name, _ in NAMED.findall(names)}
+        gone = listed - self.names.keys() - {it for _, it in self.passed_on}
+        yield from (f"{lib}: {it} is exported, and not found" for it in gone)
 
 
 TYPES = ("struct", "enum", "trait", "type")
@@ -270,18 +268,15 @@ def shortened(type_, forms):
     return reference + head + (f"<{arguments[1]}>" if shows else "")
 
 
-GHOST_USE = re.compile(r"(?:ghost )?use Rattle\.([\w.]+)\.\{([^}]*)\}")
 PASSED_ON = re.compile(r"^pub use Rattle\.([\w.]+)$", re.M)
 
 
 @functools.cache
 def imported(text):
     """The words that a source or a proof imports, each with its path and the name that it has there."""
-    found = {}
-    for path, names in GHOST_USE.findall(text):
-        for name in (it.strip() for it in names.split(",")):
-            found[name.split(" as ")[-1]] = (home(path), name.split(" as ")[0])
-    return found
+    uses = re.findall(r"use Rattle\.([\w.]+)\.\{([^}]*)\}", text)
+    found = ((home(path), *it.strip().partition(" as ")) for path, names in uses for it in names.split(","))
+    return {other or name: (path, name) for path, name, _, other in found}
 
 
 @functools.cache

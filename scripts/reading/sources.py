@@ -53,7 +53,7 @@ PLANTED = (
     ("src/h.rt", "//! The trait `Gone`.\npub trait Here {\n    const MOST: usize;\n}\n", "its header names Gone, which is nowhere"),
     ("src/i.rt", "use h::Here;\n\nfn f() { g(T::MOST); }\n", ""),
 )
-AMBIGUOUS = edits.Edit("planted", "ambiguous", (edits.Change("src/a.rt", "x", "y"),), False, False, "")
+AMBIGUOUS = edits.Edit("planted", "ambiguous", (edits.Change("src/a.rt", "x", "y", ""),))
 
 
 def faults(asked=()):

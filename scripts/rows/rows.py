@@ -205,7 +205,19 @@ def difference(wanted, requests, got, made):
     """What is told of a call that answers otherwise, or makes another number of requests. What is None is not known."""
     if wanted is not None and not re.fullmatch(re.escape(wanted).replace(re.escape(f" {ANY}"), " .*"), got or ""):
         return f"\n    wanted {short(wanted)}\n    got    {short(got or 'nothing')}"
-    return f": it made {made} requests for memory, and not {requests}" if None not in (requests, made) and requests != made else ""
+    is_other = None not in (requests, made) and requests != made
+    return f": it made {made} requests for memory, and not {requests}" if is_other else ""
+
+
+def first_fault(calls, said, made=None):
+    """The first call that answers otherwise: those after it stand on what it left. Of each call there is how it is told of,
+    what it should answer, and how many requests it should make. Text after the last answer is a fault too."""
+    for at, (call, wanted, requests) in enumerate(calls):
+        asked = None if made is None else made[at] if at < len(made) else "uncounted"
+        if told := difference(wanted, requests, said[at] if at < len(said) else None, asked):
+            return f"{call}{told}"
+    more = "".join(said[len(calls) :])
+    return f"{calls[-1][0]}: after the last call: {more}" if more else ""
 
 
 def short(text):
@@ -215,30 +227,32 @@ def short(text):
 def run(lines, is_tried=False, refusing=None):
     """What the program answers to each line: the parts of its calls. With a library that refuses memory also the number of
     requests of each window that the program opened."""
-    crate = crates.read_crates()[PROGRAM]
-    if not is_tried:
-        env = {**os.environ, "LD_PRELOAD": refusing.library} if refusing else None
-        answers, told = answered(crate, crate.out / PROGRAM, lines, env=env)
-        return (answers, [int(it) for it in WINDOW.findall(told)]) if refusing else answers
-    shares, said = [slice(it, None, crates.CORES) for it in range(crates.CORES)], [None] * len(lines)
+    crate, windows = crates.read_crates()[PROGRAM], []
     try:
-        program = trying.program_of(crate)
-        with concurrent.futures.ThreadPoolExecutor(crates.CORES) as pool:
-            answers = pool.map(lambda it: answered(crate, program, lines[it], is_tried)[0], shares)
-            for share, its in zip(shares, answers):
-                said[share] = its
-    except (trying.NotCompiled, subprocess.TimeoutExpired) as why:
+        program = trying.program_of(crate) if is_tried else crate.out / PROGRAM
+    except trying.NotCompiled as why:
         raise BadRow(f"no answer: {why}")
-    return said
+    # What is compiled with checks is slow.
+    count = crates.CORES if is_tried else 1
+    shares, answers = [slice(it, None, count) for it in range(count)], [None] * len(lines)
+    env = {**os.environ, "LD_PRELOAD": refusing.library} if refusing else None
+    with concurrent.futures.ThreadPoolExecutor(count) as pool:
+        found = pool.map(lambda it: answered(crate, program, lines[it], env, is_tried), shares)
+        for share, (its, said) in zip(shares, found):
+            answers[share] = its
+            windows += [int(it) for it in WINDOW.findall(said)]
+    return answers, windows if refusing else None
 
 
-def answered(crate, path, lines, is_tried=False, env=None):
+def answered(crate, program, lines, env, is_tried):
     """The parts of the answer to each line, and what the program writes to standard error."""
     given = "".join(f"{it}\n" for it in lines).encode()
     try:
-        ran = subprocess.run([path], input=given, capture_output=True, env=env, timeout=LIMIT if is_tried else None)
+        ran = subprocess.run([program], input=given, capture_output=True, env=env, timeout=LIMIT if is_tried else None)
     except FileNotFoundError:
         raise BadRow(f"{PROGRAM} is not built: scripts/build {PROGRAM} builds it, or --try runs the sources")
+    except subprocess.TimeoutExpired as why:
+        raise BadRow(f"no answer: {why}")
     said = ran.stdout.decode(errors="replace").split("\n")[:-1]
     if ran.returncode != 0 or len(said) != len(lines):
         # Where a check stopped the program, only `rt try` names the place.

@@ -17,12 +17,7 @@ class Calls:
         """Keeps a function as the call of this form, as `insert I X`, of models of these kinds, or all, that hold these items. It
         returns what the call answers, or None, with nothing changed, where its condition does not hold or memory is refused."""
         name, *forms = form.split(" ")
-
-        def keep(does):
-            self.known.append((name, forms, on, held, does))
-            return does
-
-        return keep
+        return lambda does: self.known.append((name, forms, on, held, does)) or does
 
     def drawn(self, draw, model, is_refused, named=None):
         """A call that the model can make, or the one of that name, what it answers, and how many requests it makes. Some are

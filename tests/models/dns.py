@@ -72,7 +72,7 @@ def drawn_line(draw):
     number = str(draw.choice([0, 255, 256, 65535, draw.randrange(65536)])).encode()
     line = number, drawn_name(draw), draw.choice(list(TYPES))
     text = spoiled(draw, *line) if draw.random() < 1 / 3 else b" ".join(line)
-    return text + b"\r" if draw.random() < 1 / 4 else text
+    return text + b"\r" * (draw.random() < 1 / 4)
 
 
 def drawn_name(draw):

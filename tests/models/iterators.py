@@ -5,10 +5,11 @@ from models.vector_calls import IN_SLOTS, OWNERS, calls
 from models.vectors import OPERANDS, drawn_steps
 
 ENDS = ["next", "next", "back", "left", "debug"]
-OPERANDS["DRAIN"] = drawn_steps(*ENDS)
-OPERANDS["EXTRACT"] = drawn_steps("next", "hint")
-OPERANDS["SPLICE"] = drawn_steps(*ENDS, "touches", last=["stop"])
-OPERANDS["OWNED"] = drawn_steps(*ENDS, "slice", "clone", "nth:N", "nth_back:N", last=["last", "count"])
+OPERANDS["DRAIN"] = lambda draw, v: drawn_steps(draw, v, *ENDS)
+OPERANDS["EXTRACT"] = lambda draw, v: drawn_steps(draw, v, "next", "hint")
+OPERANDS["SPLICE"] = lambda draw, v: drawn_steps(draw, v, *ENDS, "touches", last=["stop"])
+OWNED = [*ENDS, "slice", "clone", "nth:N", "nth_back:N"]
+OPERANDS["OWNED"] = lambda draw, v: drawn_steps(draw, v, *OWNED, last=["last", "count"])
 
 
 def taken(items, step):

@@ -81,7 +81,7 @@ class Model:
         """What may be answered where memory is refused: `memory`, and nothing is changed, or what a splice has no room for. With
         each answer how it leaves the vectors."""
         name, _, text = line.decode("latin-1").partition(" ")
-        if text.startswith(("drain", "splice")):
+        if name in self.held and text.startswith(("drain", "splice")):
             yield self, f"memory {self.state(name)}".encode()
         for granted in range(6 if name in self.held else 0):
             left = copy.deepcopy(self)
@@ -144,13 +144,18 @@ def drawn_script(draw, count):
 
 def drawn_line(draw):
     name = draw.choice("AASTTX")
-    line = f"{name} {drawn_text_call(draw) if name == 'X' else drawn_call(draw, name)}".encode()
+    line = f"{name} {drawn_call(draw, name)}".encode()
     # A part of a great number may be one that an allocator grants.
     is_great = line.startswith(b"T reserve") and len(line) > 20
     return spoiled(draw, line) if draw.random() < 0.1 and not is_great else line
 
 
 def drawn_call(draw, name):
+    if name == "X" and draw.random() < 0.5:
+        return f"cut {draw.choice([0, 1, 2, 3, 4, 5, 7, draw.randrange(150), 2**64 - 1, 2**64])}"
+    if name == "X":
+        characters = "a b!é\u0080\u07ff\u0800\ud7ff\ue000\uffff\U00010000\U0010ffff\r\0"
+        return "add " + "".join(draw.choices(characters, k=draw.choice([0, 1, 1, 2, 3, 4, 30])))
     word = draw.choice([it for it, (names, _) in COMMANDS.items() if name in names] + ["push", "push", "insert"])
     start = draw.choice([0, 0, 1, 2])
     if word == "splice":
@@ -163,13 +168,6 @@ def drawn_call(draw, name):
         return f"reserve {draw.choice([0, 1, 2, 3, 5, 50, REFUSED, 2**64 - 1, 2**64])}"
     operands = {"INDEX": str(drawn_index(draw)), "I32": str(drawn_number(draw))}
     return " ".join([word, *(operands[it] for it in COMMANDS[word][1].split())])
-
-
-def drawn_text_call(draw):
-    if draw.random() < 0.5:
-        return f"cut {draw.choice([0, 1, 2, 3, 4, 5, 7, draw.randrange(150), 2**64 - 1, 2**64])}"
-    characters = "a b!é\u0080\u07ff\u0800\ud7ff\ue000\uffff\U00010000\U0010ffff\r\0"
-    return "add " + "".join(draw.choices(characters, k=draw.choice([0, 1, 1, 2, 3, 4, 30])))
 
 
 def drawn_index(draw):
@@ -185,13 +183,10 @@ def drawn_number(draw):
 
 def spoiled(draw, line):
     at = draw.randrange(len(line) + 1)
-    kind = draw.randrange(5)
-    if kind == 0:
-        return line[:at]
-    if kind == 1:
-        return line[:at] + draw.choice([b" ", b"0", b"-", b"+", b"\r", b"\x80", b"\xff"]) + line[at:]
-    if kind == 2:
-        return line[:at] + line[at + 1 :]
-    if kind == 3:
-        return b"X add " + draw.choice([b"\xc3", b"\xed\xa0\x80", b"\xc0\xaf", b"\xf4\x90\x80\x80", b"\xe0\x80\xaf"])
-    return line[:6] + b"1" * (draw.choice([LONGEST_LINE, LONGEST_LINE + 1]) - len(line[:6]))
+    return draw.choice([
+        line[:at],
+        line[:at] + line[at + 1 :],
+        line[:at] + draw.choice([b" ", b"0", b"-", b"+", b"\r", b"\x80", b"\xff"]) + line[at:],
+        b"X add " + draw.choice([b"\xc3", b"\xed\xa0\x80", b"\xc0\xaf", b"\xf4\x90\x80\x80", b"\xe0\x80\xaf"]),
+        line[:6] + b"1" * (draw.choice([LONGEST_LINE, LONGEST_LINE + 1]) - len(line[:6])),
+    ])

@@ -1,6 +1,6 @@
 """Values of the Borsh form, read and written one after the other, over readers and writers that move a few bytes or fail."""
 from rows import borsh_form, rows, swept
-from models.texts import LETTERS, hexed
+from models.texts import LETTERS
 
 NUMBERS = ("u8", "i8", "u16", "i16", "u32", "i32", "u64", "i64", "u128", "i128")
 LISTS = (
@@ -86,12 +86,7 @@ def drawn_chain(draw, _library):
         moved = (reader if name == "get" else writer).moved()
         # Which calls the reader and the writer got is not in the model.
         wanted.append(answer and f"{answer}, {reader.faults + writer.faults} faults / {rows.ANY} / {moved}")
-    return start, [(" ".join([*call[:2], *map(sent, call[2:])]), want, None) for call, want in zip(calls, wanted)]
-
-
-def sent(value):
-    """A value as the program reads it."""
-    return hexed(rows.unquoted(value)) if value.startswith('"') else value
+    return start, [(" ".join([*call[:2], *map(rows.sent, call[2:])]), want, None) for call, want in zip(calls, wanted)]
 
 
 def drawn_value(draw, kind):

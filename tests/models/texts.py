@@ -13,14 +13,8 @@ class Text(Vector):
     def __init__(self, slots):
         super().__init__("TinyVec", "u8", slots)
 
-    def start(self):
-        return f"{self.place()} {hexed(self.text())}"
-
-    def state(self):
-        return f"{self.place()} {told(self.text())}"
-
-    def place(self):
-        return "inline" if self.is_inline else f"heap {self.on_heap}"
+    def state(self, spell=None):
+        return f"{'inline' if self.is_inline else f'heap {self.on_heap}'} {(spell or told)(self.text())}"
 
     def text(self):
         return bytes(self.list).decode()
@@ -145,11 +139,6 @@ def shrink_to(t, room):
     return ""
 
 
-def taken(t):
-    """The text and its place, which are moved out."""
-    return f"{'inline' if t.is_inline else f'heap {t.on_heap}'} {told(t.text())}{t.made([])}"
-
-
 def from_utf8(t, new):
     try:
         return t.made(list(new.decode().encode()))
@@ -171,8 +160,7 @@ def compared(t, other):
 def retain_not(t, letter):
     """It says how often the closure was asked: about each character once."""
     text = t.text()
-    t.becomes(list(text.replace(letter, "").encode()))
-    return str(len(text))
+    return t.becomes(list(text.replace(letter, "").encode())) or str(len(text))
 
 
 # What makes a text.
@@ -211,7 +199,7 @@ calls("drain_from_back R")(lambda t, span: drained(t, *span, True))
 calls("clone")(lambda t: part(t, 0))
 calls("shrink_to_fit")(shrink_to_fit)
 calls("shrink_to N")(shrink_to)
-calls("take")(taken)
+calls("take")(lambda t: t.state() + t.made([]))
 calls("into_bytes")(lambda t: Vector.state(t) + t.made([]))
 calls("into_string")(lambda t: into_vec(t, lambda t, room: f"({room}, {told(t.text())})"))
 

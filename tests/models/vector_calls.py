@@ -13,12 +13,10 @@ def refusal(name, v, operands):
     """What a call answers to which memory was refused: what it was given, if it gives it back, or an error."""
     if name == "extend_exact_size":
         return f"NoMemory(IntoIter({v.shown(operands[0])}))"
-    if name in ("into_vec", "resize_with"):
-        return {"into_vec": "NoMemory", "resize_with": "AllocError 0"}[name]
-    returned = {"push": 0, "push_mut": 0, "insert": 1, "insert_mut": 1, "resize": 1}
-    if name in returned:
-        return f"NoMemory({v.item.shown(operands[returned[name]])})"
-    return "OutOfMemory" if name.startswith("write") else "AllocError"
+    if name in ("push", "push_mut", "insert", "insert_mut", "resize"):
+        return f"NoMemory({v.item.shown(operands[0 if name.startswith('push') else 1])})"
+    others = {"into_vec": "NoMemory", "resize_with": "AllocError 0"}
+    return others.get(name, "OutOfMemory" if name.startswith("write") else "AllocError")
 
 
 # How many requests these make no contract says.

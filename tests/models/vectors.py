@@ -102,10 +102,7 @@ class Vector:
     def made(self, items, room=0):
         """A new vector of these items with just the room that it needs, inline before defaults or on the heap."""
         new = self.empty()
-        if new.makes_room(max(room, len(items)), EXACTLY):
-            new.becomes(items)
-            return self.is_now(new)
-        return None
+        return None if not new.makes_room(max(room, len(items)), EXACTLY) else new.becomes(items) or self.is_now(new)
 
     def empty(self):
         new = Vector(self.kind, self.name, self.slots)
@@ -165,11 +162,6 @@ def items(v, given):
     return f"[{','.join(map(v.item.passed, given))}]", given
 
 
-def drawn_item(draw, v):
-    x = draw.choice(v.item.values)
-    return v.item.passed(x), x
-
-
 def drawn_place(draw, v):
     i = draw.choice([0, len(v.list) - 1, draw.randint(0, len(v.list))])
     return word(i) if 0 <= i < len(v.list) else None
@@ -197,27 +189,19 @@ def drawn_range(draw, v):
     return draw.choice(forms), (start, end)
 
 
-def drawn_closure(*names, are_turns=True):
-    def drawn(draw, v):
-        turns = ["".join(draw.choices("yn", k=6)) for _ in range(3)] if are_turns else []
-        closure = Closure(v.item, draw.choice([*names, *turns]))
-        return closure.name, closure
-
-    return drawn
+def drawn_closure(draw, v, *names, turns=3):
+    closure = Closure(v.item, draw.choice([*names, *("".join(draw.choices("yn", k=6)) for _ in range(turns))]))
+    return closure.name, closure
 
 
-def drawn_steps(*names, last=()):
+def drawn_steps(draw, v, *names, last=()):
     """Steps of an iterator: as many as the list has items, or fewer, and sometimes one that ends it."""
-
-    def drawn(draw, v):
-        count = draw.choice([0, 1, 2, 4, length(draw, min(len(v.list), 70))])
-        # Those that tell all items would tell too much of long lists.
-        known = [it for it in names if len(v.list) < 20 or it not in ("debug", "slice", "clone")]
-        steps = [draw.choice(known).replace("N", str(draw.randint(0, 2))) for _ in range(count)]
-        steps += draw.choices(last) if last and draw.random() < 0.3 else []
-        return " ".join(steps), steps
-
-    return drawn
+    count = draw.choice([0, 1, 2, 4, length(draw, min(len(v.list), 70))])
+    # Those that tell all items would tell too much of long lists.
+    known = [it for it in names if len(v.list) < 20 or it not in ("debug", "slice", "clone")]
+    steps = [draw.choice(known).replace("N", str(draw.randint(0, 2))) for _ in range(count)]
+    steps += draw.choices(last) if last and draw.random() < 0.3 else []
+    return " ".join(steps), steps
 
 
 FORMS = ["{}", "{:?}", "{:#?}", "{:4}", "{:x}", "{:X}", "{:o}", "{:b}"]
@@ -227,13 +211,13 @@ OPERANDS = {
     "N": drawn_count,
     "ROOM": lambda draw, v: ("MAX", MOST) if draw.random() < 0.05 else drawn_count(draw, v),
     "M": lambda draw, _v: word(draw.randint(0, 3)),
-    "X": drawn_item,
+    "X": lambda draw, v: (v.item.passed(x := draw.choice(v.item.values)), x),
     "L": lambda draw, v: items(v, v.item.some(draw, length(draw, v.most) if draw.random() < 0.7 else draw.randint(0, 5))),
     "ARRAY": lambda draw, v: items(v, v.item.some(draw, v.slots)),
     "R": drawn_range,
-    "ONE": drawn_closure("yes", "no", "even", "odd"),
-    "TWO": drawn_closure("yes", "no", "one_more", "tens"),
-    "KEY": drawn_closure("yes", "number", "tens", are_turns=False),
+    "ONE": lambda draw, v: drawn_closure(draw, v, "yes", "no", "even", "odd"),
+    "TWO": lambda draw, v: drawn_closure(draw, v, "yes", "no", "one_more", "tens"),
+    "KEY": lambda draw, v: drawn_closure(draw, v, "yes", "number", "tens", turns=0),
     "TEXT": lambda draw, v: drawn_text(draw, length(draw, v.most)),
     "LETTER": lambda draw, _v: drawn_text(draw, 1),
     "FORM": lambda draw, _v: word(draw.choice(FORMS)),
