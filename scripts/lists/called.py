@@ -11,19 +11,19 @@ from rows import rows
 
 REQUESTS = exports.TOP / "tests/requests.txt"
 # The types of these hold no allocator, so only a call that is passed one may request memory, or one that holds a vector.
-WITHOUT_ALLOCATOR, HOLDING = ("tinyvec_slots", "tinyvec_array"), ("Splice",)
+WITHOUT_ALLOCATOR, HOLDING = ("tinyvec_slots", "tinyvec_array"), ("Drain", "Splice")
 # The forms of numbers and lists are those of the traits.
 FORMS = ("BorshSerialize", "BorshDeserialize")
 # The types whose calls the rows of a kind show.
 SHOWN = {
     "streams": ("Counted", "BorshSerialize", "BorshError"),
-    "TinyVec": ("TinyVec", "TinyVecDrain", "Splice"),
+    "TinyVec": ("TinyVec", "Drain", "Splice"),
     "InlineText": ("InlineText", "InlineTextDrain"),
 }
 
 BENCH = exports.TOP / "bench/calls.txt"
 SHARED = {
-    *("tinyvec_slots", "CanCut", "CanSplice", "Gap", "OwnsItems", "ItemText", "Plain", "Array", "Slots", "TakesClones", "[T]"),
+    *("tinyvec_slots", "CanCut", "CanDrain", "CanSplice", "Gap", "OwnsItems", "ItemText", "Plain", "Array", "Slots", "TakesClones", "[T]"),
     *("[T; N]", "InBinary", "InOctal", "InHex", "InUpperHex", "AllocError", "Error", "AllocFailed", "NoMemory"),
 }
 # By type the beginnings that the names of its rows have at 64, and at 16,384.
