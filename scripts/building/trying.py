@@ -7,6 +7,7 @@ import os
 import pathlib
 import shutil
 import tempfile
+import time
 
 from building import crates, running
 
@@ -66,10 +67,18 @@ def tried(folder, words, given=b"", **environment):
 def laid(crate):
     """The folder of the crate in a repository of it and those below it."""
     crate.out.mkdir(exist_ok=True)
-    with tempfile.TemporaryDirectory(prefix=f"{crate.name}-", dir=crate.out) as room:
+    room = pathlib.Path(tempfile.mkdtemp(prefix=f"{crate.name}-", dir=crate.out))
+    try:
         compiled = lambda it: {path: text for path, text in it.files.items() if path.startswith(("src/", "c/"))}
-        crates.lay(pathlib.Path(room), crates.with_below([crate]), compiled)
-        yield pathlib.Path(room, "crates", crate.name)
+        crates.lay(room, crates.with_below([crate]), compiled)
+        yield room / "crates" / crate.name
+    finally:
+        # What rt has only just ended may still write here.
+        for _ in range(100):
+            shutil.rmtree(room, ignore_errors=True)
+            if not room.exists():
+                break
+            time.sleep(0.05)
 
 
 def kept(crate, *words):
