@@ -8,7 +8,7 @@ use crate::TinyVec;
 use std::ops::RangeBounds;
 use tinyvec_array::Array;
 use tinyvec_slots::Drain;
-use tinyvec_slots::authors::{CanDrain, close_gap, drain_held, resolve_range};
+use tinyvec_slots::authors::{CanDrain, close_gap, drain_held, resolve_range, take_range};
 
 /// Yields the items of a range. When it is dropped, the list is what preceded and followed the range, in its place.
 pub type TinyVecDrain<'a, A> = Drain<'a, TinyVec<A>>;
@@ -54,9 +54,9 @@ impl<A: Array> TinyVec<A> {
             ≡ out.old.items ++ removed (tiny_items_of A.Slots self.old) (R.start_bound range) (R.end_bound range) }
         ensures out_capacity { vec_capacity out.new ≡ vec_capacity out.old }
     {
-        for x in self.drain(range) {
-            out.push_reserved(x);
-        }
+        let part = resolve_range(range, self.len());
+        take_range(self.as_mut_slice(), part.start, part.end, out);
+        self.end_drain(part.start, part.end - part.start);
     }
 }
 

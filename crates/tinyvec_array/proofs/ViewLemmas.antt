@@ -1,7 +1,7 @@
 -- Lemmas on the list and the spare slots of a vector.
 use Rattle.std.proofs.Common.{◌≡◌, ℕ, ◌+◌, ◌-◌, ◌<◌, ◌≤◌, List, ◌++◌, length, take, drop, set, slice_range, refl, sym, ap, ◌∙◌, arith, rules, length-append, length-take, length-drop, take-append-drop}
 use Rattle.std.proofs.Math.Seq.{take-set-lt}
-use Rattle.std.proofs.lemmas.List.{places}
+use Rattle.std.proofs.lemmas.List.{same_lists, places}
 use Rattle.std.specs.Borrow.{MutBor}
 use Rattle.std.specs.List.{remove_range, refill, length_refill}
 use Rattle.tinyvec_slots.specs.Slots.{SlotRule}
@@ -48,6 +48,15 @@ module _ {S T L : Type 0} (g : Storage.Ghosts S T L) (v : ArrayVec S L) (ws : Li
       let behind = spare_from (g.count v.len) (g.slots v.slots) (len_of g v) refl in
       let written = with_back-as_long (slots_of g v) ws (len_of g v) (long ∙ sym (ap length behind)) in
       cc (g.slots_written v.slots (with_back (slots_of g v) (len_of g v) ws), written, list_to (g.count v.len) (slots_of g v) (len_of g v) refl)
+
+  -- the list is as it was, also where the length is more than there are slots
+  pub back_parts : length ws ≡ length (spare_of g v) → (items_of g put_back ≡ items_of g v) × (spare_of g put_back ≡ ws)
+  back_parts long =
+      let k = g.count v.len in
+      let all = slots_of-back long in (
+        ap (take k) all ∙ same_lists _ _ (search (rules, places, long)) (λ i d h. grind (arith, places, long)),
+        ap (drop k) all ∙ same_lists _ _ (search (rules, places, long)) (λ i d h. grind (arith, places, long)),
+      )
 
   pub back_lender : length ws ≡ length (spare_of g v) → SameLender g v put_back
   back_lender long = record {

@@ -9,7 +9,7 @@ use crate::{ArrayVec, Slots};
 use std::alloc::{AllocError, Global};
 use std::ops::RangeBounds;
 use tinyvec_slots::Drain;
-use tinyvec_slots::authors::{CanDrain, drain_held, resolve_range, take_all};
+use tinyvec_slots::authors::{CanDrain, drain_held, resolve_range, take_all, take_range};
 
 /// Yields the items of a range, which the list no longer has. When it is dropped, their slots hold defaults.
 pub type ArrayVecDrain<'a, S> = Drain<'a, ArrayVec<S>>;
@@ -43,13 +43,29 @@ where
         ensures items { items_of S.Slots (drain_vec result) ≡ before (items_of S.Slots self.old) (R.start_bound range)
             ++ after (items_of S.Slots self.old) (R.end_bound range) }
     {
+        let count = self.cut_out(range);
+        drain_held(self, 0, count)
+    }
+
+    // Moves the range to the first spare slots, and returns how many items it has.
+    #[inline(always)]
+    fn cut_out<R: RangeBounds<usize>>(&mut self, range: R) -> usize
+        requires not_exhausted { R.has_bounds range }
+        requires in_list { IsRangeOf (items_of S.Slots self.old) (R.start_bound range) (R.end_bound range) }
+        ensures lender { SameLender S.Slots self.old self.new }
+        ensures items { items_of S.Slots self.new ≡ before (items_of S.Slots self.old) (R.start_bound range)
+            ++ after (items_of S.Slots self.old) (R.end_bound range) }
+        ensures spare { spare_of S.Slots self.new
+            ≡ removed (items_of S.Slots self.old) (R.start_bound range) (R.end_bound range) ++ spare_of S.Slots self.old }
+        ensures count { length (removed (items_of S.Slots self.old) (R.start_bound range) (R.end_bound range)) ≡ result }
+    {
         let len = self.len();
         let part = resolve_range(range, len);
         // Bounds the trip count, so loop indices fit `u32`.
         let count = self.bounded(part.end - part.start);
         self.move_to_end(part.start, part.end);
         self.set_len(len - count);
-        drain_held(self, 0, count)
+        count
     }
 }
 
@@ -58,7 +74,8 @@ impl<S: Slots> CanDrain for ArrayVec<S>
 where
     S::Item: Default,
 {
-    ghost use Rattle.tinyvec_array.specs.DrainLaws.{DrainKept, DrainEnded, drain_kept_same, drain_kept_then, drain_kept_ended};
+    ghost use Rattle.tinyvec_array.specs.DrainLaws.{DrainKept, DrainEnded, drain_kept_same, drain_kept_then};
+    ghost use Rattle.tinyvec_array.specs.DrainLaws.{drain_kept_ended};
 
     type Item = S::Item;
 
@@ -142,9 +159,8 @@ where
             ++ removed (items_of S.Slots self.old) (R.start_bound range) (R.end_bound range) }
         ensures capacity { vec_capacity out.new ≡ vec_capacity out.old }
     {
-        for x in self.drain(range) {
-            out.push_reserved(x);
-        }
+        let count = self.cut_out(range);
+        take_range(self.grab_spare_slice_mut(), 0, count, out);
     }
 
     /// Moves the list into a `Vec` that has room for it, and for no more.

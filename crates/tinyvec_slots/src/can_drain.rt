@@ -13,7 +13,7 @@ pub trait CanDrain {
     // What it leaves of all else when one of them is taken.
     ghost Kept: { Self → Self → Type 0 };
 
-    // What the end of a drain leaves, whose range begins at the first number and has as many items as the second.
+    // What the end of a drain of the `gap` items from `start` on leaves.
     ghost Ended: { ℕ → ℕ → Self → Self → Type 0 };
 
     // What `Debug` calls a drain.
@@ -42,7 +42,7 @@ pub trait CanDrain {
 
     ghost kept_then: { (u v w : Self) → Kept u v → Kept v w → Kept u w };
 
-    // The end reads no more of the vector than what takes leave.
+    // Takes change nothing else that the end reads.
     ghost kept_ended: { (start gap : ℕ) (u v w : Self) → Kept u v → length (held v) ≡ length (held u)
         → remove_range (held v) start (start + gap) ≡ remove_range (held u) start (start + gap)
         → Ended start gap v w → Ended start gap u w };

@@ -1,5 +1,6 @@
 //! Items moved to the end of a `Vec` that has room for them.
-ghost use Rattle.std.specs.Prelude.{◌≡◌, ◌+◌, ◌<◌, ◌≤◌, ◌++◌, List, length, take, drop, vec_len, vec_capacity};
+ghost use Rattle.std.specs.Prelude.{◌≡◌, ◌+◌, ◌-◌, ◌<◌, ◌≤◌, ◌++◌, List, length, take, drop, slice_range, vec_len, vec_capacity};
+ghost use Rattle.tinyvec_slots.specs.Ranges.{Within};
 ghost use Rattle.tinyvec_slots.specs.Slots.{AreDefaults};
 
 use crate::tuned::sizes::fit_registers;
@@ -22,6 +23,19 @@ pub fn take_all<T: Default + Drop>(slots: &mut [T], vec: &mut Vec<T>)
     }
     let done = take_blocks::<T, 16>(slots, vec);
     take_each(&mut slots[done..], vec);
+}
+
+/// Moves the items from `start` up to `end` to the end of `vec`, and leaves defaults.
+#[inline(always)]
+pub fn take_range<T: Default + Drop>(slots: &mut [T], start: usize, end: usize, vec: &mut Vec<T>)
+    requires in_bounds { Within start end (length slots.old) }
+    requires room { vec_len vec.old + (end - start) ≤ vec_capacity vec.old }
+    ensures items { vec.new.items ≡ vec.old.items ++ slice_range slots.old start end }
+    ensures capacity { vec_capacity vec.new ≡ vec_capacity vec.old }
+    ensures emptied { (ds : List T) × AreDefaults T.is_default (end - start) ds
+        × (slots.new ≡ take start slots.old ++ ds ++ drop end slots.old) }
+{
+    take_all(&mut slots[start..end], vec);
 }
 
 // Like `take_all`, item by item.

@@ -1,55 +1,36 @@
-use Rattle.std.proofs.Common.{◌∷◌, [], ◌++◌, arith, sym, ◌∙◌, ap, subst, length, length-append, append_assoc, rules}
-use Rattle.tinyvec_slots.specs.Drain.{DrainKeeps, drain_items}
-use Rattle.tinyvec_slots.proofs.DrainLemmas.{DrainKeeps-then}
-use Rattle.tinyvec.specs.SpliceLaws.{frame_then}
-use Rattle.tinyvec.specs.DrainLaws.{tiny_drain_of}
+use Rattle.std.proofs.Common.{◌≡◌, ◌+◌, ◌-◌, ◌++◌, ◌≤◌, length, take, drop, slice_range, ap, subst, ◌∙◌, arith, rules, length-append, length-take-le, drop_at}
+use Rattle.std.specs.List.{remove_range}
+use Rattle.tinyvec_slots.specs.Ranges.{range_end, before, removed, after}
+use Rattle.tinyvec_slots.proofs.Lists.{first_part}
+use Rattle.tinyvec.specs.TinyVec.{tiny_items_of, tiny_view_of}
+use Rattle.tinyvec.specs.View.{Becomes}
+use Rattle.tinyvec.specs.FrameLaws.{tiny_items-with, tiny_framed-with}
+use Rattle.tinyvec.specs.Lends.{tiny_with_items}
+use Rattle.tinyvec.specs.SpliceLaws.{frame_becomes}
 use Rattle.tinyvec.proofs.drain.TinyVec+A.drain_into.Goals as goal
-
-pub push_reserved-requires : goal.push_reserved-requires
-push_reserved-requires g c =
-    let G = tiny_drain_of g.A.Slots g.A.Item.Default.is_default in
-    let inv = c.loop-x.invariant in
-    let at_first = drain_items G c.into_iter-x-iterator.result in
-    let to_come = drain_items G c.loop-x.x-iterator in
-    let begun = ap (λ d. length (drain_items G d)) c.into_iter-x-iterator.ensures.into_iter_gives ∙ ap length c.drain-x-items.ensures.begins.rest in
-    let one = ap length c.in-Some.ensures.steps.0 in
-    let same = ap length inv.moved in
-    let left = length-append c.loop-x.out.items to_come in
-    let right = length-append c.args.out.now.items at_first in
-    let kept = inv.room in
-    let room = c.requires.room in
-    omega arith
-
-pub loop-x-preserved : goal.loop-x-preserved
-loop-x-preserved g c =
-    let G = tiny_drain_of g.A.Slots g.A.Item.Default.is_default in
-    let inv = c.loop-x.invariant in
-    let step = c.in-Some.ensures.steps in
-    let out = c.loop-x.out.items in
-    let left = drain_items G c.next.new.self in record {
-      can = step.1.ready inv.can;
-      ends = tt;
-      keeps = DrainKeeps-then G (frame_then g.A.Slots) c.into_iter-x-iterator.result c.loop-x.x-iterator c.next.new.self inv.keeps step.1;
-      moved = ap (λ l. l ++ left) c.push_reserved.ensures.items ∙ append_assoc out (c.in-Some.x ∷ []) left ∙ ap (λ l. out ++ l) (sym step.0) ∙ inv.moved;
-      room = c.push_reserved.ensures.capacity ∙ inv.room;
-    }
 
 pub returns-clause-becomes : goal.returns-clause-becomes
 returns-clause-becomes g c =
-    let new = c.drop-x-iterator.new.self.0 in
-    let keeps = subst (λ d. DrainKeeps (tiny_drain_of g.A.Slots g.A.Item.Default.is_default) d c.loop-x.x-iterator) c.into_iter-x-iterator.ensures.into_iter_gives c.loop-x.invariant.keeps in
-    let left = c.drain-x-items.ensures.begins.leaves new (keeps.leaves new (c.in-None.ensures.steps.1.leaves new c.drop-x-iterator.ensures)) in
-    let same = c.in-None.ensures.steps.1.same_reference ∙ keeps.same_reference in
-    let listed = left.items in
-    let place = left.place in
-    let capacity = left.capacity in
-    let fits = left.fits in record {
-      items = search rules;
-      place = search rules;
-      slot_rule = λ i j.
-          let ruled = left.slot_rule i (search rules) in
-          let behind = ruled.2 in
-          (ruled.0, (search rules, ruled.1.1), search rules);
-      capacity = search rules;
-      fits = search rules;
-    }
+    let view = tiny_view_of g.A.Slots in
+    let D = g.A.Item.Default.is_default in
+    let v = c.args.self.now in
+    let new = c.end_drain.new.self in
+    let xs = tiny_items_of g.A.Slots v in
+    let i = c.resolve_range-part.result.start in
+    let j = c.resolve_range-part.result.end in
+    let start = c.resolve_range-part.ensures.start in
+    let end = c.resolve_range-part.ensures.end ∙ ap (range_end (g.R.RangeBounds.end_bound c.args.range)) c.len.ensures.value in
+    let order : i ≤ j = omega (arith, start, end, c.requires.in_list.0) in
+    let inside : j ≤ length xs = omega (arith, end, c.requires.in_list.1) in
+    let shown = c.as_mut_slice.ensures.value in
+    let ws = c.take_range.new.slots in
+    let after_is = c.take_range.ensures.emptied in
+    let ds = after_is.0 in
+    let is = after_is.2 ∙ ap (λ l. take i l ++ ds ++ drop j l) shown in
+    let long : length ws ≡ length xs = c.take_range.auto.slots ∙ ap length shown in
+    let first = length-take-le i xs (omega (arith, order, inside)) in
+    let front = ap (take i) is ∙ first_part (take i xs) ds (drop j xs) i (j - i) first after_is.1.0 in
+    let back = ap (drop (i + (j - i))) is ∙ drop_at (take i xs ++ ds) (drop j xs) (i + (j - i)) (length-append (take i xs) ds ∙ omega (arith, first, after_is.1.0)) in
+    let around : take i xs ++ drop j xs ≡ before xs (g.R.RangeBounds.start_bound c.args.range) ++ after xs (g.R.RangeBounds.end_bound c.args.range) = search rules in
+    subst (Becomes D (view v) (view new)) (ap (λ l. remove_range l i (i + (j - i))) (tiny_items-with g.A.Slots v ws long) ∙ (λ k. front k ++ back k) ∙ around)
+    (frame_becomes D (view v) (view (tiny_with_items g.A.Slots v ws)) (view new) _ (tiny_framed-with g.A.Slots v ws long) c.end_drain.ensures)

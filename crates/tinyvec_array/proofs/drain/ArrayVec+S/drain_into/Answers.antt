@@ -1,46 +1,25 @@
-use Rattle.std.proofs.Common.{◌∷◌, [], ◌++◌, arith, sym, ◌∙◌, ap, subst, length, length-append, append_assoc, rules}
-use Rattle.tinyvec_slots.specs.Drain.{DrainKeeps, drain_items}
-use Rattle.tinyvec_slots.proofs.DrainLemmas.{DrainKeeps-then}
-use Rattle.tinyvec_array.specs.DrainLaws.{drain_of, drain_kept_then}
+use Rattle.std.proofs.Common.{◌≡◌, ◌-◌, ◌++◌, length, drop, ap, sym, ◌∙◌, arith, length-append, drop_at}
+use Rattle.tinyvec_slots.specs.Ranges.{removed}
+use Rattle.tinyvec_array.specs.ArrayVec.{items_of, spare_of}
+use Rattle.tinyvec_array.proofs.ViewLemmas.{SameLender-then, back_parts, back_lender}
 use Rattle.tinyvec_array.proofs.drain.ArrayVec+S.drain_into.Goals as goal
-
-pub push_reserved-requires : goal.push_reserved-requires
-push_reserved-requires g c =
-    let G = drain_of g.S.Slots g.S.Item.Default.is_default in
-    let inv = c.loop-x.invariant in
-    let at_first = drain_items G c.into_iter-x-iterator.result in
-    let to_come = drain_items G c.loop-x.x-iterator in
-    let begun = ap (λ d. length (drain_items G d)) c.into_iter-x-iterator.ensures.into_iter_gives ∙ ap length c.drain-x-items.ensures.begins.rest in
-    let one = ap length c.in-Some.ensures.steps.0 in
-    let same = ap length inv.moved in
-    let left = length-append c.loop-x.out.items to_come in
-    let right = length-append c.args.out.now.items at_first in
-    let kept = inv.room in
-    let room = c.requires.room in
-    omega arith
-
-pub loop-x-preserved : goal.loop-x-preserved
-loop-x-preserved g c =
-    let G = drain_of g.S.Slots g.S.Item.Default.is_default in
-    let inv = c.loop-x.invariant in
-    let step = c.in-Some.ensures.steps in
-    let out = c.loop-x.out.items in
-    let left = drain_items G c.next.new.self in record {
-      can = step.1.ready inv.can;
-      ends = tt;
-      keeps = DrainKeeps-then G (drain_kept_then g.S.Slots) c.into_iter-x-iterator.result c.loop-x.x-iterator c.next.new.self inv.keeps step.1;
-      moved = ap (λ l. l ++ left) c.push_reserved.ensures.items ∙ append_assoc out (c.in-Some.x ∷ []) left ∙ ap (λ l. out ++ l) (sym step.0) ∙ inv.moved;
-      room = c.push_reserved.ensures.capacity ∙ inv.room;
-    }
 
 pub returns-clause-becomes : goal.returns-clause-becomes
 returns-clause-becomes g c =
-    let new = c.drop-x-iterator.new.self.0 in
-    let keeps = subst (λ d. DrainKeeps (drain_of g.S.Slots g.S.Item.Default.is_default) d c.loop-x.x-iterator) c.into_iter-x-iterator.ensures.into_iter_gives c.loop-x.invariant.keeps in
-    let lost = c.drain-x-items.ensures.begins.leaves new (keeps.leaves new (c.in-None.ensures.steps.1.leaves new c.drop-x-iterator.ensures)) in
-    let same = c.in-None.ensures.steps.1.same_reference ∙ keeps.same_reference in
-    let named = lost.lender.same_reference in
-    let count = lost.lender.slot_count in
-    let listed = lost.items in
-    let freed = lost.spare.2 in
-    record { lender = record { same_reference = search rules; slot_count = search rules }; items = search rules; spare = (lost.spare.0, lost.spare.1, search rules) }
+    let cut = c.cut_out-count in
+    let n = cut.result in
+    let M = removed (items_of g.S.Slots c.args.self.now) (g.R.RangeBounds.start_bound c.args.range) (g.R.RangeBounds.end_bound c.args.range) in
+    let S = spare_of g.S.Slots c.args.self.now in
+    let after = c.take_range.ensures.emptied in
+    let ds = after.0 in
+    let shown = c.grab_spare_slice_mut.ensures.value ∙ cut.ensures.spare in
+    let none : n - 0 ≡ n = omega arith in
+    let count : length ds ≡ length M = after.1.0 ∙ none ∙ sym cut.ensures.count in
+    let written = after.2 ∙ ap (λ l. ds ++ drop n l) shown ∙ ap (λ l. ds ++ l) (drop_at M S n cut.ensures.count) in
+    let long : length c.take_range.new.slots ≡ length (spare_of g.S.Slots cut.new.self) = omega (arith, ap length written, length-append ds S, count, length-append M S, ap length cut.ensures.spare) in
+    let parts = back_parts g.S.Slots cut.new.self c.take_range.new.slots long in
+    record {
+      lender = SameLender-then g.S.Slots c.args.self.now cut.new.self _ cut.ensures.lender (back_lender g.S.Slots cut.new.self c.take_range.new.slots long);
+      items = parts.0 ∙ cut.ensures.items;
+      spare = (ds, (count, after.1.1), parts.1 ∙ written);
+    }
