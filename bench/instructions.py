@@ -43,16 +43,21 @@ def further(once, twice):
 def counted(command):
     """The rounds and instructions of each row."""
     printed, lines = run(command, stdout=subprocess.PIPE)
-    rows, totals, is_row = [line.split() for line in printed.splitlines()], [], False
-    # Those of the parts that the end of a row made.
+    rows, totals = [line.split() for line in printed.splitlines()], totals_of(lines)
+    if len(rows) != len(totals):
+        raise ValueError(f"{command}: {len(rows)} rows, but {len(totals)} counts")
+    return {(row[0], int(row[1])): (int(row[2]), total) for row, total in zip(rows, totals)}
+
+
+def totals_of(lines):
+    """The counts of the parts that the end of a row made."""
+    totals, is_row = [], False
     for line in lines:
         if line.startswith("desc: Trigger:"):
             is_row = "--dump-before" in line
         elif is_row and line.startswith("totals:"):
             totals.append(int(line.split()[1]))
-    if len(rows) != len(totals):
-        raise ValueError(f"{command}: {len(rows)} rows, but {len(totals)} counts")
-    return {(row[0], int(row[1])): (int(row[2]), total) for row, total in zip(rows, totals)}
+    return totals
 
 
 def of_run(command, source):

@@ -16,7 +16,10 @@ returns-then-new_len-len g c =
     ∙ drop_at (take m slots) (made.0 ++ drop n slots) m (length-take-le m slots le)
     ∙ ap (λ l. made.0 ++ l) (spare_from (g.S.Slots.count v.len) slots n long) in
     record {
-      lender = search rules;
+      lender = record {
+        same_reference = g.S.Slots.name_kept v.slots c.fill_default.new.slots;
+        slot_count = ap length (g.S.Slots.slots_written v.slots c.fill_default.new.slots) ∙ c.fill_default.auto.slots ∙ ap length c.as_slice_mut.ensures.value;
+      };
       items = grind (arith, common_steps);
       spare = (made.0, (made.1.0 ∙ ap (λ k. k - m) long, made.1.1), rw (g.S.Slots.slots_written, c.to_len.ensures.number, made.2, c.as_slice_mut.ensures.value) behind);
     }

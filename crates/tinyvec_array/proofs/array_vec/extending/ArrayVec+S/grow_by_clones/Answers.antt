@@ -20,6 +20,16 @@ module _ (g : _) (c : goal.After-from_residual g) where
   le : (g.S.Slots.count c.args.self.now.len) ≤ length (g.S.Slots.slots c.args.self.now.slots)
   le = rw (← same) (within (g.S.Slots.count c.args.self.now.len) (g.S.Slots.slots c.args.self.now.slots) c.len-len.result c.len-len.ensures.value)
 
+pub to_len-requires : goal.to_len-requires
+to_len-requires g c =
+    omega (arith, ap length (g.S.Slots.slots_written c.args.self.now.slots c.fill_clones.new.to), c.fill_clones.auto.to, ap length c.as_slice_mut.ensures.value, c.requires.in_bounds)
+
+pub returns-in_err-fill_clones-clause-lender : goal.returns-in_err-fill_clones-clause-lender
+returns-in_err-fill_clones-clause-lender g c = record {
+  same_reference = g.S.Slots.name_kept c.args.self.now.slots c.fill_clones.new.to;
+  slot_count = ap length (g.S.Slots.slots_written c.args.self.now.slots c.fill_clones.new.to) ∙ c.fill_clones.auto.to ∙ ap length c.as_slice_mut.ensures.value;
+}
+
 pub returns-in_err-fill_clones-clause-grown : goal.returns-in_err-fill_clones-clause-grown
 returns-in_err-fill_clones-clause-grown g c =
     let v = c.args.self.now in
@@ -49,7 +59,7 @@ returns g c =
     let list = list_to (g.S.Slots.count v.len) slots len long in
     let all : take n (take (g.S.Slots.count v.len) slots) ≡ take (g.S.Slots.count v.len) slots = take_all n (take (g.S.Slots.count v.len) slots) (omega (arith, long, c.requires.longer)) in
     record {
-      lender = record { same_reference = search rules; slot_count = ap length (g.S.Slots.slots_written v.slots c.fill_clones.new.to) ∙ c.fill_clones.auto.to ∙ ap length c.as_slice_mut.ensures.value };
+      lender = record { same_reference = g.S.Slots.name_kept v.slots c.fill_clones.new.to; slot_count = ap length (g.S.Slots.slots_written v.slots c.fill_clones.new.to) ∙ c.fill_clones.auto.to ∙ ap length c.as_slice_mut.ensures.value };
       grown = record {
         items = rw (c.to_len.ensures.number, all, ← long, ← list) (written.0);
         len = rw c.to_len.ensures.number (written.1 ∙ ap (λ l. length l + (n - len)) list ∙ ap (λ k. k + (n - len)) (sym long) ∙ sum);

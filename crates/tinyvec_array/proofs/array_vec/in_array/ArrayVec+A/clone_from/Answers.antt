@@ -5,6 +5,7 @@ use Rattle.tinyvec_slots.proofs.BorderLemmas.{list_to, spare_from}
 use Rattle.tinyvec_slots.proofs.CloneLemmas.{on_err}
 use Rattle.tinyvec_slots.proofs.CloneFromLemmas.{clones_in_part, all_cloned}
 use Rattle.tinyvec_array.specs.ArrayVec.{view_of, slots_of}
+use Rattle.tinyvec_array.proofs.ViewLemmas.{SameLender-then}
 use Rattle.tinyvec_array.proofs.array_vec.in_array.ArrayVec+A.clone_from.Goals as goal
 
 pub returns-in_err-clone_over_from-clause-refused : goal.returns-in_err-clone_over_from-clause-refused
@@ -53,7 +54,10 @@ returns g c =
     let frees : Vacates D (len_in old - n) old cut = (c.truncate.ensures.spare.0, c.truncate.ensures.spare.1, spare_from k slots kept refl ∙ c.truncate.ensures.spare.2) in
     let put : view_of g.A.Slots c.set_len.new.self ≡ new = c.set_len.ensures.value ∙ ap (split_at n) (g.A.Slots.slots_written left.slots c.clone_over_from.new.slots) in
     record {
-      lender = search rules;
+      lender = SameLender-then g.A.Slots c.args.self.now left c.set_len.new.self c.truncate.ensures.lender record {
+        same_reference = c.set_len.ensures.lender.same_reference ∙ g.A.Slots.name_kept left.slots c.clone_over_from.new.slots;
+        slot_count = c.set_len.ensures.lender.slot_count ∙ ap length (g.A.Slots.slots_written left.slots c.clone_over_from.new.slots) ∙ c.clone_over_from.auto.slots ∙ ap length c.as_slice_mut.ensures.value;
+      };
       items = rw (← c.as_slice.ensures) (subst (λ l. AreClones g.A.Item.Clone.is_clone source l) (sym (ap items_in put ∙ listed)) (are_clones g.A.Item.Clone.is_clone source over.made over.clones));
       slot_rule = subst (λ v. SlotRule D old v) (sym put) (all_cloned D g.A.Item.Clone.is_infallible g.A.Item.Clone.is_clone old cut cut source n
           refl long (omega (arith, length-take k slots)) (list_to k slots kept refl ∙ c.truncate.ensures.items) frees new (ap length listed ∙ over.count) behind);
@@ -62,4 +66,9 @@ returns g c =
     }
 
 pub returns-in_err-clone_over_from-clause-lender : goal.returns-in_err-clone_over_from-clause-lender
-returns-in_err-clone_over_from-clause-lender g c = search rules
+returns-in_err-clone_over_from-clause-lender g c =
+    let left = c.truncate.new.self in
+    SameLender-then g.A.Slots c.args.self.now left _ c.truncate.ensures.lender record {
+      same_reference = g.A.Slots.name_kept left.slots c.clone_over_from.new.slots;
+      slot_count = ap length (g.A.Slots.slots_written left.slots c.clone_over_from.new.slots) ∙ c.clone_over_from.auto.slots ∙ ap length c.as_slice_mut.ensures.value;
+    }
