@@ -17,5 +17,5 @@ pub use crate::tuned::cloning::{clone_each, clone_over, clone_over_from};
 pub use crate::tuned::comparing::{cmp_slices, eq_slices, hash_items, partial_cmp_slices};
 pub use crate::tuned::moving::{close_gap, move_to_end};
 pub use crate::tuned::shifting::remove_shifting;
-pub use crate::tuned::sizes::{bytes_of, fit_registers};
+pub use crate::tuned::sizes::fit_registers;
 pub use crate::tuned::taking::{take_all, take_range};

@@ -3,7 +3,8 @@ ghost use Rattle.std.specs.Prelude.{◌≡◌, ◌<◌, ◌≤◌, length};
 ghost use Rattle.tinyvec_slots.specs.Ranges.{Within};
 
 use crate::{Array, Slots};
-use tinyvec_slots::authors::{bytes_of, fit_registers};
+use std::mem;
+use tinyvec_slots::authors::fit_registers;
 
 // Returns `i`. Going through `u32` shows LLVM that the address cannot wrap onto the length field, which precedes the slots.
 // So the length stays in a register, and a loop of pushes is vectorized.
@@ -35,7 +36,7 @@ pub(crate) fn bounded_len<T>(slots: &[T], n: usize, most: usize) -> usize
 // Whether all items together take up to 128 bytes.
 #[inline(always)]
 pub(crate) fn prefers_shifting<T>(items: &[T]) -> bool {
-    bytes_of(items) <= 128
+    items.len() * mem::size_of::<T>() <= 128
 }
 
 // Whether the slots from `start` up to `end` are moved one by one. For an array of few slots the result is a constant.
@@ -47,7 +48,7 @@ pub(crate) fn prefers_shifting_in<S: Slots>(slots: &S, start: usize, end: usize)
     // For a lent slice, whose number of slots is not known, the range alone decides. A few larger items are moved faster so
     // too.
     slots.most() <= 128 && prefers_shifting(all)
-        || slots.most() <= 16 && bytes_of(all) <= 1024
+        || slots.most() <= 16 && all.len() * mem::size_of::<S::Item>() <= 1024
         || prefers_shifting(&all[start..end])
 }
 

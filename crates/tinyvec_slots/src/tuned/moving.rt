@@ -3,7 +3,7 @@ ghost use Rattle.std.specs.Prelude.{◌≡◌, ◌+◌, ◌-◌, ◌≤◌, ◌+
 ghost use Rattle.std.specs.List.{remove_range};
 ghost use Rattle.tinyvec_slots.specs.Ranges.{Within};
 
-use crate::tuned::sizes::bytes_of;
+use std::mem;
 
 /// Moves the items `start..end` to the end.
 pub fn move_to_end<T>(items: &mut [T], start: usize, end: usize)
@@ -43,7 +43,7 @@ fn rotate<T>(items: &mut [T], count: usize)
 // Whether there are more items than a piece has, of 8 bytes or more. A call for the size alone costs `remove` six instructions.
 #[inline(always)]
 fn prefers_pieces<T>(items: &[T]) -> bool {
-    items.len() > 257 && bytes_of(items) / 8 >= items.len()
+    items.len() > 257 && items.len() * mem::size_of::<T>() / 8 >= items.len()
 }
 
 // Moves the first item to the end, by pieces of 257 items. `rotate_left` moves more than that by 16 bytes through memory.

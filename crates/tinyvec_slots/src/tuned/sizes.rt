@@ -1,21 +1,16 @@
-//! How many bytes an item takes. Each word is a constant once `T` is known, so the other branch is gone. It takes the items,
-//! since a slice fits in memory, so that no product wraps.
+//! How many bytes an item takes. Each word is a constant once `T` is known, so the other branch is gone.
+//!
+//! A word takes the items, since a slice fits in memory, and so the proof knows that no product wraps.
 ghost use Rattle.std.specs.Prelude.{◌<◌, length};
 
 use std::mem;
-
-/// How many bytes the items take.
-#[inline(always)]
-pub fn bytes_of<T>(items: &[T]) -> usize {
-    items.len() * mem::size_of::<T>()
-}
 
 /// Whether an item takes one byte.
 #[inline(always)]
 pub(crate) fn are_bytes<T>(items: &[T]) -> bool
     requires some { 0 < length items.now }
 {
-    bytes_of(&items[..1]) == 1
+    items[..1].len() * mem::size_of::<T>() == 1
 }
 
 /// Whether an item takes 4 to 16 bytes.
@@ -23,7 +18,7 @@ pub(crate) fn are_bytes<T>(items: &[T]) -> bool
 pub fn fit_registers<T>(items: &[T]) -> bool
     requires some { 0 < length items.now }
 {
-    let size = bytes_of(&items[..1]);
+    let size = items[..1].len() * mem::size_of::<T>();
     4 <= size && size <= 16
 }
 
@@ -32,12 +27,12 @@ pub fn fit_registers<T>(items: &[T]) -> bool
 pub(crate) fn are_small<T>(items: &[T]) -> bool
     requires some { 0 < length items.now }
 {
-    bytes_of(&items[..1]) <= 16
+    items[..1].len() * mem::size_of::<T>() <= 16
 }
 
 /// Whether an item takes more than 16 bytes, also of a slice that may be empty. A short slice of items that take few more
 /// counts as small.
 #[inline(always)]
 pub(crate) fn are_large<T>(items: &[T]) -> bool {
-    bytes_of(items) / 16 > items.len()
+    items.len() * mem::size_of::<T>() / 16 > items.len()
 }
