@@ -2,6 +2,9 @@ use Rattle.std.proofs.Common.{◌∷◌, [], ◌++◌, arith, sym, ◌∙◌, ap
 use Rattle.tinyvec_slots.specs.Drain.{DrainKeeps, drain_items}
 use Rattle.tinyvec_slots.proofs.DrainLemmas.{DrainKeeps-then}
 use Rattle.tinyvec.specs.SpliceLaws.{frame_then}
+use Rattle.tinyvec_slots.specs.Ranges.{before, after}
+use Rattle.tinyvec.specs.View.{Becomes}
+use Rattle.tinyvec.specs.TinyVec.{tiny_items_of, tiny_view_of}
 use Rattle.tinyvec.specs.DrainLaws.{tiny_drain_of}
 use Rattle.tinyvec.proofs.drain.TinyVec+A.drain_into.Goals as goal
 
@@ -40,16 +43,8 @@ returns-clause-becomes g c =
     let keeps = subst (λ d. DrainKeeps (tiny_drain_of g.A.Slots g.A.Item.Default.is_default) d c.loop-x.x-iterator) c.into_iter-x-iterator.ensures.into_iter_gives c.loop-x.invariant.keeps in
     let left = c.drain-x-items.ensures.begins.leaves new (keeps.leaves new (c.in-None.ensures.steps.1.leaves new c.drop-x-iterator.ensures)) in
     let same = c.in-None.ensures.steps.1.same_reference ∙ keeps.same_reference in
-    let listed = left.items in
-    let place = left.place in
-    let capacity = left.capacity in
-    let fits = left.fits in record {
-      items = search rules;
-      place = search rules;
-      slot_rule = λ i j.
-          let ruled = left.slot_rule i (search rules) in
-          let behind = ruled.2 in
-          (ruled.0, (search rules, ruled.1.1), search rules);
-      capacity = search rules;
-      fits = search rules;
-    }
+    subst (λ v. Becomes g.A.Item.Default.is_default (tiny_view_of g.A.Slots c.args.self.now) (tiny_view_of g.A.Slots v) (before (tiny_items_of g.A.Slots c.args.self.now) (g.R.RangeBounds.start_bound c.args.range)
+    ++ after (tiny_items_of g.A.Slots c.args.self.now) (g.R.RangeBounds.end_bound c.args.range))) (search rules) left
+
+pub returns-clause-out_capacity : goal.returns-clause-out_capacity
+returns-clause-out_capacity g c = c.loop-x.invariant.room
