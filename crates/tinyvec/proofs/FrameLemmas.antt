@@ -4,17 +4,17 @@ use Rattle.std.specs.Prelude.{OnOk, OnErr, IsErr, IsTrue, ◌↔◌, Bool, true,
 use Rattle.std.specs.Result.{is_err}
 use Rattle.std.proofs.Math.Seq.{drop-nil}
 use Rattle.std.proofs.Math.Nat.{mul_assoc, pow-succ'}
-use Rattle.std.proofs.lemmas.Bool.{false≢true, cases_lt, eqb-false}
+use Rattle.std.proofs.lemmas.Bool.{false≢true, cases_lt, eqb-false, eqb-true}
 use Rattle.tinyvec_slots.specs.Slots.{Slots, SlotRule, items_in, len_in}
 use Rattle.tinyvec_slots.specs.Filters.{Shortened}
-use Rattle.tinyvec_slots.proofs.SlotsLemmas.{slots_used, shortened}
+use Rattle.tinyvec_slots.proofs.SlotsLemmas.{slots_used, slots_freed, shortened}
 use Rattle.tinyvec_array.specs.CutLaws.{CutOf}
 use Rattle.tinyvec_array.specs.SpliceLaws.{cut_lender}
-use Rattle.tinyvec_array.specs.ArrayVec.{view_of, items_of, spare_of, slots_of, len_of, Gains}
+use Rattle.tinyvec_array.specs.ArrayVec.{view_of, items_of, spare_of, slots_of, len_of, Gains, Loses}
 use Rattle.tinyvec_array.specs.declared.array_vec.ArrayVec.{ArrayVec}
 use Rattle.tinyvec.specs.View.{TinyView, view_len, view_inline, ViewInline, view_capacity, SameFrame, Unchanged, Becomes, StaysInPlace, ShortensInPlace}
 use Rattle.tinyvec_array.specs.declared.slots.Slots as Storage
-use Rattle.tinyvec.specs.TinyVec.{tiny_view_of, tiny_items_of, tiny_len_of, tiny_spare_of, tiny_capacity_of, is_inline, IsInline}
+use Rattle.tinyvec.specs.TinyVec.{tiny_view_of, tiny_items_of, tiny_len_of, tiny_spare_of, tiny_capacity_of, IsInline}
 use Rattle.tinyvec.specs.declared.tiny_vec.TinyVec.{TinyVec}
 use Rattle.tinyvec.specs.declared.tiny_vec.TinyVec.TheVariants.{Inline, Heap}
 use Rattle.tinyvec.specs.Room.{KeepsRoom, GetsRoom, GrowsByPushes, MakesRoom, MovesToHeap}
@@ -39,6 +39,12 @@ no_less exact need first last (inr room) same grown = omega (arith, same room)
 pub inline_becomes : {T : Type 0} (D : T → Type 0) (v w : Slots T) (xs : List T) → items_in w ≡ xs → SlotRule D v w → length w.slots ≡ length v.slots
     → Becomes D (array_view v) (array_view w) xs
 inline_becomes D v w xs is rule same = record { items = is; place = refl; slot_rule = λ _ _. rule; capacity = same; fits = omega (arith, length-take w.len w.slots) }
+
+-- an array that lost k items
+pub inline_loses : {A T L : Type 0} (g : Storage.Ghosts A T L) (D : T → Type 0) (k : ℕ) (v w : ArrayVec A L) (xs : List T) → length xs + k ≡ len_of g v
+    → Loses g D k v w xs → Becomes D (array_view (view_of g v)) (array_view (view_of g w)) xs
+inline_loses g D k v w xs less h =
+    inline_becomes D (view_of g v) (view_of g w) xs h.items (slots_freed D (view_of g v) (view_of g w) k (omega (arith, less, ap length h.items)) h.spare) h.lender.slot_count
 
 -- an array whose list only lost items
 pub inline_shortens : {A T L : Type 0} (g : Storage.Ghosts A T L) (D : T → Type 0) (v w : ArrayVec A L)
@@ -184,10 +190,9 @@ pub moved_room : {T X E : Type 0} (n : ℕ) (old new : TinyView T) (r : Result X
 moved_room n old new r = moved_from (view_inline old) n old new r refl
 
 -- a full list that grew by as many items as it has, or by one, doubled
-pub doubled_room : {T X E : Type 0} (n : ℕ) (old new : TinyView T) (r : Result X E) → n ≡ max (view_len old) 1 → view_len old ≡ view_capacity old
-    → MovesToHeap n old new r → MakesRoom false (view_len old + 1) old new r
-doubled_room n old new (Err e) is full h = room_not_made false (view_len old + 1) old new (Err e) refl (omega (arith, full)) h.refused h.fits
-doubled_room n old new (Ok x) is full h = let made = moved_room n old new (Ok x) (omega (arith, full, is)) h in record {
+doubled_room : {T X E : Type 0} (n : ℕ) (old new : TinyView T) (x : X) → n ≡ max (view_len old) 1 → view_len old ≡ view_capacity old
+    → MovesToHeap {E = E} n old new (Ok x) → MakesRoom {E = E} false (view_len old + 1) old new (Ok x)
+doubled_room n old new x is full h = let made = moved_room n old new (Ok x) (omega (arith, full, is)) h in record {
   keeps = record { capacity = made.keeps.capacity; same_room = λ room. absurd (omega (arith, full, room)); fits = made.keeps.fits };
   gets = record {
     place = (λ i. absurd (false≢true (sym h.place ∙ i)), λ h. absurd (omega (arith, full, h.1)));
@@ -199,17 +204,20 @@ doubled_room n old new (Ok x) is full h = let made = moved_room n old new (Ok x)
   refused = tt;
 }
 
--- what failed for one call failed for the call around it
-pub not_taken : {T X Y E F : Type 0} (exact : Bool) (need : ℕ) (old new : TinyView T) (r : Result X F) (e : E) → true ≡ is_err r
-    → MakesRoom exact need old new r → MakesRoom {X = Y} exact need old new (Err e)
-not_taken exact need old new (Ok x) e err room = absurd (false≢true (sym err))
-not_taken exact need old new (Err f) e err room = room_not_made exact need old new (Err e) refl room.full room.refused room.keeps.fits
+-- a list that has no spare slot, or no room on the heap, is full
+pub full_inline : {A T L : Type 0} (g : Storage.Ghosts A T L) (old : TinyVec A T L) (v : ArrayVec A L) (a : Global) → old ≡ Inline v a
+    → true ≡ (length (spare_of g v) == 0) → tiny_len_of g old ≡ tiny_capacity_of g old
+full_inline g old v a was none = rw was (omega (arith, parts_of g v, eqb-true (length (spare_of g v)) 0 (sym none)))
 
--- a list that found no room for one more item was full
-pub was_full : {A T L X F : Type 0} (g : Storage.Ghosts A T L) (old new : TinyVec A T L) (r : Result X F) → true ≡ is_err r → tiny_items_of g new ≡ tiny_items_of g old
-    → MakesRoom false (tiny_len_of g old + 1) (tiny_view_of g old) (tiny_view_of g new) r → tiny_len_of g old ≡ tiny_capacity_of g old
-was_full g old new (Ok x) err items room = absurd (false≢true (sym err))
-was_full g old new (Err f) err items room = omega (arith, room.full, room.keeps.fits, room.refused.capacity, ap length items)
+pub full_heap : {A T L : Type 0} (g : Storage.Ghosts A T L) (old : TinyVec A T L) (v : Vec T Global) → old ≡ Heap v → vec_capacity v ≤ vec_len v
+    → tiny_len_of g old ≡ tiny_capacity_of g old
+full_heap g old v was le = rw was (omega (arith, v.ok.0, v.ok.1, le))
+
+-- a full list that could not grow, for the call that was to take one more item
+pub not_taken : {T X Y E F : Type 0} (n : ℕ) (old new : TinyView T) (r : Result X F) (e : E) → true ≡ is_err r → view_len old ≡ view_capacity old
+    → MovesToHeap n old new r → MakesRoom {X = Y} false (view_len old + 1) old new (Err e)
+not_taken n old new (Ok x) e err full h = absurd (false≢true (sym err))
+not_taken n old new (Err f) e err full h = room_not_made false (view_len old + 1) old new (Err e) refl (omega (arith, full)) h.refused h.fits
 
 -- the spare slots that a list used up in its place, by as many items as it got longer
 pub spare_used : {A T L : Type 0} (g : Storage.Ghosts A T L) (D : T → Type 0) (v w : TinyVec A T L) (xs : List T) (k : ℕ) → length xs ≡ tiny_len_of g v + k
@@ -237,6 +245,20 @@ inline_moves n v w x is room = record {
   fits = omega (arith, w.ok.0, w.ok.1);
   succeeds_empty = λ _. refl;
   refused = tt;
+}
+
+-- an array whose list could not move
+pub not_moved : {T X E : Type 0} (n : ℕ) (v : Slots T) (r : Result X E) → IsErr r → (len_in v + n ≡ 0 → ⊥) → MovesToHeap n (array_view v) (array_view v) r
+not_moved n v (Ok x) err some = absurd (false≢true err)
+not_moved n v (Err e) err some = record {
+  items = refl;
+  place = tt;
+  enough = tt;
+  moved = λ _. tt;
+  room = λ no. absurd (false≢true (sym no));
+  fits = omega (arith, length-take v.len v.slots);
+  succeeds_empty = λ none. absurd (some none);
+  refused = record { items = refl; spare = refl; place = refl; capacity = refl };
 }
 
 -- a list on the heap that had no room for n more, and grew there
@@ -303,12 +325,13 @@ module _ {A T L E : Type 0} (g : Storage.Ghosts A T L) (D : T → Type 0) (slots
   took_heap v w was is room items same =
       rw (is, was) (items, λ i. absurd (false≢true i), had_room false D (length v.items + 1) (heap_view v) (heap_view w) tt room (heap_becomes D v w (put v.items) items same))
 
-  pub took_grown : {X F : Type 0} (mid : TinyVec A T L) (r : Result X F) → false ≡ is_err r → tiny_items_of g mid ≡ tiny_items_of g old
-      → OnOk r (is_inline mid ≡ false) → (IsInline old → tiny_capacity_of g old ≡ slots) → MakesRoom false (tiny_len_of g old + 1) (tiny_view_of g old) (tiny_view_of g mid) r
+  pub took_grown : {X F : Type 0} (n : ℕ) (mid : TinyVec A T L) (r : Result X F) → false ≡ is_err r → n ≡ max (tiny_len_of g old) 1
+      → tiny_len_of g old ≡ tiny_capacity_of g old → (IsInline old → tiny_capacity_of g old ≡ slots) → MovesToHeap n (tiny_view_of g old) (tiny_view_of g mid) r
       → Becomes D (tiny_view_of g mid) (tiny_view_of g new) (put (tiny_items_of g mid)) → Took g D slots (put (tiny_items_of g old)) old new E
-  took_grown mid (Ok x) ok items out count made list = (
-    list.items ∙ ap put items,
+  took_grown n mid (Ok x) ok is full count made list = (
+    list.items ∙ ap put made.items,
     count,
-    made_room false D (tiny_len_of g old + 1) (tiny_view_of g old) (tiny_view_of g new) (tiny_view_of g mid) (Ok x) tt refl (λ i. absurd (false≢true (sym out ∙ i))) made list,
+    made_room false D (tiny_len_of g old + 1) (tiny_view_of g old) (tiny_view_of g new) (tiny_view_of g mid) (Ok x) tt refl (λ i. absurd (false≢true (sym made.place ∙ i)))
+        (doubled_room n (tiny_view_of g old) (tiny_view_of g mid) x is full made) list,
   )
-  took_grown mid (Err e) ok items out count made list = absurd (false≢true ok)
+  took_grown n mid (Err e) ok is full count made list = absurd (false≢true ok)

@@ -1,5 +1,5 @@
 -- Lemmas on a range that was replaced: where there is room, and of a list that was granted room for n more items first.
-use Rattle.std.proofs.Common.{◌≡◌, ◌∙◌, ℕ, ◌+◌, ◌-◌, ◌<◌, ◌≤◌, List, ◌++◌, take, drop, length, length-drop, length-take-le, Result, Ok, inl, inr, sym, subst, arith}
+use Rattle.std.proofs.Common.{◌≡◌, ◌∙◌, ℕ, ◌+◌, ◌-◌, ◌<◌, ◌≤◌, List, ◌++◌, take, drop, length, length-drop, length-take, length-take-le, Result, Ok, inl, inr, sym, subst, arith}
 use Rattle.std.specs.Prelude.{Bool}
 use Rattle.std.proofs.lemmas.Bool.{cases_lt}
 use Rattle.tinyvec_slots.specs.Replacing.{PutsBetween}
@@ -15,6 +15,11 @@ pub replaced : {T X E : Type 0} (room start end : ℕ) (put old new : List T) (r
 replaced room start end put old new result le inside fits puts =
     let ahead = length-take-le start old (omega (arith, le, inside)) in
     (puts.1 (omega (arith, ahead, length-drop end old, le, inside, fits))).1
+
+-- no list for which room was refused had room for its replacement
+pub none_refused_room : {T : Type 0} (xs : List T) (start end first last n more len room : ℕ) → first ≡ start → last ≡ end → start ≤ end → end ≤ length xs → more ≡ n - (last - first)
+    → len ≡ length xs → len ≤ room → room < length xs + more → length (take start xs) + n + length (drop end xs) ≤ room → ⊥
+none_refused_room xs start end first last n more len room at to le inside is all fits full enough = omega (arith, length-take start xs, length-drop end xs)
 
 module _ {T : Type 0} (n : ℕ) (old mid new : TinyView T) (fits : view_len old ≤ view_capacity old)
     (long : view_len new ≤ view_len old + n) (exact : 0 < n → view_len new ≡ view_len old + n) where

@@ -15,20 +15,6 @@ use tinyvec_array::{Array, ArrayVec};
 use tinyvec_slots::NoMemory;
 
 impl<A: Array> TinyVec<A> {
-    // Doubles the capacity of a full list. Inlined, since `grow` is a call of its own.
-    #[inline(always)]
-    pub(crate) fn grow_one(&mut self) -> Result<(), AllocError>
-        requires { tiny_capacity_of A.Slots self.old ≤ tiny_len_of A.Slots self.old }
-        ensures items { tiny_items_of A.Slots self.new ≡ tiny_items_of A.Slots self.old }
-        ensures place { OnOk result (is_inline self.new ≡ false) }
-        ensures room { MakesRoom false (tiny_len_of A.Slots self.old + 1)
-            (tiny_view_of A.Slots self.old) (tiny_view_of A.Slots self.new) result }
-        ensures inline_capacity { IsInline self.old → tiny_capacity_of A.Slots self.old ≡ A.CAPACITY }
-    {
-        let len = self.len();
-        self.grow(len.max(1))
-    }
-
     /// Reserves room for `additional` items more. An inline list whose array has no such room moves to the heap. If
     /// there is room already, it allocates nothing.
     #[inline(always)]

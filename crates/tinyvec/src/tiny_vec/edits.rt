@@ -49,7 +49,8 @@ impl<A: Array> TinyVec<A> {
             TinyVec::Inline(v, _) if !v.is_full() => v.push(value),
             TinyVec::Heap(v) if v.len() < v.capacity() => v.push_reserved(value),
             _ => {
-                if self.grow_one().is_err() {
+                let n = self.len().max(1);
+                if self.grow(n).is_err() {
                     return Err(NoMemory(value));
                 }
                 self.push_reserved(value);
@@ -132,7 +133,8 @@ impl<A: Array> TinyVec<A> {
                 let _room_was_there = v.insert(index, element);
             }
             _ => {
-                if self.grow_one().is_err() {
+                let n = self.len().max(1);
+                if self.grow(n).is_err() {
                     return Err(NoMemory(element));
                 }
                 self.insert_reserved(index, element);

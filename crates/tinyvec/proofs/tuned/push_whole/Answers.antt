@@ -1,6 +1,7 @@
 use Rattle.std.proofs.Common.{◌≡◌, ℕ, List, ◌+◌, ◌-◌, ◌≤◌, [], ◌∷◌, ◌++◌, length, take, drop, refl, ap, sym, ◌∙◌, append-nil, append_assoc, length-append, arith, rules}
 use Rattle.tinyvec_slots.proofs.CloneLemmas.{length-part}
 use Rattle.tinyvec.proofs.CloneLemmas.{written_last}
+use Rattle.tinyvec.proofs.tuned.push_whole.Goals.{After-as_mut_slice}
 use Rattle.tinyvec.proofs.tuned.push_whole.Goals as goal
 
 -- one more item behind those that were appended
@@ -20,14 +21,28 @@ push_reserved-requires g c =
     let made = c.loop-i.invariant.made in
     omega (arith, c.requires.room, c.loop-i-test.true, simp length-append at (ap length made.1), made.2, c.loop-i.invariant.capacity, c.loop-i.vec.ok.0, c.args.vec.now.ok.0)
 
+-- there are as many more items
+long : (g : _) (c : After-as_mut_slice g) → length c.as_mut_slice.result.now ≡ c.len-len.result + g.row.N
+long g c =
+    let made = c.loop-i.invariant.made in
+    omega (arith, simp length-append at (ap length (c.as_mut_slice.ensures.value ∙ made.1)), made.2, c.loop-i-test.false, c.loop-i.auto._i-end, c.len-len.ensures, c.args.vec.now.ok.0)
+
+pub offset_bounds-as_mut_slice-len : goal.offset_bounds-as_mut_slice-len
+offset_bounds-as_mut_slice-len g c = grind (arith, long g (goal.at.offset_bounds-as_mut_slice-len g c).After-as_mut_slice)
+
+pub slice_bounds-write_front-count : goal.slice_bounds-write_front-count
+slice_bounds-write_front-count g c = omega (arith, long g (goal.at.slice_bounds-write_front-count g c).After-as_mut_slice)
+
+pub slice_bounds-write_front-start : goal.slice_bounds-write_front-start
+slice_bounds-write_front-start g c = omega (arith, long g (goal.at.slice_bounds-write_front-start g c).After-as_mut_slice)
+
 pub write_front-requires : goal.write_front-requires
 write_front-requires g c =
-    let made = c.loop-i.invariant.made in
     let lent = c.as_mut_slice.result.now in
     let len = c.len-len.result in
-    let long : length lent ≡ len + g.row.N = omega (arith, simp length-append at (ap length (c.as_mut_slice.ensures.value ∙ made.1)), made.2, c.loop-i-test.false, c.loop-i.auto._i-end, c.len-len.ensures, c.args.vec.now.ok.0) in
-    let part = length-part lent len (length lent - len) (omega (arith, long)) in
-    let enough : g.row.N ≤ length (take (length lent - len) (drop len lent)) = omega (arith, part, long) in
+    let all = long g (goal.at.write_front-requires g c).After-as_mut_slice in
+    let part = length-part lent len (length lent - len) (omega (arith, all)) in
+    let enough : g.row.N ≤ length (take (length lent - len) (drop len lent)) = omega (arith, part, all) in
     (search rules, enough)
 
 pub loop-i-preserved : goal.loop-i-preserved

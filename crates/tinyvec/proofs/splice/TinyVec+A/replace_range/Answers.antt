@@ -2,10 +2,17 @@ use Rattle.std.proofs.Common.{◌≡◌, ◌≤◌, ◌++◌, take, drop, length
 use Rattle.tinyvec_slots.specs.Ranges.{range_end}
 use Rattle.tinyvec_slots.proofs.ReplacingLemmas.{placed_at}
 use Rattle.tinyvec_slots.proofs.Lists.{length-replaced}
-use Rattle.tinyvec.proofs.ReplacingLemmas.{replaced_room}
+use Rattle.tinyvec.proofs.ReplacingLemmas.{replaced_room, none_refused_room}
 use Rattle.tinyvec.proofs.TinyLemmas.{slots_after_room}
 use Rattle.tinyvec.specs.TinyVec.{tiny_items_of, is_inline, tiny_view_of}
 use Rattle.tinyvec.proofs.splice.TinyVec+A.replace_range.Goals as goal
+
+pub returns-in_err-reserve-clause-succeeds : goal.returns-in_err-reserve-clause-succeeds
+returns-in_err-reserve-clause-succeeds g c = λ fits.
+    let part = c.resolve_range-part.ensures in
+    let len = c.len.ensures in
+    let end = part.end ∙ ap (range_end (g.R.RangeBounds.end_bound c.args.range)) len.value in
+    absurd (none_refused_room (tiny_items_of g.A.Slots c.args.self.now) _ _ _ _ _ _ _ _ part.start end c.requires.in_list.0 c.requires.in_list.1 c.saturating_sub-more.ensures len.value len.fits c.in_err-reserve.ensures.room.full fits)
 
 pub returns : goal.returns
 returns g c =

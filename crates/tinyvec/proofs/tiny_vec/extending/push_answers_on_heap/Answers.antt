@@ -4,6 +4,9 @@ use Rattle.std.proofs.SliceLists.{chained_more}
 use Rattle.std.proofs.iter.Next.{called}
 use Rattle.tinyvec.proofs.tiny_vec.extending.push_answers_on_heap.Goals as goal
 
+pub f-requires : goal.f-requires
+f-requires g c = search of_calls
+
 pub loop-i-preserved : goal.loop-i-preserved
 loop-i-preserved g c =
     let at = c.loop-i in

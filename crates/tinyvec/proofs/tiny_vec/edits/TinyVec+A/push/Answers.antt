@@ -1,9 +1,22 @@
 use Rattle.std.proofs.Common.{rules, ◌≡◌, [], ◌∷◌, ◌++◌, length, refl, ap, ◌∙◌, arith}
 use Rattle.std.proofs.lemmas.List.{length_push}
-use Rattle.tinyvec.specs.TinyVec.{tiny_items_of}
-use Rattle.tinyvec.proofs.FrameLemmas.{Took, took_inline, took_heap, took_grown, not_taken, was_full}
-use Rattle.tinyvec.proofs.tiny_vec.edits.TinyVec+A.push.Goals.{in-Inline, in-Heap, in_default+else-is_err}
+use Rattle.tinyvec.specs.TinyVec.{tiny_items_of, tiny_len_of, tiny_capacity_of}
+use Rattle.tinyvec.proofs.FrameLemmas.{Took, took_inline, took_heap, took_grown, not_taken, full_inline, full_heap}
+use Rattle.tinyvec.proofs.tiny_vec.edits.TinyVec+A.push.Goals.{In_default, in-Inline, in-Heap, in_default+else-is_err, in_default-via-in-Inline+else-not-is_full, in_default-via-in-Heap+else-len-capacity}
 use Rattle.tinyvec.proofs.tiny_vec.edits.TinyVec+A.push.Goals as goal
+
+-- the list is as it was there, and full
+same_list : (g : _) (c : In_default g) → c.in_default.self ≡ c.args.self.now
+same_list g c = search rules
+
+full : (g : _) (c : In_default g) → tiny_len_of g.A.Slots c.args.self.now ≡ tiny_capacity_of g.A.Slots c.args.self.now
+full g c =
+    let G = g.A.Slots in
+    let old = c.args.self.now in
+    elim c.in_default.branch as (λ _. tiny_len_of g.A.Slots c.args.self.now ≡ tiny_capacity_of g.A.Slots c.args.self.now) [
+      | in_default-via-in-Inline+else-not-is_full w ↦ full_inline G old w.in-Inline.v _ w.in-Inline.is w.if-not-is_full.ensures.value
+      | in_default-via-in-Heap+else-len-capacity w ↦ full_heap G old w.in-Heap.v w.in-Heap.is (omega (arith, w.len.ensures, w.capacity.ensures, w.if-len-capacity.false))
+    ]
 
 -- the list has the value, in room that was there or was made
 pushed : (g : _) (c : goal.Joined-self g) (E : Type 0)
@@ -23,10 +36,11 @@ pushed g c E =
           took_heap G D slots (λ xs. xs ++ x ∷ []) old _ v w.push_reserved.new.self w.in-Heap.is w.self-is
           (omega (arith, v.ok.0, w.len.ensures, w.capacity.ensures, w.if-len-capacity.true)) w.push_reserved.ensures.items w.push_reserved.ensures.capacity
       | in_default+else-is_err w ↦
-          let same : w.in_default.self ≡ old = search rules in
-          let grown = rw same at w.grow_one.ensures in
-          rw w.self-is (took_grown G D slots (λ xs. xs ++ x ∷ []) old w.push_reserved-in_default.new.self w.grow_one.new.self w.grow_one.result
-          w.if-is_err.ensures.value grown.items grown.place grown.inline_capacity grown.room w.push_reserved-in_default.ensures)
+          let here : In_default g = record { before = c.before; in_default = w.in_default } in
+          let moved = rw (same_list g here) at w.grow.ensures.moves in
+          let len = rw (same_list g here) at w.len-in_default.ensures in
+          rw w.self-is (took_grown G D slots (λ xs. xs ++ x ∷ []) old w.push_reserved-in_default.new.self _ w.grow.new.self w.grow.result w.if-is_err.ensures.value
+          (omega (arith, w.max-n.ensures, len.value)) (full g here) len.inline_capacity moved w.push_reserved-in_default.ensures)
     ]
 
 pub returns : goal.returns
@@ -41,8 +55,21 @@ returns g c =
       value_returned = tt;
     }
 
+pub grow-requires : goal.grow-requires
+grow-requires g c =
+    let here = (goal.at.grow-requires g c).In_default in
+    rw (same_list g here) (λ _. omega (arith, full g here, c.max-n.ensures))
+
 pub returns-then-is_err : goal.returns-then-is_err
 returns-then-is_err g c =
-    let same : c.in_default.self ≡ c.args.self.now = search rules in
-    let grown = rw same at c.grow_one.ensures in
-    search (rules, grown, grown.inline_capacity, not_taken, was_full g.A.Slots _ _ _ c.if-is_err.ensures.value grown.items grown.room)
+    let here = (goal.at.returns-then-is_err g c).In_default in
+    let moved = rw (same_list g here) at c.grow.ensures.moves in
+    let len = rw (same_list g here) at c.len-in_default.ensures in record {
+      items = moved.items;
+      len = ap length moved.items;
+      room = not_taken c.max-n.result _ _ _ _ c.if-is_err.ensures.value (full g here) moved;
+      inline_capacity = len.inline_capacity;
+      succeeds_inline = λ i lt. absurd (omega (arith, lt, full g here, len.inline_capacity i));
+      full = full g here;
+      value_returned = refl;
+    }

@@ -1,25 +1,19 @@
 use Rattle.std.proofs.Common.{◌-◌, ◌≤◌, length, refl, sym, ap, subst, ◌∙◌, arith, length-drop, length-take}
 use Rattle.std.proofs.lemmas.Bool.{false≢true}
 use Rattle.tinyvec_slots.specs.Slots.{AreDefaults}
-use Rattle.tinyvec_slots.proofs.SlotsLemmas.{slots_freed}
-use Rattle.tinyvec_array.specs.ArrayVec.{view_of, items_of, spare_of, len_of}
+use Rattle.tinyvec_array.specs.ArrayVec.{items_of, spare_of, len_of}
 use Rattle.tinyvec_array.proofs.ViewLemmas.{parts_of}
-use Rattle.tinyvec.proofs.FrameLemmas.{inline_becomes}
+use Rattle.tinyvec.proofs.FrameLemmas.{inline_loses}
 use Rattle.tinyvec.proofs.TinyLemmas.{tiny_fits}
 use Rattle.tinyvec.specs.declared.tiny_vec.TinyVec.TheVariants.{Inline}
 use Rattle.tinyvec.proofs.tiny_vec.edits.TinyVec+A.split_off.Goals as goal
 
 pub returns-in-Inline-clause-becomes : goal.returns-in-Inline-clause-becomes
 returns-in-Inline-clause-becomes g c =
-    let G = g.A.Slots in
-    let D = g.A.Item.Default.is_default in
     let v = c.in-Inline.v in
-    let new = c.split_off.new.self in
-    let cut = c.split_off.ensures.becomes in
-    let in_list : c.args.at ≤ len_of G v = rw c.in-Inline.is at c.requires in
-    rw c.in-Inline.is (inline_becomes D (view_of G v) (view_of G new) _ cut.items
-    (slots_freed D (view_of G v) (view_of G new) (len_of G v - c.args.at) (omega (arith, ap length cut.items, length-take c.args.at (items_of G v), in_list)) cut.spare)
-    cut.lender.slot_count)
+    let in_list : c.args.at ≤ len_of g.A.Slots v = rw c.in-Inline.is at c.requires in
+    rw c.in-Inline.is (inline_loses g.A.Slots g.A.Item.Default.is_default (len_of g.A.Slots v - c.args.at) v c.split_off.new.self _ (omega (arith, length-take c.args.at (items_of g.A.Slots v), in_list))
+    c.split_off.ensures.becomes)
 
 pub returns-in-Inline-clause-tail : goal.returns-in-Inline-clause-tail
 returns-in-Inline-clause-tail g c =

@@ -7,6 +7,9 @@ use Rattle.tinyvec.proofs.FrameLemmas.{taken_stays, spare_used}
 use Rattle.tinyvec.specs.TinyVec.{tiny_items_of, tiny_len_of, tiny_spare_of}
 use Rattle.tinyvec.proofs.tiny_vec.extending.TinyVec+A.push_each_answer.Goals as goal
 
+pub f-requires : goal.f-requires
+f-requires g c = search of_calls
+
 pub loop-self-preserved : goal.loop-self-preserved
 loop-self-preserved g c =
     let at = c.loop-self in

@@ -6,12 +6,18 @@ use Rattle.std.specs.Prelude.{OnOk}
 use Rattle.std.specs.List.{AppendsClones}
 use Rattle.tinyvec.specs.Refused.{ClonesInRoom}
 use Rattle.tinyvec.specs.Room.{GetsRoom}
+use Rattle.tinyvec.proofs.FrameLemmas.{had_room}
 use Rattle.tinyvec.proofs.CloneLemmas.{appends_len}
 use Rattle.tinyvec.proofs.ExtendingLemmas.{extended_grown, copies_refused}
 use Rattle.tinyvec.specs.View.{PlaceRule}
 use Rattle.tinyvec.specs.TinyVec.{tiny_items_of, tiny_len_of, is_inline, tiny_view_of}
 use Rattle.tinyvec.proofs.TinyLemmas.{used_rule, on_ok_two}
 use Rattle.tinyvec.proofs.tiny_vec.extending.TinyVec+A.resize.Goals as goal
+
+pub returns-then-new_len-len-clause-room : goal.returns-then-new_len-len-clause-room
+returns-then-new_len-len-clause-room g c =
+    (had_room (is_inline c.args.self.now) g.A.Item.Default.is_default c.args.new_len (tiny_view_of g.A.Slots c.args.self.now) (tiny_view_of g.A.Slots c.truncate.new.self) {X = Unit {0}} {E = Unit {0}} tt
+    (omega (arith, c.if-new_len-len.true, c.len-len.ensures.value, c.len-len.ensures.fits)) c.truncate.ensures).gets
 
 pub returns : goal.returns
 returns g c =

@@ -1,8 +1,13 @@
 use Rattle.std.proofs.Common.{◌≡◌, ◌<◌, ◌+◌, ◌-◌, ◌++◌, refl, length, take, take_all, sym, ap, ◌∙◌, arith}
 use Rattle.tinyvec.specs.TinyVec.{tiny_items_of, tiny_len_of, tiny_view_of}
-use Rattle.tinyvec.proofs.FrameLemmas.{made_room, room_not_made}
+use Rattle.tinyvec.proofs.FrameLemmas.{had_room, made_room, room_not_made}
 use Rattle.tinyvec.proofs.TinyLemmas.{slots_taken}
 use Rattle.tinyvec.proofs.tiny_vec.extending.TinyVec+A.resize_by_answers.Goals as goal
+
+pub returns-clause-room : goal.returns-clause-room
+returns-clause-room g c =
+    had_room _ g.A.Item.Default.is_default c.args.n (tiny_view_of g.A.Slots c.args.self.now) (tiny_view_of g.A.Slots c.truncate.new.self) tt
+    (omega (arith, c.if-n-len.false, c.len-len.ensures.value, c.len-len.ensures.fits)) c.truncate.ensures
 
 pub returns-then-n-len-clause-items : goal.returns-then-n-len-clause-items
 returns-then-n-len-clause-items g c =
