@@ -1,6 +1,6 @@
-use Rattle.std.proofs.Common.{◌≡◌, ◌+◌, ◌-◌, ◌++◌, ◌≤◌, length, take, drop, slice_range, ap, subst, ◌∙◌, arith, rules, length-append, length-take-le, drop_at}
+use Rattle.std.proofs.Common.{◌≡◌, ◌+◌, ◌-◌, ◌++◌, ◌≤◌, length, take, drop, ap, subst, ◌∙◌, arith, rules, length-append, length-take-le, drop_at}
 use Rattle.std.specs.List.{remove_range}
-use Rattle.tinyvec_slots.specs.Ranges.{range_end, before, removed, after}
+use Rattle.tinyvec_slots.specs.Ranges.{range_end, before, after}
 use Rattle.tinyvec_slots.proofs.Lists.{first_part}
 use Rattle.tinyvec.specs.TinyVec.{tiny_items_of, tiny_view_of}
 use Rattle.tinyvec.specs.View.{Becomes}

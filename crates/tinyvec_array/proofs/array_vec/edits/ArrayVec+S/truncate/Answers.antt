@@ -1,4 +1,4 @@
-use Rattle.std.proofs.Common.{◌-◌, ◌≤◌, ◌++◌, length, rules, arith, ap, ◌∙◌, append_assoc, drop_at, length-take-le, take, drop}
+use Rattle.std.proofs.Common.{◌-◌, ◌≤◌, ◌++◌, length, arith, ap, ◌∙◌, append_assoc, drop_at, length-take-le, take, drop}
 use Rattle.std.proofs.lemmas.Grind.{common_steps}
 use Rattle.tinyvec_slots.proofs.BorderLemmas.{spare_from, within}
 use Rattle.tinyvec_array.proofs.array_vec.edits.ArrayVec+S.truncate.Goals as goal

@@ -1,6 +1,5 @@
-use Rattle.std.proofs.Common.{◌≡◌, ◌-◌, ◌<◌, length, set, ap, ◌∙◌, arith, length-set}
+use Rattle.std.proofs.Common.{◌-◌, ◌<◌, length, set, ap, ◌∙◌, arith, length-set}
 use Rattle.tinyvec_slots.proofs.BorderLemmas.{drop-popped}
-use Rattle.tinyvec_array.specs.ArrayVec.{SameLender}
 use Rattle.tinyvec_array.proofs.ViewLemmas.{parts_of}
 use Rattle.tinyvec_array.proofs.array_vec.extending.ArrayVec+S.replace_last.Goals as goal
 

@@ -1,4 +1,4 @@
-use Rattle.std.proofs.Common.{◌≡◌, ◌+◌, ◌-◌, ◌++◌, length, take, drop, min, refl, sym, ap, subst, ◌∙◌, arith, rules, take_at, drop_at, length-take}
+use Rattle.std.proofs.Common.{◌≡◌, ◌+◌, ◌-◌, ◌++◌, length, take, drop, min, refl, sym, ap, subst, ◌∙◌, arith, take_at, drop_at, length-take}
 use Rattle.tinyvec_slots.specs.Slots.{SlotRule, Vacates, items_in, spare_in, len_in, split_at}
 use Rattle.tinyvec_slots.specs.Clones.{AreClones, are_clones}
 use Rattle.tinyvec_slots.proofs.BorderLemmas.{list_to, spare_from}
