@@ -43,20 +43,6 @@ module _ {X : Type 0} where
   pub drop_from_set : (xs : List X) (j k : ℕ) (y : X) → 0 < j → j ≤ length xs → j ≡ k → drop (j - 1) (set xs (j - 1) y) ≡ y ∷ drop k xs
   drop_from_set xs j k y pos le same = drop-vacated xs j y pos le ∙ ap (λ n. y ∷ drop n xs) same
 
-module _ {X : Type 0} (B M S : List X) (k n : ℕ) (long-B : length B ≡ k) (long-M : length M ≡ n) where
-  -- three parts of a list, cut apart
-  pub first_part : take k (B ++ M ++ S) ≡ B
-  first_part = rw append_assoc (take_at B (M ++ S) k long-B)
-
-  pub second_part : take n (drop k (B ++ M ++ S)) ≡ M
-  second_part = rw append_assoc (ap (take n) (drop_at B (M ++ S) k long-B) ∙ take_at M S n long-M)
-
-  pub third_part : drop n (drop k (B ++ M ++ S)) ≡ S
-  third_part = rw append_assoc (ap (drop n) (drop_at B (M ++ S) k long-B) ∙ drop_at M S n long-M)
-
-  pub second_part_within : n ≤ length (drop k (B ++ M ++ S))
-  second_part_within = search (rules, places)
-
 module _ {X : Type 0} (xs : List X) (i j : ℕ) (le : i ≤ j) (within : j ≤ length xs) where
   pub length-remove_range : length (remove_range xs i j) ≡ length xs - (j - i)
   length-remove_range = search (rules, places)

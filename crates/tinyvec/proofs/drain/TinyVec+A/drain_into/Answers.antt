@@ -1,7 +1,6 @@
-use Rattle.std.proofs.Common.{◌≡◌, ◌+◌, ◌-◌, ◌++◌, ◌≤◌, length, take, drop, ap, subst, ◌∙◌, arith, rules, length-append, length-take-le, drop_at}
+use Rattle.std.proofs.Common.{◌≡◌, ◌+◌, ◌-◌, ◌++◌, ◌≤◌, length, take, drop, ap, subst, ◌∙◌, arith, rules, length-append, length-take-le, append_assoc, take_at, drop_at}
 use Rattle.std.specs.List.{remove_range}
 use Rattle.tinyvec_slots.specs.Ranges.{range_end, before, after}
-use Rattle.tinyvec_slots.proofs.Lists.{first_part}
 use Rattle.tinyvec.specs.TinyVec.{tiny_items_of, tiny_view_of}
 use Rattle.tinyvec.specs.View.{Becomes}
 use Rattle.tinyvec.specs.FrameLaws.{tiny_items-with, tiny_framed-with}
@@ -29,7 +28,7 @@ returns-clause-becomes g c =
     let is = after_is.2 ∙ ap (λ l. take i l ++ ds ++ drop j l) shown in
     let long : length ws ≡ length xs = c.take_range.auto.slots ∙ ap length shown in
     let first = length-take-le i xs (omega (arith, order, inside)) in
-    let front = ap (take i) is ∙ first_part (take i xs) ds (drop j xs) i (j - i) first after_is.1.0 in
+    let front = ap (take i) (is ∙ append_assoc (take i xs) ds (drop j xs)) ∙ take_at (take i xs) (ds ++ drop j xs) i first in
     let back = ap (drop (i + (j - i))) is ∙ drop_at (take i xs ++ ds) (drop j xs) (i + (j - i)) (length-append (take i xs) ds ∙ omega (arith, first, after_is.1.0)) in
     let around : take i xs ++ drop j xs ≡ before xs (g.R.RangeBounds.start_bound c.args.range) ++ after xs (g.R.RangeBounds.end_bound c.args.range) = search rules in
     subst (Becomes D (view v) (view new)) (ap (λ l. remove_range l i (i + (j - i))) (tiny_items-with g.A.Slots v ws long) ∙ (λ k. front k ++ back k) ∙ around)
