@@ -21,7 +21,11 @@ pub fn take_all<T: Default + Drop>(slots: &mut [T], vec: &mut Vec<T>)
     if !fit_registers(slots) {
         return take_each(slots, vec);
     }
-    let done = take_blocks::<T, 16>(slots, vec);
+    let mut done = 0;
+    while 16 <= slots.len() - done {
+        take_block::<T, 16>(&mut slots[done..], vec);
+        done += 16;
+    }
     take_each(&mut slots[done..], vec);
 }
 
@@ -49,24 +53,6 @@ fn take_each<T: Default + Drop>(slots: &mut [T], vec: &mut Vec<T>)
     for slot in slots.iter_mut() {
         vec.push_reserved(mem::take(slot));
     }
-}
-
-// Takes blocks of N items while N are left, and returns the number of items taken.
-#[inline(always)]
-fn take_blocks<T: Default + Drop, const N: usize>(slots: &mut [T], vec: &mut Vec<T>) -> usize
-    requires some { 0 < N }
-    requires room { vec_len vec.old + length slots.old ≤ vec_capacity vec.old }
-    ensures within { result ≤ length slots.old }
-    ensures items { vec.new.items ≡ vec.old.items ++ take result slots.old }
-    ensures capacity { vec_capacity vec.new ≡ vec_capacity vec.old }
-    ensures emptied { (ds : List T) × AreDefaults T.is_default result ds × (slots.new ≡ ds ++ drop result slots.old) }
-{
-    let mut done = 0;
-    while N <= slots.len() - done {
-        take_block::<T, N>(&mut slots[done..], vec);
-        done += N;
-    }
-    done
 }
 
 // Takes the first N items. All are read before one is written, so LLVM moves a block in registers.

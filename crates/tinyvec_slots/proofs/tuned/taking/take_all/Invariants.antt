@@ -1,6 +1,6 @@
 use Rattle.std.proofs.Common.{◌≡◌, ◌≤◌, ◌-◌, ◌++◌, take, length, vec_capacity}
 use Rattle.tinyvec_slots.proofs.EmptiedLemmas.{Emptied}
-use Rattle.tinyvec_slots.proofs.tuned.taking.take_blocks.Given as goal
+use Rattle.tinyvec_slots.proofs.tuned.taking.take_all.Given as goal
 
 abbrev pub invariant-loop-slots : goal.invariant-loop-slots
 invariant-loop-slots g l = record {
