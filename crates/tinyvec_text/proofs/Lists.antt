@@ -143,10 +143,6 @@ pub no_room : {P : Type 0} (need : ℕ) (old new : TinyView ℕ) → RefusedFor 
 no_room need old new (inl h) never = h
 no_room need old new (inr h) never = absurd (never h.2)
 
--- a text that did not change
-pub text_unchanged : (old new : Text) → Unchanged (text_view old) (text_view new) → new ≡ old
-text_unchanged old new h i = record { bytes = h.items i; place = record { inline = h.place i; capacity = h.capacity i } }
-
 -- a write through the slice of the bytes leaves what the slice shows, and spare slots, place and room
 module _ (slots : ℕ) (old : Bytes slots) (ws : List ℕ) (long : length ws ≡ tiny_len old) where
   abbrev pub written : Bytes slots

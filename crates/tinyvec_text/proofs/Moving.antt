@@ -2,11 +2,12 @@
 use Rattle.std.proofs.Common.{◌≡◌, ℕ, ◌+◌, ◌-◌, ◌≤◌, List, ◌++◌, length, take, drop, get_or, inl, inr, rules, sym, ap, ◌∙◌, arith, take-add, length-append, length-take}
 use Rattle.std.proofs.lemmas.Bool.{cases_lt}
 use Rattle.std.proofs.lemmas.List.{drop-drop, same_lists, places}
-use Rattle.tinyvec_slots.specs.Slots.{items_in, spare_in, split_at}
+use Rattle.tinyvec_slots.specs.Slots.{items_in, spare_in, len_in, split_at}
 use Rattle.tinyvec_slots.proofs.BorderLemmas.{list_to, spare_from}
 use Rattle.tinyvec_array.specs.ArrayVec.{items, items_len, spare, view}
 use Rattle.tinyvec_array.specs.CutLaws.{written_of}
 use Rattle.tinyvec_array.specs.Lends.{with_items_of}
+use Rattle.tinyvec_array.specs.SpliceLaws.{kept_count}
 use Rattle.tinyvec_array.specs.declared.array_vec.ArrayVec.{ArrayVec}
 use Rattle.tinyvec_array.specs.declared.bound.UpTo.{UpTo}
 use Rattle.tinyvec_array.proofs.Named.{array_slots}
@@ -73,11 +74,18 @@ module _ {k : ℕ} (v mid : ArrayVec (List ℕ) (UpTo k)) (n len : ℕ) (at : le
   pub longer : items mid ≡ items v ++ take n (spare v)
   longer = ap (λ w. items_in w) is ∙ take-add len n v.slots ∙ (λ i. list_to v.len.len v.slots len at i ++ take n (spare_from v.len.len v.slots len at i))
 
-  pub filled : (ws xs : List ℕ) → length ws ≡ items_len mid → ws ≡ xs → AddsBytes (length v.slots) n (view v) (view (with_items_of (array_slots k) mid ws)) xs
-  filled ws xs long put =
+  pub filled : (ws xs : List ℕ) → n ≤ length v.slots - items_len v → length ws ≡ items_len mid → ws ≡ xs
+      → AddsBytes (view v) (view (with_items_of (array_slots k) mid ws)) xs
+  filled ws xs room long put =
       let written = written_of (array_slots k) mid ws long in
+      let size : len_in (view (with_items_of (array_slots k) mid ws)) ≡ items_len v + n =
+      omega (arith, ap length written.0, long, ap length longer, length-append (items v) (take n (spare v)), length-take n (spare v), parts_of (array_slots k) v, room) in
+      let count : n ≡ len_in (view (with_items_of (array_slots k) mid ws)) - items_len v = omega (arith, size) in
       record {
         items = written.0 ∙ put;
-        spare = written.1.1.0 ∙ ap (λ w. spare_in w) is ∙ sym (drop-drop n len v.slots) ∙ ap (drop n) (spare_from v.len.len v.slots len at);
-        fits = omega (arith, ap length written.0, long, ap length longer, length-append (items v) (take n (spare v)), length-take n (spare v), parts_of (array_slots k) v);
+        spare =
+            written.1.1.0 ∙ ap (λ w. spare_in w) is ∙ sym (drop-drop n len v.slots) ∙ ap (drop n) (spare_from v.len.len v.slots len at)
+            ∙ ap (λ i. drop i (spare v)) count;
+        slot_count = kept_count (array_slots k) mid (with_items_of (array_slots k) mid ws) written.1 ∙ ap (λ w. length w.slots) is;
+        fits = omega (arith, size, room, parts_of (array_slots k) v);
       }

@@ -1,5 +1,5 @@
 -- What a contract sees of an `InlineText`: its bytes, and where they are.
-use Rattle.std.specs.Prelude.{◌≡◌, ℕ, ◌+◌, ◌*◌, ◌<◌, ◌≤◌, ◌↔◌, ◌&&◌, nat_le, if◌then◌else◌, max, List, [], ◌∷◌, ◌++◌, length, take, drop, All, Bool, true, false, IsTrue, Result, is_ok, OnOk, chars, encode_utf8, encode_utf8_all, IsUtf8}
+use Rattle.std.specs.Prelude.{◌≡◌, ℕ, ◌+◌, ◌-◌, ◌*◌, ◌<◌, ◌≤◌, ◌↔◌, ◌&&◌, nat_le, if◌then◌else◌, max, List, [], ◌∷◌, ◌++◌, length, take, drop, All, Bool, true, false, IsTrue, Result, is_ok, OnOk, chars, encode_utf8, encode_utf8_all, IsUtf8}
 use Rattle.std.specs.Char.{IsScalar}
 use Rattle.std.specs.Fn.{Called}
 use Rattle.std.specs.Str.{all_scalars}
@@ -21,11 +21,12 @@ pub record Text : Type 0 where
 abbrev pub Bytes : ℕ → Type 0
 Bytes n = TinyVec (List ℕ) ℕ (UpTo n)
 
--- A call that added n bytes took `old` to `new`, whose list is xs: they use up the first n spare slots, and the list fits in the slots.
-pub record AddsBytes (slots n : ℕ) (old new : Slots ℕ) (xs : List ℕ) : Type 0 where
+-- A call that added bytes took `old` to `new`, whose list is xs: they use up as many of the first spare slots.
+pub record AddsBytes (old new : Slots ℕ) (xs : List ℕ) : Type 0 where
   pub items : items_in new ≡ xs
-  pub spare : spare_in new ≡ drop n (spare_in old)
-  pub fits : len_in new ≤ slots
+  pub spare : spare_in new ≡ drop (len_in new - len_in old) (spare_in old)
+  pub slot_count : length new.slots ≡ length old.slots
+  pub fits : len_in new ≤ length old.slots
 
 -- A call that needs room for n more bytes took `old` to `new`, with this result: the list is xs, or unchanged if the allocator refused.
 pub record InsertsBytes {X E : Type 0} (slots n : ℕ) (old new : Bytes slots) (result : Result X E) (xs : List ℕ) : Type 0 where

@@ -215,9 +215,7 @@ fn put_byte_slow<const N: usize>(
 fn insert_inline<const N: usize>(v: &mut ArrayVec<[u8; N]>, index: usize, bytes: &[u8])
     requires in_list { index ≤ items_len v.old }
     requires room { length bytes.now ≤ length (all_slots v.old) - items_len v.old }
-    ensures gains { AddsBytes (length (all_slots v.old)) (length bytes.now) (view v.old) (view v.new)
-        (take index (items v.old) ++ bytes.now ++ drop index (items v.old)) }
-    ensures slot_count { length (all_slots v.new) ≡ length (all_slots v.old) }
+    ensures { AddsBytes (view v.old) (view v.new) (take index (items v.old) ++ bytes.now ++ drop index (items v.old)) }
 {
     let len = v.len();
     v.set_len(len + bytes.len());
@@ -365,9 +363,7 @@ fn push_part_slow<const N: usize>(
 fn repeat_inline<const N: usize>(v: &mut ArrayVec<[u8; N]>, start: usize, count: usize)
     requires in_list { start + count ≤ items_len v.old }
     requires room { count ≤ length (all_slots v.old) - items_len v.old }
-    ensures gains { AddsBytes (length (all_slots v.old)) count (view v.old) (view v.new)
-        (items v.old ++ take count (drop start (items v.old))) }
-    ensures slot_count { length (all_slots v.new) ≡ length (all_slots v.old) }
+    ensures { AddsBytes (view v.old) (view v.new) (items v.old ++ take count (drop start (items v.old))) }
 {
     let len = v.len();
     v.set_len(len + count);
@@ -455,9 +451,7 @@ fn push_slow<const N: usize>(list: &mut TinyVec<[u8; N]>, bytes: &[u8]) -> Resul
 #[inline(always)]
 fn append_inline<const N: usize>(v: &mut ArrayVec<[u8; N]>, bytes: &[u8])
     requires { length bytes.now ≤ length (all_slots v.old) - items_len v.old }
-    ensures gains { AddsBytes (length (all_slots v.old)) (length bytes.now) (view v.old) (view v.new)
-        (items v.old ++ bytes.now) }
-    ensures slot_count { length (all_slots v.new) ≡ length (all_slots v.old) }
+    ensures { AddsBytes (view v.old) (view v.new) (items v.old ++ bytes.now) }
 {
     let len = v.len();
     insert_inline(v, len, bytes);
