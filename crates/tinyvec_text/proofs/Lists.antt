@@ -86,16 +86,16 @@ module _ {k : ℕ} (old new : Bytes k) (t : Text) (same : text_of old ≡ t) (is
   pub chars_joined : text_chars (text_of new) ≡ text_chars t ++ chars put
   chars_joined = ap chars made ∙ chars-append _ _ (text_utf8 old is) ∙ ap (λ (u : Text). text_chars u ++ chars put) same
 
--- text was put in the place of the bytes from i up to j
-module _ {k : ℕ} (old new : Bytes k) (t : Text) (same : text_of old ≡ t) (is : IsText old) (i j : ℕ) (first : IsSplitPoint (tiny_items old) i)
-    (last : IsSplitPoint (tiny_items old) j) (put : List ℕ) (utf8 : IsUtf8 put) (made : tiny_items new ≡ take i (tiny_items old) ++ put ++ drop j (tiny_items old)) where
-  pub text_put : {exact : Bool} {need : ℕ} → j ≡ i → GetsRoom exact need (tiny_view old) (tiny_view new) → IsText new
-  text_put none room = text_grown old new _ room is made
-      (omega (arith, none, length-replaced i j put (tiny_items old) (omega (arith, none)) last.0)) (utf8_put (tiny_items old) (text_utf8 old is) i j first last put utf8)
+-- text was put in at i
+module _ {k : ℕ} (old new : Bytes k) (t : Text) (same : text_of old ≡ t) (is : IsText old) (i : ℕ) (cut : IsSplitPoint (tiny_items old) i) (put : List ℕ)
+    (utf8 : IsUtf8 put) (made : tiny_items new ≡ take i (tiny_items old) ++ put ++ drop i (tiny_items old)) where
+  pub text_put : {exact : Bool} {need : ℕ} → GetsRoom exact need (tiny_view old) (tiny_view new) → IsText new
+  text_put room = text_grown old new _ room is made (omega (arith, length-replaced i i put (tiny_items old) (omega arith) cut.0))
+      (utf8_put (tiny_items old) (text_utf8 old is) i i cut cut put utf8)
 
-  pub chars_between : text_chars (text_of new) ≡ chars (take i t.bytes) ++ chars put ++ chars (drop j t.bytes)
-  chars_between = ap chars made ∙ chars_put (tiny_items old) (text_utf8 old is) i j first last put utf8
-      ∙ ap (λ (u : Text). chars (take i u.bytes) ++ chars put ++ chars (drop j u.bytes)) same
+  pub chars_between : text_chars (text_of new) ≡ chars (take i t.bytes) ++ chars put ++ chars (drop i t.bytes)
+  chars_between = ap chars made ∙ chars_put (tiny_items old) (text_utf8 old is) i i cut cut put utf8
+      ∙ ap (λ (u : Text). chars (take i u.bytes) ++ chars put ++ chars (drop i u.bytes)) same
 
 -- a list that was made of a text's bytes
 pub text_made : {k : ℕ} (n : ℕ) (v : Bytes k) → IsUtf8 (tiny_items v) → (IsInline v → AreDefaults (λ b. b ≡ 0) n (tiny_spare v)) → IsText v

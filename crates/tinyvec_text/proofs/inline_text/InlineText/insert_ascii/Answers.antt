@@ -1,4 +1,4 @@
-use Rattle.std.proofs.Common.{◌++◌, ◌∷◌, [], ap, ◌∙◌, chars, take, drop, refl, rules}
+use Rattle.std.proofs.Common.{◌++◌, ◌∷◌, [], ap, ◌∙◌, chars, take, drop, rules}
 use Rattle.tinyvec_text.proofs.Boundaries.{one_ascii}
 use Rattle.tinyvec_text.proofs.Lists.{text_cut, text_same, text_put, chars_between}
 use Rattle.tinyvec_text.proofs.inline_text.InlineText.insert_ascii.Goals as goal
@@ -12,8 +12,8 @@ invariant_of-self g c = text_same c.self.inside.list c.put_byte.new.list c.in_er
 pub invariant_of-self-2 : goal.invariant_of-self-2
 invariant_of-self-2 g c =
     let cut = text_cut c.self.inside.list c.args.self.now c.self.view_is c.self.invariant c.args.index c.requires.boundary in
-    text_put c.self.inside.list c.put_byte.new.list c.args.self.now c.self.view_is c.self.invariant c.args.index c.args.index cut cut (c.args.ch ∷ [])
-    (one_ascii c.args.ch c.requires.ascii).0 (search rules) refl c.in_ok-put_byte.ensures.room.gets
+    text_put c.self.inside.list c.put_byte.new.list c.args.self.now c.self.view_is c.self.invariant c.args.index cut (c.args.ch ∷ [])
+    (one_ascii c.args.ch c.requires.ascii).0 (search rules) c.in_ok-put_byte.ensures.room.gets
 
 pub returns-clause-text : goal.returns-clause-text
 returns-clause-text g c =
@@ -21,5 +21,5 @@ returns-clause-text g c =
     let i = c.args.index in
     let one = one_ascii c.args.ch c.requires.ascii in
     let cut = text_cut c.self.inside.list c.args.self.now c.self.view_is c.self.invariant i c.requires.boundary in
-    chars_between c.self.inside.list c.put_byte.new.list c.args.self.now c.self.view_is c.self.invariant i i cut cut (c.args.ch ∷ []) one.0 (search rules)
+    chars_between c.self.inside.list c.put_byte.new.list c.args.self.now c.self.view_is c.self.invariant i cut (c.args.ch ∷ []) one.0 (search rules)
     ∙ ap (λ cs. chars (take i bs) ++ cs ++ chars (drop i bs)) one.1
