@@ -1,13 +1,13 @@
 -- Where the bytes of a text may be cut, and which characters stand on each side.
-use Rattle.std.proofs.Common.{◌≡◌, ℕ, ◌+◌, ◌<◌, ◌≤◌, slice_index, List, [], ◌∷◌, ◌++◌, length, take, drop, true, ◌&&◌, refl, sym, ap, ◌∙◌, arith, take-append-drop, length-append, length-drop, length-take-le, take_at, drop_at, subst, append-nil, encode_utf8, IsUtf8}
+use Rattle.std.proofs.Common.{◌≡◌, ℕ, ◌+◌, ◌-◌, ◌<◌, ◌≤◌, slice_index, List, [], ◌∷◌, ◌++◌, length, take, drop, true, ◌&&◌, refl, sym, ap, ◌∙◌, arith, take-append-drop, length-append, length-drop, length-take-le, le_of_eq, take_all, take_at, drop_at, subst, append-nil, encode_utf8, IsUtf8, rules}
 use Rattle.std.proofs.Math.Seq.{take-append-le, drop-append-le}
 use Rattle.std.specs.Str.{chars, encode_utf8_all, all_scalars}
 use Rattle.std.specs.String.Boundary.{IsSplitPoint}
 use Rattle.std.proofs.CharBoundary.{IsUtf8-take-drop}
-use Rattle.std.proofs.lemmas.Str.{chars-append, encodes-chars, encodes-append, IsUtf8-append, scalars-chars, IsCharBoundary-at_seam, chars_past_char, chars-nil}
+use Rattle.std.proofs.lemmas.Str.{chars-append, encodes-chars, encodes-append, IsUtf8-append, scalars-chars, IsCharBoundary-at_seam, chars_past_char, chars-nil, IsUtf8-from_ascii, encode_ascii}
 use Rattle.std.proofs.lemmas.Bool.{and_parts}
 use Rattle.std.proofs.lemmas.List.{drop-drop, append_cancel_right}
-use Rattle.tinyvec_text.specs.InlineText.{IsBoundary}
+use Rattle.tinyvec_text.specs.InlineText.{IsBoundary, IsFirstChar}
 
 -- the characters on each side of a cut
 pub chars_cut : (bs : List ℕ) → IsUtf8 bs → (i : ℕ) → IsSplitPoint bs i → chars bs ≡ chars (take i bs) ++ chars (drop i bs)
@@ -52,14 +52,35 @@ module _ (bs : List ℕ) (u : IsUtf8 bs) (i j : ℕ) (p : IsSplitPoint bs i) (q 
       chars-append (take i bs ++ put) (drop j bs) (IsUtf8-append (take i bs) put (IsUtf8-take-drop bs u i p).0 w)
       ∙ ap (λ cs. cs ++ chars (drop j bs)) (chars-append (take i bs) put (IsUtf8-take-drop bs u i p).0)
 
--- the character whose bytes are the first n from i on
-module _ (bs : List ℕ) (u : IsUtf8 bs) (i : ℕ) (p : IsSplitPoint bs i) (n c : ℕ) (own : take n (drop i bs) ≡ encode_utf8 c)
-    (w : IsUtf8 (drop n (drop i bs))) where
+-- the one character of its bytes
+pub chars_of_one : (bs : List ℕ) (c : ℕ) → IsUtf8 bs → bs ≡ encode_utf8 c → chars bs ≡ c ∷ []
+chars_of_one bs c u e = chars_past_char bs [] c u (e ∙ sym (append-nil (encode_utf8 c))) ∙ ap (λ cs. c ∷ cs) chars-nil
+
+pub one_ascii : (c : ℕ) → c < 128 → IsUtf8 (c ∷ []) × (chars (c ∷ []) ≡ c ∷ [])
+one_ascii c low = let ascii = IsUtf8-from_ascii (c ∷ []) (search rules) in (ascii, chars_of_one (c ∷ []) c ascii (sym (encode_ascii c low)))
+
+-- a boundary is where UTF-8 follows
+split_before : (bs : List ℕ) (k : ℕ) → k ≤ length bs → IsUtf8 (drop k bs) → IsSplitPoint bs k
+split_before bs k le u =
+    let seam = IsCharBoundary-at_seam bs (take k bs) (drop k bs) (sym (take-append-drop k bs)) u in
+    let split : IsSplitPoint bs (length (take k bs)) = (seam.0, λ _. seam.1) in
+    rw (length-take-le k bs le) at split
+
+-- what a slice from i on shows
+pub from_there : (bs seen : List ℕ) (i : ℕ) → seen ≡ bs → take (length seen - i) (drop i seen) ≡ drop i bs
+from_there bs seen i same = take_all _ _ (le_of_eq (length-drop i seen)) ∙ ap (drop i) same
+
+-- the character at i, which takes n bytes
+module _ (bs : List ℕ) (u : IsUtf8 bs) (i : ℕ) (p : IsSplitPoint bs i) {c n : ℕ} (here : IsFirstChar (drop i bs) c n) where
   pub parts_here : drop i bs ≡ encode_utf8 c ++ drop (i + n) bs
-  parts_here = sym (take-append-drop n (drop i bs)) ∙ ap (λ xs. xs ++ drop n (drop i bs)) own ∙ ap (λ xs. encode_utf8 c ++ xs) (drop-drop n i bs)
+  parts_here = sym (take-append-drop n (drop i bs)) ∙ ap (λ xs. xs ++ drop n (drop i bs)) here.encoded ∙ ap (λ xs. encode_utf8 c ++ xs) (drop-drop n i bs)
 
   after_here : IsUtf8 (drop (i + n) bs)
-  after_here = subst IsUtf8 (drop-drop n i bs) w
+  after_here = subst IsUtf8 (drop-drop n i bs) here.rest
+
+  -- the next character begins there
+  pub split_behind : IsSplitPoint bs (i + n)
+  split_behind = split_before bs (i + n) (omega (arith, here.in_bounds, length-drop i bs, here.positive)) after_here
 
   pub chars_here : chars bs ≡ chars (take i bs) ++ c ∷ chars (drop (i + n) bs)
   chars_here =
@@ -72,17 +93,6 @@ module _ (bs : List ℕ) (u : IsUtf8 bs) (i : ℕ) (p : IsSplitPoint bs i) (n c 
 
   pub chars_gap : chars (take i bs ++ drop (i + n) bs) ≡ chars (take i bs) ++ chars (drop (i + n) bs)
   chars_gap = chars-append (take i bs) (drop (i + n) bs) (IsUtf8-take-drop bs u i p).0
-
--- the one character of its bytes
-pub chars_of_one : (bs : List ℕ) (c : ℕ) → IsUtf8 bs → bs ≡ encode_utf8 c → chars bs ≡ c ∷ []
-chars_of_one bs c u e = chars_past_char bs [] c u (e ∙ sym (append-nil (encode_utf8 c))) ∙ ap (λ cs. c ∷ cs) chars-nil
-
--- a boundary is where UTF-8 follows
-pub split_before : (bs : List ℕ) (k : ℕ) → k ≤ length bs → IsUtf8 (drop k bs) → IsSplitPoint bs k
-split_before bs k le u =
-    let seam = IsCharBoundary-at_seam bs (take k bs) (drop k bs) (sym (take-append-drop k bs)) u in
-    let split : IsSplitPoint bs (length (take k bs)) = (seam.0, λ _. seam.1) in
-    rw (length-take-le k bs le) at split
 
 -- the first characters of a text are characters
 scalars_ahead : (front rest : List ℕ) → all_scalars (front ++ rest) ≡ true → all_scalars front ≡ true

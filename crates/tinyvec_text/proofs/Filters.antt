@@ -5,7 +5,7 @@ use Rattle.std.specs.Str.{all_scalars, encode_utf8_all}
 use Rattle.std.specs.Char.{IsScalar}
 use Rattle.std.specs.String.{RetainsChars}
 use Rattle.tinyvec_slots.specs.Filters.{IsFilteredTo}
-use Rattle.tinyvec_text.specs.InlineText.{RetainsCharsTo}
+use Rattle.tinyvec_text.specs.InlineText.{RetainsCharsTo, IsFirstChar}
 use Rattle.std.proofs.lemmas.Grind.{drop_more_same}
 use Rattle.tinyvec_slots.proofs.Lists.{same_at}
 use Rattle.std.proofs.lemmas.List.{take_more, drop-drop, drop-set-lt, drop_all, get_or-drop}
@@ -73,22 +73,21 @@ module _ {F : Type 0} (g : Mut F (ℕ × Unit {0}) Bool) (first : F) (xs : List 
   utf8_kept false c is = IsUtf8-nil
 
   pub retain_more : (f p : F) (bs ds : List ℕ) (read kept to n c : ℕ) (b : Bool) → Retaining f bs read kept → RunsWord f c b p
-      → take n (drop read bs) ≡ encode_utf8 c → IsUtf8 (drop (read + n) bs) → IsScalar c
-      → take to ds ≡ take kept bs ++ cond b (encode_utf8 c) [] → drop (read + n) ds ≡ drop (read + n) bs → Retaining p ds (read + n) to
-  retain_more f p bs ds read kept to n c b s r own after scalar put left =
+      → IsFirstChar (drop read bs) c n → take to ds ≡ take kept bs ++ cond b (encode_utf8 c) [] → drop (read + n) ds ≡ drop (read + n) bs → Retaining p ds (read + n) to
+  retain_more f p bs ds read kept to n c b s r here put left =
       let same : drop (read + n) ds ≡ drop (read + n) xs = left ∙ sym (drop-drop n read bs) ∙ ap (drop n) s.same ∙ drop-drop n read xs in
       record {
         so_far = λ all ks last are spell chosen.
             let whole : encode_utf8_all (c ∷ all) ≡ drop read xs =
-            (λ i. sym own i ++ (spell ∙ sym (drop-drop n read xs) ∙ ap (drop n) (sym s.same)) i) ∙ take-append-drop n (drop read bs) ∙ s.same in
+            (λ i. sym here.encoded i ++ (spell ∙ sym (drop-drop n read xs) ∙ ap (drop n) (sym s.same)) i) ∙ take-append-drop n (drop read bs) ∙ s.same in
             let joined : take kept bs ++ encode_utf8_all (cond b (c ∷ ks) ks) ≡ take to ds ++ encode_utf8_all ks =
             ap (λ l. take kept bs ++ l) (sym (spelled b c ks)) ∙ sym (append_assoc (take kept bs) (cond b (encode_utf8 c) []) (encode_utf8_all ks))
             ∙ ap (λ l. l ++ encode_utf8_all ks) (sym put) in
             subst (λ out. RetainsCharsTo g first xs out last) joined
-            (s.so_far (c ∷ all) (cond b (c ∷ ks) ks) last (ap (λ k. k && all_scalars all) scalar ∙ are) whole (chosen_more f p last c b all ks r chosen));
-        front = subst IsUtf8 (sym put) (IsUtf8-append (take kept bs) (cond b (encode_utf8 c) []) s.front (utf8_kept b c scalar));
+            (s.so_far (c ∷ all) (cond b (c ∷ ks) ks) last (ap (λ k. k && all_scalars all) here.scalar ∙ are) whole (chosen_more f p last c b all ks r chosen));
+        front = subst IsUtf8 (sym put) (IsUtf8-append (take kept bs) (cond b (encode_utf8 c) []) s.front (utf8_kept b c here.scalar));
         same = same;
-        rest = subst IsUtf8 (sym left) after;
+        rest = subst IsUtf8 (drop-drop n read bs ∙ sym left) here.rest;
       }
 
   pub retain_all : (f : F) (bs : List ℕ) (read kept : ℕ) → length xs ≤ read → Retaining f bs read kept

@@ -1,11 +1,14 @@
 -- Lists of bytes as texts.
 use Rattle.std.proofs.Common.{chars, ◌≡◌, ℕ, ◌+◌, ◌-◌, ◌<◌, ◌≤◌, inl, inr, List, All, ◌++◌, IsUtf8, IsTrue, subst, sym, refl, ◌∙◌, arith, ap, length, take, drop, take_at, drop_at, take-append-drop, length-take, length-append, length-take-le, length-drop}
-use Rattle.std.specs.Prelude.{Bool, false, Result}
+use Rattle.std.specs.Prelude.{Bool, false, Result, slice_range}
 use Rattle.std.proofs.Math.Seq.{drop-nil, take-take}
 use Rattle.std.proofs.lemmas.Result.{on_ok_weaker, on_err_weaker}
 use Rattle.std.proofs.lemmas.List.{drop-drop, same_lists}
 use Rattle.std.proofs.lemmas.List.Elements.{All-append, All-drop, All-take}
 use Rattle.std.proofs.lemmas.Str.{IsUtf8-had, IsUtf8-append, chars-append}
+use Rattle.std.proofs.CharBoundary.{IsUtf8-three_parts}
+use Rattle.std.specs.declared.ops.Bound.{Bound}
+use Rattle.tinyvec_slots.specs.Ranges.{range_start, range_end, before, removed, after}
 use Rattle.tinyvec_slots.specs.Slots.{Slots, AreDefaults, SlotRule, items_in, len_in, spare_in}
 use Rattle.tinyvec_slots.proofs.BorderLemmas.{spare_from}
 use Rattle.tinyvec_slots.proofs.Lists.{length-replaced}
@@ -22,11 +25,15 @@ use Rattle.tinyvec.proofs.TinyLemmas.{tiny_items-with, tiny_framed-with, used_ru
 use Rattle.tinyvec_text.specs.InlineText.{Text, Bytes, IsText, text_of, text_view, text_chars, text_len, IsBoundary}
 use Rattle.tinyvec_text.proofs.Boundaries.{split_from_boundary, utf8_put, chars_put}
 
--- a and b are boundaries of the bytes, in this order
-pub record CutsAt (bs : List ℕ) (a b : ℕ) : Type 0 where
-  pub order : a ≤ b
-  pub first : IsSplitPoint bs a
-  pub last : IsSplitPoint bs b
+-- the range of bs with these ends, which is that of xs, goes from p up to q, and both are boundaries
+pub record CutsAt (bs xs : List ℕ) (start end : Bound ℕ) (p q : ℕ) : Type 0 where
+  pub order : p ≤ q
+  pub first : IsSplitPoint bs p
+  pub last : IsSplitPoint bs q
+  pub utf8 : IsUtf8 (take p bs) × IsUtf8 (slice_range bs p q) × IsUtf8 (drop q bs)
+  pub front : take p bs ≡ before xs start
+  pub part : slice_range bs p q ≡ removed xs start end
+  pub back : drop q bs ≡ after xs end
 
 pub text_utf8 : {k : ℕ} (v : Bytes k) → IsText v → IsUtf8 (tiny_items v)
 text_utf8 v is = IsUtf8-had _ is.0
@@ -50,7 +57,7 @@ pub zero_becomes : {k : ℕ} (old new : Bytes k) (bs : List ℕ) → Becomes (λ
     → All (λ b. b ≡ 0) (tiny_spare old) → All (λ b. b ≡ 0) (tiny_spare new)
 zero_becomes old new bs made = zero_spare old new (λ i. subst IsTrue made.place i) made.slot_rule
 
-pub text_kept : {k : ℕ} (old new : Bytes k) → (IsInline new → IsInline old) → TinySlotRule (λ b. b ≡ 0) (tiny_view old) (tiny_view new)
+text_kept : {k : ℕ} (old new : Bytes k) → (IsInline new → IsInline old) → TinySlotRule (λ b. b ≡ 0) (tiny_view old) (tiny_view new)
     → IsText old → IsUtf8 (tiny_items new) → IsText new
 text_kept old new place rule h utf8 = (∣ utf8 ∣₁, zero_spare old new place rule h.1)
 
@@ -79,16 +86,16 @@ module _ {k : ℕ} (old new : Bytes k) (t : Text) (same : text_of old ≡ t) (is
   pub chars_joined : text_chars (text_of new) ≡ text_chars t ++ chars put
   chars_joined = ap chars made ∙ chars-append _ _ (text_utf8 old is) ∙ ap (λ (u : Text). text_chars u ++ chars put) same
 
--- text was put in the place of the bytes from i up to j
-module _ {k : ℕ} (old new : Bytes k) (t : Text) (same : text_of old ≡ t) (is : IsText old) (i j : ℕ) (first : IsSplitPoint (tiny_items old) i)
-    (last : IsSplitPoint (tiny_items old) j) (put : List ℕ) (utf8 : IsUtf8 put) (made : tiny_items new ≡ take i (tiny_items old) ++ put ++ drop j (tiny_items old)) where
-  pub text_put : {exact : Bool} {need : ℕ} → j ≡ i → GetsRoom exact need (tiny_view old) (tiny_view new) → IsText new
-  text_put none room = text_grown old new _ room is made
-      (omega (arith, none, length-replaced i j put (tiny_items old) (omega (arith, none)) last.0)) (utf8_put (tiny_items old) (text_utf8 old is) i j first last put utf8)
+-- text was put in at i
+module _ {k : ℕ} (old new : Bytes k) (t : Text) (same : text_of old ≡ t) (is : IsText old) (i : ℕ) (cut : IsSplitPoint (tiny_items old) i) (put : List ℕ)
+    (utf8 : IsUtf8 put) (made : tiny_items new ≡ take i (tiny_items old) ++ put ++ drop i (tiny_items old)) where
+  pub text_put : {exact : Bool} {need : ℕ} → GetsRoom exact need (tiny_view old) (tiny_view new) → IsText new
+  text_put room = text_grown old new _ room is made (omega (arith, length-replaced i i put (tiny_items old) (omega arith) cut.0))
+      (utf8_put (tiny_items old) (text_utf8 old is) i i cut cut put utf8)
 
-  pub chars_between : text_chars (text_of new) ≡ chars (take i t.bytes) ++ chars put ++ chars (drop j t.bytes)
-  chars_between = ap chars made ∙ chars_put (tiny_items old) (text_utf8 old is) i j first last put utf8
-      ∙ ap (λ (u : Text). chars (take i u.bytes) ++ chars put ++ chars (drop j u.bytes)) same
+  pub chars_between : text_chars (text_of new) ≡ chars (take i t.bytes) ++ chars put ++ chars (drop i t.bytes)
+  chars_between = ap chars made ∙ chars_put (tiny_items old) (text_utf8 old is) i i cut cut put utf8
+      ∙ ap (λ (u : Text). chars (take i u.bytes) ++ chars put ++ chars (drop i u.bytes)) same
 
 -- a list that was made of a text's bytes
 pub text_made : {k : ℕ} (n : ℕ) (v : Bytes k) → IsUtf8 (tiny_items v) → (IsInline v → AreDefaults (λ b. b ≡ 0) n (tiny_spare v)) → IsText v
@@ -101,12 +108,24 @@ pub text_shrunk : {k : ℕ} (n : ℕ) (old new : Bytes k) → IsText old → tin
 text_shrunk n (Inline v a) new is items kept spare = subst IsText (sym (kept refl)) is
 text_shrunk {k} n (Heap v) new is items kept spare = text_made n new (subst IsUtf8 (sym items) (text_utf8 {k = k} (Heap v) is)) (spare refl)
 
--- the ends of a range, which was resolved to p and q, are boundaries of the bytes
-pub text_range : {k : ℕ} (v : Bytes k) (t : Text) → text_of v ≡ t → IsText v → (a : ℕ) (end : ℕ → ℕ) → a ≤ end (text_len t)
-    → IsBoundary (text_chars t) a → IsBoundary (text_chars t) (end (text_len t)) → (p q n : ℕ) → p ≡ a → q ≡ end n → n ≡ tiny_len v → CutsAt (tiny_items v) p q
-text_range v t same is a end order first last p q n starts ends count =
-    let at : q ≡ end (text_len t) = ends ∙ ap end (count ∙ ap text_len same) in
-    rw (starts, at) (record { order = order; first = text_cut v t same is a first; last = text_cut v t same is (end (text_len t)) last })
+-- the range of a text, which was resolved to p and q
+pub text_range : {k : ℕ} (v : Bytes k) (t : Text) → text_of v ≡ t → IsText v → (start end : Bound ℕ) → range_start start ≤ range_end end (text_len t)
+    → IsBoundary (text_chars t) (range_start start) → IsBoundary (text_chars t) (range_end end (text_len t))
+    → (p q n : ℕ) → p ≡ range_start start → q ≡ range_end end n → n ≡ tiny_len v → CutsAt (tiny_items v) t.bytes start end p q
+text_range v t same is start end order first last p q n starts ends count =
+    let at : q ≡ range_end end (text_len t) = ends ∙ ap (range_end end) (count ∙ ap text_len same) in
+    let a = text_cut v t same is (range_start start) first in
+    let b = text_cut v t same is (range_end end (text_len t)) last in
+    let bytes = ap (λ (u : Text). u.bytes) same in
+    rw (starts, at) (record {
+      order = order;
+      first = a;
+      last = b;
+      utf8 = IsUtf8-three_parts (tiny_items v) (text_utf8 v is) _ _ order a b;
+      front = λ i. take (range_start start) (bytes i);
+      part = λ i. slice_range (bytes i) (range_start start) (range_end end (text_len t));
+      back = λ i. drop (range_end end (text_len t)) (bytes i);
+    })
 
 -- a call that made room did so for the text
 pub text_room : {k : ℕ} {X E : Type 0} (exact : Bool) (need : ℕ) (old new : Bytes k) (r : Result X E) → MakesRoom exact need (tiny_view old) (tiny_view new) r
@@ -123,10 +142,6 @@ text_room exact need old new r room = record {
 pub no_room : {P : Type 0} (need : ℕ) (old new : TinyView ℕ) → RefusedFor need P old new → ¬ P → (view_capacity old < need) × Unchanged old new
 no_room need old new (inl h) never = h
 no_room need old new (inr h) never = absurd (never h.2)
-
--- a text that did not change
-pub text_unchanged : (old new : Text) → Unchanged (text_view old) (text_view new) → new ≡ old
-text_unchanged old new h i = record { bytes = h.items i; place = record { inline = h.place i; capacity = h.capacity i } }
 
 -- a write through the slice of the bytes leaves what the slice shows, and spare slots, place and room
 module _ (slots : ℕ) (old : Bytes slots) (ws : List ℕ) (long : length ws ≡ tiny_len old) where

@@ -1,7 +1,18 @@
 -- Bytes that are moved within a list, block by block.
-use Rattle.std.proofs.Common.{◌≡◌, ℕ, ◌+◌, ◌-◌, ◌≤◌, List, [], ◌++◌, length, take, drop, sym, ap, ◌∙◌, arith, append_assoc, append-nil, take_all, take-append-drop, take-add, length-append, length-take-le, length-drop, take_at, drop_at}
-use Rattle.std.proofs.Math.Seq.{take-take, take-append-le, drop-append-le}
-use Rattle.std.proofs.lemmas.List.{drop-drop, drop-take, drop_all}
+use Rattle.std.proofs.Common.{◌≡◌, ℕ, ◌+◌, ◌-◌, ◌≤◌, List, ◌++◌, length, take, drop, get_or, inl, inr, rules, sym, ap, ◌∙◌, arith, take-add, length-append, length-take}
+use Rattle.std.proofs.lemmas.Bool.{cases_lt}
+use Rattle.std.proofs.lemmas.List.{drop-drop, same_lists, places}
+use Rattle.tinyvec_slots.specs.Slots.{items_in, spare_in, len_in, split_at}
+use Rattle.tinyvec_slots.proofs.BorderLemmas.{list_to, spare_from}
+use Rattle.tinyvec_array.specs.ArrayVec.{items, items_len, spare, view}
+use Rattle.tinyvec_array.specs.CutLaws.{written_of}
+use Rattle.tinyvec_array.specs.Lends.{with_items_of}
+use Rattle.tinyvec_array.specs.SpliceLaws.{kept_count}
+use Rattle.tinyvec_array.specs.declared.array_vec.ArrayVec.{ArrayVec}
+use Rattle.tinyvec_array.specs.declared.bound.UpTo.{UpTo}
+use Rattle.tinyvec_array.proofs.Named.{array_slots}
+use Rattle.tinyvec_array.proofs.ViewLemmas.{parts_of}
+use Rattle.tinyvec_text.specs.InlineText.{AddsBytes}
 use Rattle.tinyvec_text.proofs.Filters.{CopiedDown}
 
 -- a block of k bytes was copied from one place of `bs` to another
@@ -14,13 +25,11 @@ module _ (bs cs : List ℕ) (from to k : ℕ) where
 pub copied_block : (xs bs cs : List ℕ) (to from i k : ℕ) → to ≤ from → CopiedDown xs bs to from i → CopiedBlock bs cs (from + i) (to + i) k
     → CopiedDown xs cs to from (i + k)
 copied_block xs bs cs to from i k down h b =
-    let up : to + (i + k) ≡ to + i + k = omega arith in
-    let past : from + (i + k) ≡ to + i + k + (from - to) = omega (arith, down) in
-    let on : to + i + k + (from - to) ≡ from + i + k = omega (arith, down) in
-    let both : from + i + k ≡ from + (i + k) = omega arith in record {
-      len = b.len ∙ h.len;
-      front = rw (up, b.front, h.front, h.rest, append_assoc, take-add i k (drop from xs), drop-drop);
-      rest = rw (past, ← drop-drop (from - to) (to + i + k) cs, b.rest, drop-drop, on, ← drop-drop k (from + i) bs, h.rest, drop-drop, both);
+    let long = b.len ∙ h.len in
+    record {
+      len = long;
+      front = same_lists _ _ (search (rules, places, long)) (λ j d lt. grind (arith, places, ap (λ ys. get_or ys j d) b.front, ap (λ ys. get_or ys j d) h.front, ap (λ ys. get_or ys (j - (to + i)) d) h.rest));
+      rest = same_lists _ _ (search (rules, places, long)) (λ j d lt. grind (arith, places, ap (λ ys. get_or ys (j + (from - to)) d) b.rest, ap (λ ys. get_or ys (j + k) d) h.rest));
     }
 
 -- bs is xs, with all but the first `left` of the `count` bytes at `from` copied to the end, which begins at `to`
@@ -32,48 +41,51 @@ pub record CopiedUp (xs bs : List ℕ) (from to count left : ℕ) : Type 0 where
 pub copied_block_up : (xs bs cs : List ℕ) (from to count l k : ℕ) → from ≤ to → l + k ≤ count → to + count ≡ length xs
     → CopiedUp xs bs from to count (l + k) → CopiedBlock bs cs (from + l) (to + l) k → CopiedUp xs cs from to count l
 copied_block_up xs bs cs from to count l k up within ends h b =
-    let m = take count (drop from xs) in
-    let long = h.len in
-    let inside : length (take (to + l) bs) ≡ to + l = length-take-le (to + l) bs (omega (arith, long, ends, within)) in
-    let low : from + l ≤ to + l = omega (arith, up) in
-    let joined : from + l + k ≡ from + (l + k) = omega arith in
-    let past : to + l + k ≡ to + (l + k) = omega arith in
-    let source : take k (drop (from + l) bs) ≡ take k (drop l m) =
-    rw (← drop-take (from + l) k bs, joined, h.same, ← joined, drop-take (from + l) k xs, ← drop-drop l from xs, ← drop-take l k (drop from xs), ← take-take (l + k) count (drop from xs) within, drop-take) in
-    let moved : take k (drop (to + l) cs) ≡ take k (drop l m) = rw (← drop-take (to + l) k cs, b.front, drop_at (take (to + l) bs) (take k (drop (from + l) bs)) (to + l) inside) source in
-    let stayed : drop k (drop (to + l) cs) ≡ drop k (drop l m) = rw (drop-drop, b.rest, past, h.back, drop-drop) in
+    let long = b.len ∙ h.len in
     record {
-      len = b.len ∙ long;
-      same =
-          rw (← take-take (from + l) (to + l + k) cs (omega (arith, up)), b.front, take-append-le (from + l) (take (to + l) bs) (take k (drop (from + l) bs)) (omega (arith, inside, low)), take-take (from + l) (to + l) bs low)
-          (rw (take-take (from + l) (from + (l + k)) bs (omega arith), take-take (from + l) (from + (l + k)) xs (omega arith)) at (ap (take (from + l)) h.same));
-      back = sym (take-append-drop k (drop (to + l) cs)) ∙ (λ j. moved j ++ stayed j) ∙ take-append-drop k (drop l m);
+      len = long;
+      same = same_lists _ _ (search (rules, places, long)) (λ j d lt. grind (arith, places, ap (λ ys. get_or ys j d) h.same, ap (λ ys. get_or ys j d) b.front));
+      back = same_lists _ _ (search (rules, places, long)) (λ j d lt. elim (cases_lt j k) [
+        | inl less ↦ grind (arith, places, ap (λ ys. get_or ys (to + l + j) d) b.front, ap (λ ys. get_or ys (from + l + j) d) h.same)
+        | inr more ↦ grind (arith, places, ap (λ ys. get_or ys (j - k) d) b.rest, ap (λ ys. get_or ys (j - k) d) h.back)
+      ]);
     }
 
 -- zs was appended to xs, and what is behind i moved over it to the end
 pub inserted : (xs zs bs ys : List ℕ) (i n : ℕ) → i ≤ length xs → n ≡ length xs - i → ys ≡ xs ++ zs → take i ys ++ bs ++ take n (drop i ys) ≡ take i xs ++ bs ++ drop i xs
-inserted xs zs bs ys i n le e is =
-    let size : length (drop i xs) ≡ n = length-drop i xs ∙ sym e in
-    rw (is, take-append-le i xs zs le, drop-append-le i xs zs le, take_at (drop i xs) zs n size)
+inserted xs zs bs ys i n le e is = rw is (same_lists _ _ (search (rules, places)) (λ k d h. grind (arith, places)))
 
 -- what was put in at the end
 pub at_end : (xs bs : List ℕ) (n : ℕ) → n ≡ length xs → take n xs ++ bs ++ drop n xs ≡ xs ++ bs
-at_end xs bs n at =
-    let front : take n xs ≡ xs = take_all n xs (omega (arith, at)) in
-    let none : drop n xs ≡ [] = drop_all n xs (omega (arith, at)) in
-    rw (front, none, append-nil (xs ++ bs))
+at_end xs bs n at = same_lists _ _ (search (rules, places)) (λ k d h. grind (arith, places))
 
 -- ys is xs and n bytes of zs, over which the n bytes at i were written
 pub repeated : (xs zs ys : List ℕ) (i l n : ℕ) → l ≡ length xs → i + n ≤ length xs → n ≤ length zs → ys ≡ xs ++ take n zs
     → take l ys ++ take (length ys - l) (drop i ys) ≡ xs ++ take n (drop i xs)
-repeated xs zs ys i l n at le few is =
-    let size : length ys - l ≡ n = omega (arith, at, ap length is, length-append xs (take n zs), length-take-le n zs few) in
-    let inside : n ≤ length (drop i xs) = omega (arith, le, length-drop i xs) in
-    rw (size, is, take_at xs (take n zs) l (sym at), drop-append-le i xs (take n zs) (omega (arith, le)), take-append-le n (drop i xs) (take n zs) inside)
+repeated xs zs ys i l n at le few is = rw is (same_lists _ _ (search (rules, places)) (λ k d h. grind (arith, places)))
 
 -- bs is xs and the first a bytes from i on, and k more of these were appended
 pub repeated_further : {T : Type 0} (xs bs cs : List T) (i a k n : ℕ) → a + k ≤ n → i + n ≤ length xs → bs ≡ xs ++ take a (drop i xs)
     → cs ≡ bs ++ take k (drop (i + a) bs) → cs ≡ xs ++ take (a + k) (drop i xs)
-repeated_further xs bs cs i a k n within le first next =
-    let inside : k ≤ length (drop (i + a) xs) = omega (arith, within, le, length-drop (i + a) xs) in
-    rw (next, first, drop-append-le (i + a) xs (take a (drop i xs)) (omega (arith, within, le)), take-append-le k (drop (i + a) xs) (take a (drop i xs)) inside, append_assoc, take-add a k (drop i xs), drop-drop)
+repeated_further xs bs cs i a k n within le first next = rw (next, first) (same_lists _ _ (search (rules, places)) (λ j d h. grind (arith, places)))
+
+-- n spare slots joined the list of v, which then was written over as a slice
+module _ {k : ℕ} (v mid : ArrayVec (List ℕ) (UpTo k)) (n len : ℕ) (at : len ≡ items_len v) (is : view mid ≡ split_at (len + n) v.slots) where
+  pub longer : items mid ≡ items v ++ take n (spare v)
+  longer = ap (λ w. items_in w) is ∙ take-add len n v.slots ∙ (λ i. list_to v.len.len v.slots len at i ++ take n (spare_from v.len.len v.slots len at i))
+
+  pub filled : (ws xs : List ℕ) → n ≤ length v.slots - items_len v → length ws ≡ items_len mid → ws ≡ xs
+      → AddsBytes (view v) (view (with_items_of (array_slots k) mid ws)) xs
+  filled ws xs room long put =
+      let written = written_of (array_slots k) mid ws long in
+      let size : len_in (view (with_items_of (array_slots k) mid ws)) ≡ items_len v + n =
+      omega (arith, ap length written.0, long, ap length longer, length-append (items v) (take n (spare v)), length-take n (spare v), parts_of (array_slots k) v, room) in
+      let count : n ≡ len_in (view (with_items_of (array_slots k) mid ws)) - items_len v = omega (arith, size) in
+      record {
+        items = written.0 ∙ put;
+        spare =
+            written.1.1.0 ∙ ap (λ w. spare_in w) is ∙ sym (drop-drop n len v.slots) ∙ ap (drop n) (spare_from v.len.len v.slots len at)
+            ∙ ap (λ i. drop i (spare v)) count;
+        slot_count = kept_count (array_slots k) mid (with_items_of (array_slots k) mid ws) written.1 ∙ ap (λ w. length w.slots) is;
+        fits = omega (arith, size, room, parts_of (array_slots k) v);
+      }

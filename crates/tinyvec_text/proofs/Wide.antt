@@ -1,24 +1,33 @@
 -- Characters of more than one byte, read off their bytes.
-use Rattle.std.proofs.Common.{◌≡◌, ℕ, ◌+◌, ◌*◌, ◌/◌, ◌%◌, ◌<◌, ◌≤◌, true, false, List, [], ◌∷◌, ◌++◌, length, get_or, take_at, refl, sym, ap, subst, ◌∙◌, arith, ⊎_elim, append-nil, append_assoc, length-append, IsUtf8}
+use Rattle.std.proofs.Common.{◌≡◌, ℕ, ◌+◌, ◌*◌, ◌/◌, ◌%◌, ◌<◌, ◌≤◌, true, List, [], ◌∷◌, ◌++◌, length, get_or, take, drop, take_at, drop_at, inl, inr, ◌⊎◌, refl, sym, ap, subst, ◌∙◌, arith, ⊎_elim, append-nil, append_assoc, length-append, IsUtf8}
 use Rattle.std.specs.Char.{IsScalar, encode_utf8}
 use Rattle.std.specs.Str.{encode_utf8_all, all_scalars}
 use Rattle.std.proofs.Math.Utf8.{scalar_cases}
-use Rattle.std.proofs.lemmas.Bool.{cases_lt, cond-true, cond-false, and_parts}
+use Rattle.std.proofs.lemmas.Bool.{cases_lt, and_parts}
 use Rattle.std.proofs.lemmas.Bool.Decides.{nat_tests}
 use Rattle.std.proofs.lemmas.List.{same_from_push}
 use Rattle.std.proofs.lemmas.Str.{IsUtf8-append, IsUtf8-encode, IsUtf8-nil, IsUtf8-take, IsCharBoundary-before_ascii, encode_ascii, byte_from_char}
 use Rattle.std.proofs.Math.Seq.{get_or-append_seam}
-use lib.Dec.{ltb}
 use Rattle.tinyvec_text.specs.InlineText.{IsFirstChar}
-
--- a term of the type given
-abbrev by : (A : Type 0) → A → A
-by A a = a
 
 -- these are the bytes of the character with this code
 pub record Spells (bytes : List ℕ) (code : ℕ) : Type 0 where
   pub scalar : IsScalar code
   pub encoded : encode_utf8 code ≡ bytes
+
+-- the bytes that are written for a character
+pub spelled_two : (c : ℕ) → 128 ≤ c → c < 2048 → encode_utf8 c ≡ (192 + c / 64) ∷ (128 + c % 64) ∷ []
+unfolding encode_utf8
+spelled_two c more low = grind (arith, nat_tests)
+
+pub spelled_three : (c : ℕ) → 2048 ≤ c → c < 65536 → encode_utf8 c ≡ (224 + c / 4096) ∷ (128 + c / 64 % 64) ∷ (128 + c % 64) ∷ []
+unfolding encode_utf8
+spelled_three c more low = grind (arith, nat_tests)
+
+pub spelled_four : (c : ℕ) → 65536 ≤ c
+    → encode_utf8 c ≡ (240 + c / 262144) ∷ (128 + c / 4096 % 64) ∷ (128 + c / 64 % 64) ∷ (128 + c % 64) ∷ []
+unfolding encode_utf8
+spelled_four c more = grind (arith, nat_tests)
 
 data Wide (c : ℕ) : Type 0 where
   two : (a b : ℕ) → 192 ≤ a → a < 224 → c ≡ a % 32 * 64 + b % 64 → encode_utf8 c ≡ a ∷ b ∷ [] → Wide c
@@ -27,19 +36,13 @@ data Wide (c : ℕ) : Type 0 where
 
 -- the bytes of a character that is not ASCII
 wide : (c : ℕ) → IsScalar c → 128 ≤ c → Wide c
-unfolding encode_utf8
 wide c is more =
-    let not_one : ltb c 128 ≡ false = grind (arith, nat_tests) in
     ⊎_elim
-    (λ low. two (192 + c / 64) (128 + c % 64) (omega arith) (omega arith) (omega arith)
-    (cond-false _ _ _ not_one ∙ cond-true _ _ _ (by (ltb c 2048 ≡ true) (grind (arith, nat_tests)))))
+    (λ low. two (192 + c / 64) (128 + c % 64) (omega arith) (omega arith) (omega arith) (spelled_two c more low))
     (λ high.
-    let not_two : ltb c 2048 ≡ false = grind (arith, nat_tests) in
     ⊎_elim
-    (λ low. three (224 + c / 4096) (128 + c / 64 % 64) (128 + c % 64) (omega arith) (omega arith) (omega arith) (omega arith) (omega arith)
-    (cond-false _ _ _ not_one ∙ cond-false _ _ _ not_two ∙ cond-true _ _ _ (by (ltb c 65536 ≡ true) (grind (arith, nat_tests)))))
+    (λ low. three (224 + c / 4096) (128 + c / 64 % 64) (128 + c % 64) (omega arith) (omega arith) (omega arith) (omega arith) (omega arith) (spelled_three c high low))
     (λ top.
-    let not_three : ltb c 65536 ≡ false = grind (arith, nat_tests) in
     let below : c < 1114112 = ⊎_elim (λ low. omega (arith, low, top)) (λ high. high.1) (scalar_cases c is) in
     let p0 : c ≡ c / 64 * 64 + c % 64 = omega arith in
     let p1 : c / 64 ≡ c / 4096 * 64 + c / 64 % 64 = omega arith in
@@ -49,7 +52,7 @@ wide c is more =
     let third : (128 + c / 64 % 64) % 64 ≡ c / 64 % 64 = omega arith in
     let fourth : (128 + c % 64) % 64 ≡ c % 64 = omega arith in
     four (240 + c / 262144) (128 + c / 4096 % 64) (128 + c / 64 % 64) (128 + c % 64) (omega arith) (omega arith) (omega arith)
-    (omega (arith, p0, p1, p2, lead, second, third, fourth)) (cond-false _ _ _ not_one ∙ cond-false _ _ _ not_two ∙ cond-false _ _ _ not_three))
+    (omega (arith, p0, p1, p2, lead, second, third, fourth)) (spelled_four c top))
     (cases_lt c 65536))
     (cases_lt c 2048)
 
@@ -76,47 +79,55 @@ last_of c (d ∷ ds) all =
       split = ap (λ xs. encode_utf8 c ++ xs) l.split ∙ sym (append_assoc (encode_utf8 c) l.front (encode_utf8 l.c));
     }
 
+-- no byte of these begins a character
+abbrev Later : List ℕ → Type 0
+Later [] = Unit {0}
+Later (x ∷ xs) = (x < 192) × Later xs
+
+no_lead : (front : List ℕ) (lead : ℕ) (rest : List ℕ) → 192 ≤ lead → ¬ (Later (front ++ lead ∷ rest))
+no_lead [] lead rest high low = omega (arith, low.0, high)
+no_lead (x ∷ xs) lead rest high low = no_lead xs lead rest high low.1
+
+-- where bytes have one that begins a character, those at their end that begin none follow it
+behind_lead : (xs later front : List ℕ) (lead : ℕ) (rest : List ℕ) → 192 ≤ lead → Later later → xs ++ later ≡ front ++ lead ∷ rest → length later ≤ length rest
+behind_lead [] later front lead rest high low same = absurd (no_lead front lead rest high (subst Later same low))
+behind_lead (x ∷ xs) later [] lead rest high low same = let tail : xs ++ later ≡ rest = cc in omega (arith, ap length tail, length-append xs later)
+behind_lead (x ∷ xs) later (y ∷ ys) lead rest high low same = let tail : xs ++ later ≡ ys ++ lead ∷ rest = cc in behind_lead xs later ys lead rest high low tail
+
+-- the code of a character whose last byte is z, and the others are these
+abbrev pub code_of : List ℕ → ℕ → ℕ
+code_of [] z = z
+code_of (a ∷ []) z = a % 32 * 64 + z % 64
+code_of (a ∷ b ∷ []) z = a % 16 * 4096 + (b % 64 * 64 + z % 64)
+code_of (a ∷ b ∷ d ∷ ds) z = a % 8 * 262144 + b % 64 * 4096 + (d % 64 * 64 + z % 64)
+
 -- xs, of which b was popped: the last character of both
 data Tail (xs : List ℕ) (b : ℕ) : Type 0 where
-  tail2 : (front : List ℕ) (a : ℕ) → 192 ≤ a → IsUtf8 front → xs ≡ front ++ a ∷ [] → Spells (a ∷ b ∷ []) (a % 32 * 64 + b % 64) → Tail xs b
-  tail3 : (front : List ℕ) (a d : ℕ) → 192 ≤ a → d < 192 → IsUtf8 front → xs ≡ front ++ a ∷ [] ++ d ∷ []
-      → Spells (a ∷ d ∷ b ∷ []) (a % 16 * 4096 + (d % 64 * 64 + b % 64)) → Tail xs b
-  tail4 : (front : List ℕ) (a d e : ℕ) → d < 192 → e < 192 → IsUtf8 front → xs ≡ front ++ a ∷ [] ++ d ∷ [] ++ e ∷ []
-      → Spells (a ∷ d ∷ e ∷ b ∷ []) (a % 8 * 262144 + d % 64 * 4096 + (e % 64 * 64 + b % 64)) → Tail xs b
+  tail : (front : List ℕ) (lead : ℕ) (rest : List ℕ) → 192 ≤ lead → Later rest → length rest ≤ 2 → IsUtf8 front → xs ≡ front ++ lead ∷ rest
+      → Spells ((lead ∷ rest) ++ b ∷ []) (code_of (lead ∷ rest) b) → Tail xs b
 
-module _ (xs : List ℕ) (b : ℕ) where
-  tail_wide : (l : Last (xs ++ b ∷ [])) → Wide l.c → Tail xs b
-  tail_wide l (two a d low high value e) =
-      let all = same_from_push xs (l.front ++ a ∷ []) b d (l.split ∙ ap (λ ys. l.front ++ ys) e ∙ sym (append_assoc l.front (a ∷ []) (d ∷ []))) in
-      tail2 l.front a low l.utf8 all.0 (subst (λ y. Spells (a ∷ y ∷ []) (a % 32 * 64 + y % 64)) (sym all.1) (spells _ l.c _ l.is value e))
-  tail_wide l (three a d f low high last mid value e) =
-      let all = same_from_push xs (l.front ++ a ∷ [] ++ d ∷ []) b f (l.split ∙ ap (λ ys. l.front ++ ys) e ∙ sym (append_assoc l.front (a ∷ []) (d ∷ f ∷ []))
-      ∙ sym (append_assoc (l.front ++ a ∷ []) (d ∷ []) (f ∷ []))) in
-      tail3 l.front a d (omega (arith, low)) mid l.utf8 all.0
-      (subst (λ y. Spells (a ∷ d ∷ y ∷ []) (a % 16 * 4096 + (d % 64 * 64 + y % 64))) (sym all.1) (spells _ l.c _ l.is value e))
-  tail_wide l (four a d f h low mid last value e) =
-      let all = same_from_push xs (l.front ++ a ∷ [] ++ d ∷ [] ++ f ∷ []) b h (l.split ∙ ap (λ ys. l.front ++ ys) e
-      ∙ sym (append_assoc l.front (a ∷ []) (d ∷ f ∷ h ∷ [])) ∙ sym (append_assoc (l.front ++ a ∷ []) (d ∷ []) (f ∷ h ∷ []))
-      ∙ sym (append_assoc (l.front ++ a ∷ [] ++ d ∷ []) (f ∷ []) (h ∷ []))) in
-      tail4 l.front a d f mid last l.utf8 all.0
-      (subst (λ y. Spells (a ∷ d ∷ f ∷ y ∷ []) (a % 8 * 262144 + d % 64 * 4096 + (f % 64 * 64 + y % 64))) (sym all.1) (spells _ l.c _ l.is value e))
+module _ (xs : List ℕ) (b : ℕ) (more : 128 ≤ b) where
+  tail_wide : (l : Last (xs ++ b ∷ [])) (lead : ℕ) (rest : List ℕ) (last : ℕ) → 192 ≤ lead → Later rest → length rest ≤ 2
+      → l.c ≡ code_of (lead ∷ rest) last → encode_utf8 l.c ≡ (lead ∷ rest) ++ last ∷ [] → Tail xs b
+  tail_wide l lead rest last high low few value e =
+      let all = same_from_push xs (l.front ++ lead ∷ rest) b last (l.split ∙ ap (λ ys. l.front ++ ys) e ∙ sym (append_assoc l.front (lead ∷ rest) (last ∷ []))) in
+      tail l.front lead rest high low few l.utf8 all.0 (subst (λ y. Spells ((lead ∷ rest) ++ y ∷ []) (code_of (lead ∷ rest) y)) (sym all.1) (spells _ l.c _ l.is value e))
 
-  tail_by : 128 ≤ b → Last (xs ++ b ∷ []) → Tail xs b
-  tail_by more l =
+  tail_cases : (l : Last (xs ++ b ∷ [])) → Wide l.c → Tail xs b
+  tail_cases l (two a d low high value e) = tail_wide l a [] d low tt (omega arith) value e
+  tail_cases l (three a d f low high last mid value e) = tail_wide l a (d ∷ []) f (omega (arith, low)) (mid, tt) (omega arith) value e
+  tail_cases l (four a d f h low mid last value e) = tail_wide l a (d ∷ f ∷ []) h (omega (arith, low)) (mid, (last, tt)) (omega arith) value e
+
+  tail_by : Last (xs ++ b ∷ []) → Tail xs b
+  tail_by l =
       ⊎_elim
       (λ low. absurd (let same = (same_from_push xs l.front b l.c (l.split ∙ ap (λ ys. l.front ++ ys) (encode_ascii l.c low))).1 in omega (arith, same, low, more)))
-      (λ high. tail_wide l (wide l.c l.is high))
+      (λ high. tail_cases l (wide l.c l.is high))
       (cases_lt l.c 128)
 
-  tail_spelled : 128 ≤ b → (cs : List ℕ) → all_scalars cs ≡ true → encode_utf8_all cs ≡ xs ++ b ∷ [] → Tail xs b
-  tail_spelled more [] all spell = absurd (let size = ap length spell ∙ length-append xs (b ∷ []) in omega (arith, size))
-  tail_spelled more (c ∷ cs) all spell = tail_by more (subst Last spell (last_of c cs all))
-
-  tail_of : 128 ≤ b → IsUtf8 (xs ++ b ∷ []) → Tail xs b
-  tail_of more u = tail_spelled more u.0 u.1.0 u.1.1
-
-some : (xs ys : List ℕ) (a : ℕ) → xs ≡ ys ++ a ∷ [] → 0 < length xs
-some xs ys a e = let size = ap length e ∙ length-append ys (a ∷ []) in omega (arith, size)
+  tail_of : IsUtf8 (xs ++ b ∷ []) → Tail xs b
+  tail_of ([], (all, spell)) = absurd (let size = ap length spell ∙ length-append xs (b ∷ []) in omega (arith, size))
+  tail_of (c ∷ cs, (all, spell)) = tail_by (subst Last spell (last_of c cs all))
 
 -- what is left when an ASCII character was popped
 pub popped_ascii : (xs : List ℕ) (b : ℕ) → b < 128 → IsUtf8 (xs ++ b ∷ []) → IsUtf8 xs
@@ -126,176 +137,86 @@ popped_ascii xs b low u =
     let cut = IsCharBoundary-before_ascii (xs ++ b ∷ []) (length xs) (omega (arith, size)) (omega (arith, at, low)) in
     subst IsUtf8 (take_at xs (b ∷ []) (length xs) refl) (IsUtf8-take (xs ++ b ∷ []) (length xs) u cut)
 
--- what is left when all bytes of the last character were popped
-pub record Popped (xs bytes : List ℕ) (code : ℕ) : Type 0 where
+-- all bytes of the last character were popped off ws, and before that b, its last byte; xs is left
+pub record Popped (ws : List ℕ) (b : ℕ) (xs : List ℕ) (code : ℕ) : Type 0 where
   pub front : IsUtf8 xs
-  pub spells : Spells bytes code
+  pub scalar : IsScalar code
+  pub parts : ws ++ b ∷ [] ≡ xs ++ encode_utf8 code
 
-module _ (xs : List ℕ) (b : ℕ) (more : 128 ≤ b) where
-  pub second_byte : IsUtf8 (xs ++ b ∷ []) → 0 < length xs
-  second_byte u = by (tail_of xs b more u)
+-- xs and some later bytes ended with a character, of which b is the last byte
+module _ (b : ℕ) (more : 128 ≤ b) (ws : List ℕ) (u : IsUtf8 (ws ++ b ∷ [])) (xs : List ℕ) where
+  -- no byte of these begins it
+  pub byte_ahead : (later : List ℕ) → Later later → ws ≡ xs ++ later → 0 < length xs
+  byte_ahead later low is = by (tail_of ws b more u)
     where
-      by : Tail xs b → 0 < length xs
-      by (tail2 front a low uf e s) = some xs front a e
-      by (tail3 front a d low mid uf e s) = some xs (front ++ a ∷ []) d e
-      by (tail4 front a d f mid last uf e s) = some xs (front ++ a ∷ [] ++ d ∷ []) f e
+      by : Tail ws b → 0 < length xs
+      by (tail front lead rest high rest_low few utf8 split s) =
+          let same = sym is ∙ split in
+          omega (arith, behind_lead xs later front lead rest high low same, ap length same, length-append xs later, length-append front (lead ∷ rest))
 
-  pub popped_two : (a : ℕ) → 192 ≤ a → IsUtf8 (xs ++ a ∷ [] ++ b ∷ []) → Popped xs (a ∷ b ∷ []) (a % 32 * 64 + b % 64)
-  popped_two a lead u = by (tail_of (xs ++ a ∷ []) b more u)
+  -- the fourth byte from the end begins it if no later one does
+  pub fourth_leads : (a d f : ℕ) → d < 192 → f < 192 → ws ≡ xs ++ a ∷ d ∷ f ∷ [] → 192 ≤ a
+  fourth_leads a d f first second is = by (tail_of ws b more u) (cases_lt a 192)
     where
-      by : Tail (xs ++ a ∷ []) b → Popped xs (a ∷ b ∷ []) (a % 32 * 64 + b % 64)
-      by (tail2 front p low uf e s) =
-          let same = same_from_push xs front a p e in
-          record { front = subst IsUtf8 (sym same.0) uf; spells = subst (λ y. Spells (y ∷ b ∷ []) (y % 32 * 64 + b % 64)) (sym same.1) s }
-      by (tail3 front p d low mid uf e s) = absurd (let same = (same_from_push xs (front ++ p ∷ []) a d e).1 in omega (arith, same, mid, lead))
-      by (tail4 front p d f mid last uf e s) = absurd (let same = (same_from_push xs (front ++ p ∷ [] ++ d ∷ []) a f e).1 in omega (arith, same, last, lead))
+      by : Tail ws b → (a < 192) ⊎ (192 ≤ a) → 192 ≤ a
+      by t (inr lead) = lead
+      by (tail front lead rest high rest_low few utf8 split s) (inl less) =
+          absurd (let behind = behind_lead xs (a ∷ d ∷ f ∷ []) front lead rest high (less, (first, (second, tt))) (sym is ∙ split) in omega (arith, behind, few))
 
-  module _ (d : ℕ) (mid : d < 192) where
-    pub third_byte : IsUtf8 (xs ++ d ∷ [] ++ b ∷ []) → 0 < length xs
-    third_byte u = by (tail_of (xs ++ d ∷ []) b more u)
-      where
-        by : Tail (xs ++ d ∷ []) b → 0 < length xs
-        by (tail2 front p low uf e s) = absurd (let same = (same_from_push xs front d p e).1 in omega (arith, same, mid, low))
-        by (tail3 front p q low small uf e s) = some xs front p (same_from_push xs (front ++ p ∷ []) d q e).0
-        by (tail4 front p q f small last uf e s) = some xs (front ++ p ∷ []) q (same_from_push xs (front ++ p ∷ [] ++ q ∷ []) d f e).0
+  -- a begins it
+  pub popped : (a : ℕ) (later : List ℕ) → 192 ≤ a → Later later → ws ≡ xs ++ a ∷ later → Popped ws b xs (code_of (a ∷ later) b)
+  popped a later begins low is = by (tail_of ws b more u)
+    where
+      by : Tail ws b → Popped ws b xs (code_of (a ∷ later) b)
+      by (tail front lead rest high rest_low few utf8 split s) =
+          let same = sym is ∙ split in
+          let n = length xs in
+          let first = behind_lead (xs ++ a ∷ []) later front lead rest high low (append_assoc xs (a ∷ []) later ∙ same) in
+          let last = behind_lead (front ++ lead ∷ []) rest xs a later begins rest_low (append_assoc front (lead ∷ []) rest ∙ sym same) in
+          let long : length front ≡ n = omega (arith, first, last, ap length same, length-append xs (a ∷ later), length-append front (lead ∷ rest)) in
+          let left : xs ≡ front = sym (take_at xs (a ∷ later) n refl) ∙ ap (take n) same ∙ take_at front (lead ∷ rest) n long in
+          let own : a ∷ later ≡ lead ∷ rest = sym (drop_at xs (a ∷ later) n refl) ∙ ap (drop n) same ∙ drop_at front (lead ∷ rest) n long in
+          let spells = subst (λ l. Spells (l ++ b ∷ []) (code_of l b)) (sym own) s in
+          record {
+            front = subst IsUtf8 (sym left) utf8;
+            scalar = spells.scalar;
+            parts = ap (λ l. l ++ b ∷ []) is ∙ append_assoc xs (a ∷ later) (b ∷ []) ∙ ap (λ l. xs ++ l) (sym spells.encoded);
+          }
 
-    pub popped_three : (a : ℕ) → 192 ≤ a → IsUtf8 (xs ++ a ∷ [] ++ d ∷ [] ++ b ∷ []) → Popped xs (a ∷ d ∷ b ∷ []) (a % 16 * 4096 + (d % 64 * 64 + b % 64))
-    popped_three a lead u = by (tail_of (xs ++ a ∷ [] ++ d ∷ []) b more u)
-      where
-        by : Tail (xs ++ a ∷ [] ++ d ∷ []) b → Popped xs (a ∷ d ∷ b ∷ []) (a % 16 * 4096 + (d % 64 * 64 + b % 64))
-        by (tail2 front p low uf e s) = absurd (let same = (same_from_push (xs ++ a ∷ []) front d p e).1 in omega (arith, same, mid, low))
-        by (tail3 front p q low small uf e s) =
-            let last = same_from_push (xs ++ a ∷ []) (front ++ p ∷ []) d q e in
-            let same = same_from_push xs front a p last.0 in
-            record {
-              front = subst IsUtf8 (sym same.0) uf;
-              spells = subst (λ y. Spells (y ∷ d ∷ b ∷ []) (y % 16 * 4096 + (d % 64 * 64 + b % 64))) (sym same.1)
-                  (subst (λ y. Spells (p ∷ y ∷ b ∷ []) (p % 16 * 4096 + (y % 64 * 64 + b % 64))) (sym last.1) s);
-            }
-        by (tail4 front p q f small low uf e s) =
-            absurd (let last = same_from_push (xs ++ a ∷ []) (front ++ p ∷ [] ++ q ∷ []) d f e in
-            let same = (same_from_push xs (front ++ p ∷ []) a q last.0).1 in omega (arith, same, small, lead))
+-- what the first byte of a text says that is not ASCII: how many bytes the first character has, and which it is
+pub record FirstWide (bs : List ℕ) : Type 0 where
+  pub second : 1 < length bs
+  pub third : 224 ≤ get_or bs 0 0 → 2 < length bs
+  pub fourth : 240 ≤ get_or bs 0 0 → 3 < length bs
+  pub two : get_or bs 0 0 < 224 → IsFirstChar bs (get_or bs 0 0 % 32 * 64 + get_or bs 1 0 % 64) 2
+  pub three : 224 ≤ get_or bs 0 0 → get_or bs 0 0 < 240 → IsFirstChar bs (get_or bs 0 0 % 16 * 4096 + (get_or bs 1 0 % 64 * 64 + get_or bs 2 0 % 64)) 3
+  pub four : 240 ≤ get_or bs 0 0 → IsFirstChar bs (get_or bs 0 0 % 8 * 262144 + get_or bs 1 0 % 64 * 4096 + (get_or bs 2 0 % 64 * 64 + get_or bs 3 0 % 64)) 4
 
-    module _ (f : ℕ) (low : f < 192) where
-      pub fourth_byte : IsUtf8 (xs ++ f ∷ [] ++ d ∷ [] ++ b ∷ []) → 0 < length xs
-      fourth_byte u = by (tail_of (xs ++ f ∷ [] ++ d ∷ []) b more u)
-        where
-          by : Tail (xs ++ f ∷ [] ++ d ∷ []) b → 0 < length xs
-          by (tail2 front p lead uf e s) = absurd (let same = (same_from_push (xs ++ f ∷ []) front d p e).1 in omega (arith, same, mid, lead))
-          by (tail3 front p q lead small uf e s) =
-              absurd (let last = same_from_push (xs ++ f ∷ []) (front ++ p ∷ []) d q e in
-              let same = (same_from_push xs front f p last.0).1 in omega (arith, same, low, lead))
-          by (tail4 front p q h small last uf e s) =
-              some xs front p (same_from_push xs (front ++ p ∷ []) f q (same_from_push (xs ++ f ∷ []) (front ++ p ∷ [] ++ q ∷ []) d h e).0).0
+begins : (bytes rest : List ℕ) (code : ℕ) → Spells bytes code → IsUtf8 rest → 0 < length bytes → IsFirstChar (bytes ++ rest) code (length bytes)
+begins bytes rest code s u some = record {
+  encoded = take_at bytes rest (length bytes) refl ∙ sym s.encoded;
+  rest = subst IsUtf8 (sym (drop_at bytes rest (length bytes) refl)) u;
+  scalar = s.scalar;
+  positive = some;
+  in_bounds = omega (arith, length-append bytes rest);
+}
 
-      pub popped_four : (a : ℕ) → IsUtf8 (xs ++ a ∷ [] ++ f ∷ [] ++ d ∷ [] ++ b ∷ [])
-          → Popped xs (a ∷ f ∷ d ∷ b ∷ []) (a % 8 * 262144 + f % 64 * 4096 + (d % 64 * 64 + b % 64))
-      popped_four a u = by (tail_of (xs ++ a ∷ [] ++ f ∷ [] ++ d ∷ []) b more u)
-        where
-          by : Tail (xs ++ a ∷ [] ++ f ∷ [] ++ d ∷ []) b → Popped xs (a ∷ f ∷ d ∷ b ∷ []) (a % 8 * 262144 + f % 64 * 4096 + (d % 64 * 64 + b % 64))
-          by (tail2 front p lead uf e s) = absurd (let same = (same_from_push (xs ++ a ∷ [] ++ f ∷ []) front d p e).1 in omega (arith, same, mid, lead))
-          by (tail3 front p q lead small uf e s) =
-              absurd (let last = same_from_push (xs ++ a ∷ [] ++ f ∷ []) (front ++ p ∷ []) d q e in
-              let same = (same_from_push (xs ++ a ∷ []) front f p last.0).1 in omega (arith, same, low, lead))
-          by (tail4 front p q h small last uf e s) =
-              let third = same_from_push (xs ++ a ∷ [] ++ f ∷ []) (front ++ p ∷ [] ++ q ∷ []) d h e in
-              let second = same_from_push (xs ++ a ∷ []) (front ++ p ∷ []) f q third.0 in
-              let first = same_from_push xs front a p second.0 in
-              record {
-                front = subst IsUtf8 (sym first.0) uf;
-                spells = subst (λ y. Spells (y ∷ f ∷ d ∷ b ∷ []) (y % 8 * 262144 + f % 64 * 4096 + (d % 64 * 64 + b % 64))) (sym first.1)
-                    (subst (λ y. Spells (p ∷ y ∷ d ∷ b ∷ []) (p % 8 * 262144 + y % 64 * 4096 + (d % 64 * 64 + b % 64))) (sym second.1)
-                    (subst (λ y. Spells (p ∷ q ∷ y ∷ b ∷ []) (p % 8 * 262144 + q % 64 * 4096 + (y % 64 * 64 + b % 64))) (sym third.1) s));
-              }
+first_cases : (rest : List ℕ) (c : ℕ) → IsScalar c → IsUtf8 rest → Wide c → FirstWide (encode_utf8 c ++ rest)
+first_cases rest c is u (two a b low high value e) =
+    let here = begins (a ∷ b ∷ []) rest _ (spells _ c _ is value e) u (omega arith) in
+    subst (λ l. FirstWide (l ++ rest)) (sym e) (grind arith)
+first_cases rest c is u (three a b d low high last mid value e) =
+    let here = begins (a ∷ b ∷ d ∷ []) rest _ (spells _ c _ is value e) u (omega arith) in
+    subst (λ l. FirstWide (l ++ rest)) (sym e) (grind arith)
+first_cases rest c is u (four a b d f low mid last value e) =
+    let here = begins (a ∷ b ∷ d ∷ f ∷ []) rest _ (spells _ c _ is value e) u (omega arith) in
+    subst (λ l. FirstWide (l ++ rest)) (sym e) (grind arith)
 
--- the first character
-data Head (bs : List ℕ) : Type 0 where
-  head2 : (a b : ℕ) (rest : List ℕ) → a < 224 → IsUtf8 rest → bs ≡ a ∷ b ∷ rest → Spells (a ∷ b ∷ []) (a % 32 * 64 + b % 64) → Head bs
-  head3 : (a b d : ℕ) (rest : List ℕ) → 224 ≤ a → a < 240 → IsUtf8 rest → bs ≡ a ∷ b ∷ d ∷ rest
-      → Spells (a ∷ b ∷ d ∷ []) (a % 16 * 4096 + (b % 64 * 64 + d % 64)) → Head bs
-  head4 : (a b d e : ℕ) (rest : List ℕ) → 240 ≤ a → IsUtf8 rest → bs ≡ a ∷ b ∷ d ∷ e ∷ rest
-      → Spells (a ∷ b ∷ d ∷ e ∷ []) (a % 8 * 262144 + b % 64 * 4096 + (d % 64 * 64 + e % 64)) → Head bs
-
-head_wide : (bs rest : List ℕ) (c : ℕ) → IsScalar c → IsUtf8 rest → bs ≡ encode_utf8 c ++ rest → Wide c → Head bs
-head_wide bs rest c is u split (two a b low high value e) = head2 a b rest high u (split ∙ ap (λ l. l ++ rest) e) (spells _ c _ is value e)
-head_wide bs rest c is u split (three a b d low high last mid value e) =
-    head3 a b d rest low high u (split ∙ ap (λ l. l ++ rest) e) (spells _ c _ is value e)
-head_wide bs rest c is u split (four a b d f low mid last value e) =
-    head4 a b d f rest low u (split ∙ ap (λ l. l ++ rest) e) (spells _ c _ is value e)
-
-head_spelled : (bs cs : List ℕ) → all_scalars cs ≡ true → encode_utf8_all cs ≡ bs → 0 < length bs → 128 ≤ get_or bs 0 0 → Head bs
-head_spelled bs [] all spell some more = absurd (let size = ap length spell in omega (arith, size, some))
-head_spelled bs (c ∷ cs) all spell some more =
+pub first_of : (bs : List ℕ) → IsUtf8 bs → 0 < length bs → 128 ≤ get_or bs 0 0 → FirstWide bs
+first_of bs ([], (all, spell)) some more = absurd (let size = ap length spell in omega (arith, size, some))
+first_of bs (c ∷ cs, (all, spell)) some more =
     let both = and_parts _ _ all in
     ⊎_elim
     (λ low. absurd (let same = byte_from_char bs (encode_utf8_all cs) c (sym spell) low in omega (arith, same, low, more)))
-    (λ high. head_wide bs (encode_utf8_all cs) c both.0 (cs, (both.1, λ i. encode_utf8_all cs)) (sym spell) (wide c both.0 high))
+    (λ high. subst FirstWide spell (first_cases (encode_utf8_all cs) c both.0 (cs, (both.1, refl)) (wide c both.0 high)))
     (cases_lt c 128)
-
-module _ (bs : List ℕ) (u : IsUtf8 bs) (some : 0 < length bs) (more : 128 ≤ get_or bs 0 0) where
-  head : Head bs
-  head = head_spelled bs u.0 u.1.0 u.1.1 some more
-
-  -- it takes more bytes the higher the first one is
-  pub longer : (1 < length bs) × (224 ≤ get_or bs 0 0 → 2 < length bs) × (240 ≤ get_or bs 0 0 → 3 < length bs)
-  longer = by head
-    where
-      by : Head bs → (1 < length bs) × (224 ≤ get_or bs 0 0 → 2 < length bs) × (240 ≤ get_or bs 0 0 → 3 < length bs)
-      by (head2 a b rest high ur e s) =
-          let size = ap length e in
-          let first = ap (λ l. get_or l 0 0) e in
-          (omega (arith, size), (λ h. absurd (omega (arith, first, h, high))), λ h. absurd (omega (arith, first, h, high)))
-      by (head3 a b d rest low high ur e s) =
-          let size = ap length e in
-          let first = ap (λ l. get_or l 0 0) e in (omega (arith, size), (λ h. omega (arith, size)), λ h. absurd (omega (arith, first, h, high)))
-      by (head4 a b d f rest low ur e s) = let size = ap length e in (omega (arith, size), (λ h. omega (arith, size)), λ h. omega (arith, size))
-
-  pub first_two : get_or bs 0 0 < 224 → IsFirstChar bs (get_or bs 0 0 % 32 * 64 + get_or bs 1 0 % 64) 2
-  first_two under = by head
-    where
-      by : Head bs → IsFirstChar bs (get_or bs 0 0 % 32 * 64 + get_or bs 1 0 % 64) 2
-      by (head2 a b rest high ur e s) =
-          subst (λ l. IsFirstChar l (get_or l 0 0 % 32 * 64 + get_or l 1 0 % 64) 2) (sym e)
-          (record { encoded = sym s.encoded; rest = ur; scalar = s.scalar; positive = omega arith; in_bounds = omega arith })
-      by (head3 a b d rest low high ur e s) = absurd (let first = ap (λ l. get_or l 0 0) e in omega (arith, first, under, low))
-      by (head4 a b d f rest low ur e s) = absurd (let first = ap (λ l. get_or l 0 0) e in omega (arith, first, under, low))
-
-  pub first_three : 224 ≤ get_or bs 0 0 → get_or bs 0 0 < 240 → IsFirstChar bs (get_or bs 0 0 % 16 * 4096 + (get_or bs 1 0 % 64 * 64 + get_or bs 2 0 % 64)) 3
-  first_three over under = by head
-    where
-      by : Head bs → IsFirstChar bs (get_or bs 0 0 % 16 * 4096 + (get_or bs 1 0 % 64 * 64 + get_or bs 2 0 % 64)) 3
-      by (head2 a b rest high ur e s) = absurd (let first = ap (λ l. get_or l 0 0) e in omega (arith, first, over, high))
-      by (head3 a b d rest low high ur e s) =
-          subst (λ l. IsFirstChar l (get_or l 0 0 % 16 * 4096 + (get_or l 1 0 % 64 * 64 + get_or l 2 0 % 64)) 3) (sym e)
-          (record { encoded = sym s.encoded; rest = ur; scalar = s.scalar; positive = omega arith; in_bounds = omega arith })
-      by (head4 a b d f rest low ur e s) = absurd (let first = ap (λ l. get_or l 0 0) e in omega (arith, first, under, low))
-
-  pub first_four : 240 ≤ get_or bs 0 0
-      → IsFirstChar bs (get_or bs 0 0 % 8 * 262144 + get_or bs 1 0 % 64 * 4096 + (get_or bs 2 0 % 64 * 64 + get_or bs 3 0 % 64)) 4
-  first_four over = by head
-    where
-      by : Head bs → IsFirstChar bs (get_or bs 0 0 % 8 * 262144 + get_or bs 1 0 % 64 * 4096 + (get_or bs 2 0 % 64 * 64 + get_or bs 3 0 % 64)) 4
-      by (head2 a b rest high ur e s) = absurd (let first = ap (λ l. get_or l 0 0) e in omega (arith, first, over, high))
-      by (head3 a b d rest low high ur e s) = absurd (let first = ap (λ l. get_or l 0 0) e in omega (arith, first, over, high))
-      by (head4 a b d f rest low ur e s) =
-          subst (λ l. IsFirstChar l (get_or l 0 0 % 8 * 262144 + get_or l 1 0 % 64 * 4096 + (get_or l 2 0 % 64 * 64 + get_or l 3 0 % 64)) 4) (sym e)
-          (record { encoded = sym s.encoded; rest = ur; scalar = s.scalar; positive = omega arith; in_bounds = omega arith })
-
--- the bytes that are written for a character
-pub spelled_two : (c : ℕ) → 128 ≤ c → c < 2048 → encode_utf8 c ≡ (192 + c / 64) ∷ (128 + c % 64) ∷ []
-unfolding encode_utf8
-spelled_two c more low =
-    cond-false _ _ _ (by (ltb c 128 ≡ false) (grind (arith, nat_tests))) ∙ cond-true _ _ _ (by (ltb c 2048 ≡ true) (grind (arith, nat_tests)))
-
-pub spelled_three : (c : ℕ) → 2048 ≤ c → c < 65536 → encode_utf8 c ≡ (224 + c / 4096) ∷ (128 + c / 64 % 64) ∷ (128 + c % 64) ∷ []
-unfolding encode_utf8
-spelled_three c more low =
-    cond-false _ _ _ (by (ltb c 128 ≡ false) (grind (arith, nat_tests))) ∙ cond-false _ _ _ (by (ltb c 2048 ≡ false) (grind (arith, nat_tests)))
-    ∙ cond-true _ _ _ (by (ltb c 65536 ≡ true) (grind (arith, nat_tests)))
-
-pub spelled_four : (c : ℕ) → 65536 ≤ c
-    → encode_utf8 c ≡ (240 + c / 262144) ∷ (128 + c / 4096 % 64) ∷ (128 + c / 64 % 64) ∷ (128 + c % 64) ∷ []
-unfolding encode_utf8
-spelled_four c more =
-    cond-false _ _ _ (by (ltb c 128 ≡ false) (grind (arith, nat_tests))) ∙ cond-false _ _ _ (by (ltb c 2048 ≡ false) (grind (arith, nat_tests)))
-    ∙ cond-false _ _ _ (by (ltb c 65536 ≡ false) (grind (arith, nat_tests)))

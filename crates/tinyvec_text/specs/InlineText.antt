@@ -1,5 +1,5 @@
 -- What a contract sees of an `InlineText`: its bytes, and where they are.
-use Rattle.std.specs.Prelude.{◌≡◌, ℕ, ◌+◌, ◌*◌, ◌<◌, ◌≤◌, ◌↔◌, ◌&&◌, nat_le, if◌then◌else◌, max, List, [], ◌∷◌, ◌++◌, length, take, drop, All, Bool, true, false, IsTrue, Result, OnOk, chars, encode_utf8, encode_utf8_all, IsUtf8}
+use Rattle.std.specs.Prelude.{◌≡◌, ℕ, ◌+◌, ◌-◌, ◌*◌, ◌<◌, ◌≤◌, ◌↔◌, ◌&&◌, nat_le, if◌then◌else◌, max, List, [], ◌∷◌, ◌++◌, length, take, drop, All, Bool, true, false, IsTrue, Result, is_ok, OnOk, chars, encode_utf8, encode_utf8_all, IsUtf8}
 use Rattle.std.specs.Char.{IsScalar}
 use Rattle.std.specs.Fn.{Called}
 use Rattle.std.specs.Str.{all_scalars}
@@ -9,7 +9,7 @@ use denote.Param.Members.{Mut}
 use Rattle.tinyvec_array.specs.declared.bound.UpTo.{UpTo}
 use Rattle.tinyvec.specs.View.{Place, in_array, on_heap, lies_inline, capacity_in, TinyView, PlaceRule}
 use Rattle.tinyvec.specs.Room.{MakesRoom}
-use Rattle.tinyvec.specs.TinyVec.{tiny_items, tiny_spare, tiny_view}
+use Rattle.tinyvec.specs.TinyVec.{tiny_items, tiny_len, tiny_spare, tiny_capacity, tiny_view, is_inline, IsInline}
 use Rattle.tinyvec.specs.declared.tiny_vec.TinyVec.{TinyVec}
 
 -- the UTF-8 bytes of the text, and their place
@@ -21,11 +21,18 @@ pub record Text : Type 0 where
 abbrev pub Bytes : ℕ → Type 0
 Bytes n = TinyVec (List ℕ) ℕ (UpTo n)
 
--- A call that added n bytes took `old` to `new`, whose list is xs: they use up the first n spare slots, and the list fits in the slots.
-pub record AddsBytes (slots n : ℕ) (old new : Slots ℕ) (xs : List ℕ) : Type 0 where
+-- A call that added bytes took `old` to `new`, whose list is xs: they use up as many of the first spare slots.
+pub record AddsBytes (old new : Slots ℕ) (xs : List ℕ) : Type 0 where
   pub items : items_in new ≡ xs
-  pub spare : spare_in new ≡ drop n (spare_in old)
-  pub fits : len_in new ≤ slots
+  pub spare : spare_in new ≡ drop (len_in new - len_in old) (spare_in old)
+  pub slot_count : length new.slots ≡ length old.slots
+  pub fits : len_in new ≤ length old.slots
+
+-- A call that needs room for n more bytes took `old` to `new`, with this result: the list is xs, or unchanged if the allocator refused.
+pub record InsertsBytes {X E : Type 0} (slots n : ℕ) (old new : Bytes slots) (result : Result X E) (xs : List ℕ) : Type 0 where
+  pub items : tiny_items new ≡ (if is_ok result then xs else tiny_items old)
+  pub room : MakesRoom (is_inline old) (tiny_len old + n) (tiny_view old) (tiny_view new) result
+  pub inline_capacity : IsInline old → tiny_capacity old ≡ slots
 
 -- a list of bytes as a text
 abbrev pub text_of : {n : ℕ} → Bytes n → Text

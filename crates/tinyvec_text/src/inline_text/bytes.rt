@@ -3,9 +3,8 @@ ghost use Rattle.std.specs.Prelude.{◌≡◌, ◌+◌, ◌-◌, ◌*◌, ◌≤
 ghost use Rattle.tinyvec_slots.specs.Slots.{SlotRule};
 ghost use Rattle.tinyvec_array.specs.ArrayVec.{items, items_len, all_slots, spare, view};
 ghost use Rattle.tinyvec.specs.TinyVec.{tiny_items, tiny_len, tiny_spare, tiny_capacity, is_inline, IsInline, tiny_view};
-ghost use Rattle.tinyvec_text.specs.InlineText.{AddsBytes};
+ghost use Rattle.tinyvec_text.specs.InlineText.{AddsBytes, InsertsBytes};
 ghost use Rattle.tinyvec.specs.View.{IsTail, Becomes};
-ghost use Rattle.tinyvec.specs.Room.{MakesRoom};
 ghost use Rattle.tinyvec.specs.OnHeap.{HeapBecomes};
 
 use std::alloc::{AllocError, Global};
@@ -157,11 +156,8 @@ pub fn put_bytes<const N: usize>(
     bytes: &[u8],
 ) -> Result<(), AllocError>
     requires { index ≤ tiny_len list.old }
-    ensures items { tiny_items list.new ≡ (if is_ok result
-        then take index (tiny_items list.old) ++ bytes.now ++ drop index (tiny_items list.old) else tiny_items list.old) }
-    ensures room { MakesRoom (is_inline list.old) (tiny_len list.old + length bytes.now)
-        (tiny_view list.old) (tiny_view list.new) result }
-    ensures inline_capacity { IsInline list.old → tiny_capacity list.old ≡ N }
+    ensures { InsertsBytes N (length bytes.now) list.old list.new result
+        (take index (tiny_items list.old) ++ bytes.now ++ drop index (tiny_items list.old)) }
 {
     match list {
         TinyVec::Inline(v, _) if bytes.len() <= v.capacity() - v.len() => insert_inline(
@@ -186,10 +182,8 @@ pub fn put_byte<const N: usize>(
     byte: u8,
 ) -> Result<(), AllocError>
     requires { index ≤ tiny_len list.old }
-    ensures items { tiny_items list.new ≡ (if is_ok result
-        then take index (tiny_items list.old) ++ byte ∷ [] ++ drop index (tiny_items list.old) else tiny_items list.old) }
-    ensures room { MakesRoom (is_inline list.old) (tiny_len list.old + 1) (tiny_view list.old) (tiny_view list.new) result }
-    ensures inline_capacity { IsInline list.old → tiny_capacity list.old ≡ N }
+    ensures { InsertsBytes N 1 list.old list.new result
+        (take index (tiny_items list.old) ++ byte ∷ [] ++ drop index (tiny_items list.old)) }
 {
     match list {
         TinyVec::Inline(v, _) if v.len() < v.capacity() => insert_inline(v, index, &[byte]),
@@ -210,10 +204,8 @@ fn put_byte_slow<const N: usize>(
     byte: u8,
 ) -> Result<(), AllocError>
     requires { index ≤ tiny_len list.old }
-    ensures items { tiny_items list.new ≡ (if is_ok result
-        then take index (tiny_items list.old) ++ byte ∷ [] ++ drop index (tiny_items list.old) else tiny_items list.old) }
-    ensures room { MakesRoom (is_inline list.old) (tiny_len list.old + 1) (tiny_view list.old) (tiny_view list.new) result }
-    ensures inline_capacity { IsInline list.old → tiny_capacity list.old ≡ N }
+    ensures { InsertsBytes N 1 list.old list.new result
+        (take index (tiny_items list.old) ++ byte ∷ [] ++ drop index (tiny_items list.old)) }
 {
     put_bytes(list, index, &[byte])
 }
@@ -223,9 +215,7 @@ fn put_byte_slow<const N: usize>(
 fn insert_inline<const N: usize>(v: &mut ArrayVec<[u8; N]>, index: usize, bytes: &[u8])
     requires in_list { index ≤ items_len v.old }
     requires room { length bytes.now ≤ length (all_slots v.old) - items_len v.old }
-    ensures gains { AddsBytes (length (all_slots v.old)) (length bytes.now) (view v.old) (view v.new)
-        (take index (items v.old) ++ bytes.now ++ drop index (items v.old)) }
-    ensures slot_count { length (all_slots v.new) ≡ length (all_slots v.old) }
+    ensures { AddsBytes (view v.old) (view v.new) (take index (items v.old) ++ bytes.now ++ drop index (items v.old)) }
 {
     let len = v.len();
     v.set_len(len + bytes.len());
@@ -317,11 +307,7 @@ pub fn push_bytes<const N: usize>(
     bytes: &[u8],
     each: bool,
 ) -> Result<(), AllocError>
-    ensures items { tiny_items list.new
-        ≡ (if is_ok result then tiny_items list.old ++ bytes.now else tiny_items list.old) }
-    ensures room { MakesRoom (is_inline list.old) (tiny_len list.old + length bytes.now)
-        (tiny_view list.old) (tiny_view list.new) result }
-    ensures inline_capacity { IsInline list.old → tiny_capacity list.old ≡ N }
+    ensures { InsertsBytes N (length bytes.now) list.old list.new result (tiny_items list.old ++ bytes.now) }
 {
     match list {
         TinyVec::Inline(v, _) if bytes.len() <= v.capacity() - v.len() => append_inline(v, bytes),
@@ -341,11 +327,8 @@ pub fn push_part<const N: usize>(
     count: usize,
 ) -> Result<(), AllocError>
     requires { start + count ≤ tiny_len list.old }
-    ensures items { tiny_items list.new ≡ (if is_ok result
-        then tiny_items list.old ++ take count (drop start (tiny_items list.old)) else tiny_items list.old) }
-    ensures room { MakesRoom (is_inline list.old) (tiny_len list.old + count)
-        (tiny_view list.old) (tiny_view list.new) result }
-    ensures inline_capacity { IsInline list.old → tiny_capacity list.old ≡ N }
+    ensures { InsertsBytes N count list.old list.new result
+        (tiny_items list.old ++ take count (drop start (tiny_items list.old))) }
 {
     match list {
         TinyVec::Inline(v, _) if count <= v.capacity() - v.len() => repeat_inline(v, start, count),
@@ -364,11 +347,8 @@ fn push_part_slow<const N: usize>(
     count: usize,
 ) -> Result<(), AllocError>
     requires { start + count ≤ tiny_len list.old }
-    ensures items { tiny_items list.new ≡ (if is_ok result
-        then tiny_items list.old ++ take count (drop start (tiny_items list.old)) else tiny_items list.old) }
-    ensures room { MakesRoom (is_inline list.old) (tiny_len list.old + count)
-        (tiny_view list.old) (tiny_view list.new) result }
-    ensures inline_capacity { IsInline list.old → tiny_capacity list.old ≡ N }
+    ensures { InsertsBytes N count list.old list.new result
+        (tiny_items list.old ++ take count (drop start (tiny_items list.old))) }
 {
     list.reserve(count)?;
     match list {
@@ -383,9 +363,7 @@ fn push_part_slow<const N: usize>(
 fn repeat_inline<const N: usize>(v: &mut ArrayVec<[u8; N]>, start: usize, count: usize)
     requires in_list { start + count ≤ items_len v.old }
     requires room { count ≤ length (all_slots v.old) - items_len v.old }
-    ensures gains { AddsBytes (length (all_slots v.old)) count (view v.old) (view v.new)
-        (items v.old ++ take count (drop start (items v.old))) }
-    ensures slot_count { length (all_slots v.new) ≡ length (all_slots v.old) }
+    ensures { AddsBytes (view v.old) (view v.new) (items v.old ++ take count (drop start (items v.old))) }
 {
     let len = v.len();
     v.set_len(len + count);
@@ -462,11 +440,7 @@ pub fn append_bytes<const N: usize>(list: &mut TinyVec<[u8; N]>, bytes: &[u8], e
 #[cold]
 #[inline(never)]
 fn push_slow<const N: usize>(list: &mut TinyVec<[u8; N]>, bytes: &[u8]) -> Result<(), AllocError>
-    ensures items { tiny_items list.new
-        ≡ (if is_ok result then tiny_items list.old ++ bytes.now else tiny_items list.old) }
-    ensures room { MakesRoom (is_inline list.old) (tiny_len list.old + length bytes.now)
-        (tiny_view list.old) (tiny_view list.new) result }
-    ensures inline_capacity { IsInline list.old → tiny_capacity list.old ≡ N }
+    ensures { InsertsBytes N (length bytes.now) list.old list.new result (tiny_items list.old ++ bytes.now) }
 {
     list.reserve(bytes.len())?;
     append_bytes(list, bytes, false);
@@ -477,9 +451,7 @@ fn push_slow<const N: usize>(list: &mut TinyVec<[u8; N]>, bytes: &[u8]) -> Resul
 #[inline(always)]
 fn append_inline<const N: usize>(v: &mut ArrayVec<[u8; N]>, bytes: &[u8])
     requires { length bytes.now ≤ length (all_slots v.old) - items_len v.old }
-    ensures gains { AddsBytes (length (all_slots v.old)) (length bytes.now) (view v.old) (view v.new)
-        (items v.old ++ bytes.now) }
-    ensures slot_count { length (all_slots v.new) ≡ length (all_slots v.old) }
+    ensures { AddsBytes (view v.old) (view v.new) (items v.old ++ bytes.now) }
 {
     let len = v.len();
     insert_inline(v, len, bytes);

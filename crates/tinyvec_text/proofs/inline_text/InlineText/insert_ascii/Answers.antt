@@ -1,6 +1,5 @@
-use Rattle.std.proofs.Common.{◌≡◌, ◌++◌, ◌∷◌, [], encode_utf8, ap, sym, ◌∙◌, chars, take, drop, refl, rules}
-use Rattle.std.proofs.lemmas.Str.{IsUtf8-from_ascii, encode_ascii}
-use Rattle.tinyvec_text.proofs.Boundaries.{chars_of_one}
+use Rattle.std.proofs.Common.{◌++◌, ◌∷◌, [], ap, ◌∙◌, chars, take, drop, rules}
+use Rattle.tinyvec_text.proofs.Boundaries.{one_ascii}
 use Rattle.tinyvec_text.proofs.Lists.{text_cut, text_same, text_put, chars_between}
 use Rattle.tinyvec_text.proofs.inline_text.InlineText.insert_ascii.Goals as goal
 
@@ -13,17 +12,14 @@ invariant_of-self g c = text_same c.self.inside.list c.put_byte.new.list c.in_er
 pub invariant_of-self-2 : goal.invariant_of-self-2
 invariant_of-self-2 g c =
     let cut = text_cut c.self.inside.list c.args.self.now c.self.view_is c.self.invariant c.args.index c.requires.boundary in
-    let ascii = IsUtf8-from_ascii (c.args.ch ∷ []) (search rules) in
-    text_put c.self.inside.list c.put_byte.new.list c.args.self.now c.self.view_is c.self.invariant c.args.index c.args.index cut cut (c.args.ch ∷ [])
-    ascii (search rules) refl c.in_ok-put_byte.ensures.room.gets
+    text_put c.self.inside.list c.put_byte.new.list c.args.self.now c.self.view_is c.self.invariant c.args.index cut (c.args.ch ∷ [])
+    (one_ascii c.args.ch c.requires.ascii).0 (search rules) c.in_ok-put_byte.ensures.room.gets
 
 pub returns-clause-text : goal.returns-clause-text
 returns-clause-text g c =
     let bs = c.args.self.now.bytes in
     let i = c.args.index in
-    let x = c.args.ch in
+    let one = one_ascii c.args.ch c.requires.ascii in
     let cut = text_cut c.self.inside.list c.args.self.now c.self.view_is c.self.invariant i c.requires.boundary in
-    let ascii = IsUtf8-from_ascii (x ∷ []) (search rules) in
-    let own : x ∷ [] ≡ encode_utf8 x = sym (encode_ascii x c.requires.ascii) in
-    chars_between c.self.inside.list c.put_byte.new.list c.args.self.now c.self.view_is c.self.invariant i i cut cut (x ∷ []) ascii (search rules)
-    ∙ ap (λ cs. chars (take i bs) ++ cs ++ chars (drop i bs)) (chars_of_one (x ∷ []) x ascii own)
+    chars_between c.self.inside.list c.put_byte.new.list c.args.self.now c.self.view_is c.self.invariant i cut (c.args.ch ∷ []) one.0 (search rules)
+    ∙ ap (λ cs. chars (take i bs) ++ cs ++ chars (drop i bs)) one.1

@@ -1,4 +1,4 @@
-use Rattle.std.proofs.Common.{◌++◌, ap, ◌∙◌, chars, take, drop, refl, rules}
+use Rattle.std.proofs.Common.{◌++◌, ap, ◌∙◌, chars, take, drop, rules}
 use Rattle.tinyvec_text.proofs.Lists.{text_cut, text_same, text_put, chars_between}
 use Rattle.tinyvec_text.proofs.inline_text.InlineText.insert_str.Goals as goal
 
@@ -11,13 +11,13 @@ invariant_of-self g c = text_same c.self.inside.list c.put_bytes.new.list c.in_e
 pub invariant_of-self-2 : goal.invariant_of-self-2
 invariant_of-self-2 g c =
     let cut = text_cut c.self.inside.list c.args.self.now c.self.view_is c.self.invariant c.args.index c.requires in
-    text_put c.self.inside.list c.put_bytes.new.list c.args.self.now c.self.view_is c.self.invariant c.args.index c.args.index cut cut c.as_bytes.result.now
-    c.as_bytes.ensures.utf8 (search rules) refl c.in_ok-put_bytes.ensures.room.gets
+    text_put c.self.inside.list c.put_bytes.new.list c.args.self.now c.self.view_is c.self.invariant c.args.index cut c.as_bytes.result.now
+    c.as_bytes.ensures.utf8 (search rules) c.in_ok-put_bytes.ensures.room.gets
 
 pub returns-clause-text : goal.returns-clause-text
 returns-clause-text g c =
     let bs = c.args.self.now.bytes in
     let i = c.args.index in
     let cut = text_cut c.self.inside.list c.args.self.now c.self.view_is c.self.invariant i c.requires in
-    chars_between c.self.inside.list c.put_bytes.new.list c.args.self.now c.self.view_is c.self.invariant i i cut cut c.as_bytes.result.now
+    chars_between c.self.inside.list c.put_bytes.new.list c.args.self.now c.self.view_is c.self.invariant i cut c.as_bytes.result.now
     c.as_bytes.ensures.utf8 (search rules) ∙ ap (λ put. chars (take i bs) ++ chars put ++ chars (drop i bs)) c.as_bytes.ensures.value

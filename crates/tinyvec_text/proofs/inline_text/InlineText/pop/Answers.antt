@@ -1,9 +1,9 @@
 use Rattle.std.proofs.Common.{◌≡◌, ◌++◌, ◌∷◌, [], IsUtf8, encode_utf8, ap, sym, subst, ◌∙◌, chars, refl, arith, rules}
 use Rattle.std.specs.Char.{IsScalar}
-use Rattle.std.proofs.lemmas.Str.{IsUtf8-take, IsUtf8-from_ascii, IsUtf8-encode, chars-append, encode_ascii}
+use Rattle.std.proofs.lemmas.Str.{IsUtf8-take, IsUtf8-encode, chars-append}
 use Rattle.tinyvec.specs.TinyVec.{tiny_items}
 use Rattle.tinyvec_text.specs.InlineText.{text_chars}
-use Rattle.tinyvec_text.proofs.Boundaries.{chars_of_one}
+use Rattle.tinyvec_text.proofs.Boundaries.{chars_of_one, one_ascii}
 use Rattle.tinyvec_text.proofs.Lists.{text_utf8, text_stays, zero_becomes}
 use Rattle.tinyvec_text.proofs.Wide.{popped_ascii}
 use Rattle.tinyvec_text.proofs.inline_text.InlineText.pop.Goals as goal
@@ -30,7 +30,7 @@ returns-then-last-lt128-clause-text g c =
     let parts = c.in-Some.ensures.some in
     let front = popped_ascii left x low (subst IsUtf8 parts (text_utf8 list c.self.invariant)) in
     sym (ap text_chars c.self.view_is) ∙ ap chars parts ∙ chars-append left (x ∷ []) front
-    ∙ ap (λ cs. chars left ++ cs) (chars_of_one (x ∷ []) x (IsUtf8-from_ascii (x ∷ []) (search rules)) (sym (encode_ascii x low)))
+    ∙ ap (λ cs. chars left ++ cs) (one_ascii x low).1
 
 pub pop_wide-requires : goal.pop_wide-requires
 pop_wide-requires g c =

@@ -1,27 +1,24 @@
-use Rattle.std.proofs.Common.{◌≡◌, ◌++◌, ◌∷◌, [], ap, sym, ◌∙◌, chars, rules}
-use Rattle.std.proofs.lemmas.Str.{IsUtf8-append, IsUtf8-from_ascii, chars-append, encode_ascii}
-use Rattle.std.specs.Prelude.{encode_utf8}
+use Rattle.std.proofs.Common.{◌++◌, ◌∷◌, [], ap, ◌∙◌, chars, rules}
+use Rattle.std.proofs.lemmas.Str.{IsUtf8-append, chars-append, encode_ascii}
 use Rattle.tinyvec.specs.TinyVec.{tiny_items}
 use Rattle.tinyvec_text.specs.InlineText.{Text, text_chars}
-use Rattle.tinyvec_text.proofs.Boundaries.{chars_of_one}
+use Rattle.tinyvec_text.proofs.Boundaries.{chars_of_one, one_ascii}
 use Rattle.tinyvec_text.proofs.Lists.{text_utf8, text_stays}
 use Rattle.tinyvec_text.proofs.inline_text.InlineText.push_reserved.Goals as goal
 
 pub invariant_of-self : goal.invariant_of-self
 invariant_of-self g c =
-    let ascii = IsUtf8-from_ascii (c.args.ch ∷ []) (search rules) in
     text_stays c.self.inside.list c.push_reserved.new.self _ c.push_reserved.ensures c.self.invariant
-    (IsUtf8-append _ _ (text_utf8 c.self.inside.list c.self.invariant) ascii)
+    (IsUtf8-append _ _ (text_utf8 c.self.inside.list c.self.invariant) (one_ascii c.args.ch (search rules)).0)
 
 pub returns-then-is_ascii-clause-becomes : goal.returns-then-is_ascii-clause-becomes
 returns-then-is_ascii-clause-becomes g c =
     let list = c.self.inside.list in
-    let ascii = IsUtf8-from_ascii (c.args.ch ∷ []) (search rules) in
-    let own : encode_utf8 c.args.ch ≡ c.args.ch ∷ [] = encode_ascii c.args.ch (search rules) in
+    let own = encode_ascii c.args.ch (search rules) in
     record {
       bytes = search rules;
       text = ap chars c.push_reserved.ensures.items ∙ chars-append _ _ (text_utf8 list c.self.invariant)
-          ∙ ap (λ cs. chars (tiny_items list) ++ cs) (chars_of_one _ c.args.ch ascii (sym own)) ∙ ap (λ (t : Text). text_chars t ++ c.args.ch ∷ []) c.self.view_is;
+          ∙ ap (λ cs. chars (tiny_items list) ++ cs) (one_ascii c.args.ch (search rules)).1 ∙ ap (λ (t : Text). text_chars t ++ c.args.ch ∷ []) c.self.view_is;
       frame = search rules;
     }
 

@@ -3,21 +3,27 @@ use Rattle.tinyvec.specs.TinyVec.{tiny_items, tiny_len, tiny_view}
 use Rattle.tinyvec.proofs.ReplacingLemmas.{replaced_room}
 use Rattle.tinyvec_slots.specs.Ranges.{range_end}
 use Rattle.tinyvec_slots.proofs.Lists.{length-replaced}
-use Rattle.tinyvec_text.proofs.Boundaries.{utf8_put}
-use Rattle.tinyvec_text.proofs.Lists.{text_utf8, text_range, text_grown, text_same, text_stays, text_room, chars_between}
+use Rattle.tinyvec_text.proofs.Boundaries.{utf8_put, chars_put}
+use Rattle.tinyvec_text.proofs.Lists.{CutsAt, text_utf8, text_range, text_grown, text_same, text_stays, text_room}
+use Rattle.tinyvec_text.proofs.inline_text.InlineText.replace_range.Goals.{After-resolve_range-part}
 use Rattle.tinyvec_text.proofs.inline_text.InlineText.replace_range.Goals as goal
+
+-- the range
+cuts : (g : _) (c : After-resolve_range-part g) → CutsAt (tiny_items c.self.inside.list) c.args.self.now.bytes (g.R.RangeBounds.start_bound c.args.range)
+    (g.R.RangeBounds.end_bound c.args.range) c.resolve_range-part.result.start c.resolve_range-part.result.end
+cuts g c =
+    let part = c.resolve_range-part.ensures in
+    text_range c.self.inside.list c.args.self.now c.self.view_is c.self.invariant _ _ c.requires.start_le_end c.requires.start_boundary
+    c.requires.end_boundary _ _ _ part.start part.end c.len.ensures.value
 
 pub invariant_of-self : goal.invariant_of-self
 invariant_of-self g c = text_same c.self.inside.list c.reserve.new.self c.in_err-reserve.ensures.room.refused c.self.invariant
 
 pub replace_bytes-requires : goal.replace_bytes-requires
 replace_bytes-requires g c =
-    let list = c.self.inside.list in
-    let part = c.resolve_range-part.ensures in
-    let cuts = text_range list c.args.self.now c.self.view_is c.self.invariant _ (range_end (g.R.RangeBounds.end_bound c.args.range))
-    c.requires.start_le_end c.requires.start_boundary c.requires.end_boundary _ _ _ part.start part.end c.len.ensures.value in
-    let inside = cuts.last.0 in
-    let order = cuts.order in
+    let cut = cuts g (goal.at.replace_bytes-requires g c).After-resolve_range-part in
+    let inside = cut.last.0 in
+    let order = cut.order in
     let same = ap length c.in_ok-reserve.ensures.items in
     let more = c.saturating_sub-more.ensures in
     let enough = c.in_ok-reserve.ensures.enough in
@@ -26,9 +32,7 @@ replace_bytes-requires g c =
 pub invariant_of-self-2 : goal.invariant_of-self-2
 invariant_of-self-2 g c =
     let list = c.self.inside.list in
-    let part = c.resolve_range-part.ensures in
-    let cuts = text_range list c.args.self.now c.self.view_is c.self.invariant _ (range_end (g.R.RangeBounds.end_bound c.args.range))
-    c.requires.start_le_end c.requires.start_boundary c.requires.end_boundary _ _ _ part.start part.end c.len.ensures.value in
+    let cut = cuts g (goal.at.invariant_of-self-2 g c).After-resolve_range-part in
     let utf8 = text_utf8 list c.self.invariant in
     let p = c.resolve_range-part.result.start in
     let q = c.resolve_range-part.result.end in
@@ -37,17 +41,15 @@ invariant_of-self-2 g c =
     let same = c.in_ok-reserve.ensures.items in
     let kept = text_grown list mid _ c.in_ok-reserve.ensures.room.gets c.self.invariant same (omega arith) utf8 in
     text_stays mid c.replace_bytes.new.list _ c.replace_bytes.ensures kept
-    (subst IsUtf8 (sym (λ i. take p (same i) ++ put ++ drop q (same i))) (utf8_put (tiny_items list) utf8 p q cuts.first cuts.last put c.as_bytes-bytes.ensures.utf8))
+    (subst IsUtf8 (sym (λ i. take p (same i) ++ put ++ drop q (same i))) (utf8_put (tiny_items list) utf8 p q cut.first cut.last put c.as_bytes-bytes.ensures.utf8))
 
 pub returns : goal.returns
 returns g c =
     let list = c.self.inside.list in
     let bs = tiny_items list in
-    let start = g.R.RangeBounds.start_bound c.args.range in
     let end = g.R.RangeBounds.end_bound c.args.range in
     let part = c.resolve_range-part.ensures in
-    let cuts = text_range list c.args.self.now c.self.view_is c.self.invariant _ (range_end (g.R.RangeBounds.end_bound c.args.range))
-    c.requires.start_le_end c.requires.start_boundary c.requires.end_boundary _ _ _ part.start part.end c.len.ensures.value in
+    let cut = cuts g (goal.at.returns g c).After-resolve_range-part in
     let p = c.resolve_range-part.result.start in
     let q = c.resolve_range-part.result.end in
     let put = c.as_bytes-bytes.result.now in
@@ -55,16 +57,16 @@ returns g c =
     let new = c.replace_bytes.new.list in
     let same = c.in_ok-reserve.ensures.items in
     let made : tiny_items new ≡ take p bs ++ put ++ drop q bs = c.replace_bytes.ensures.items ∙ (λ i. take p (same i) ++ put ++ drop q (same i)) in
-    let size = ap length made ∙ length-replaced p q put bs cuts.order cuts.last.0 in
+    let size = ap length made ∙ length-replaced p q put bs cut.order cut.last.0 in
     let more = c.saturating_sub-more.ensures in
-    let inside = cuts.last.0 in
-    let order = cuts.order in
+    let inside = cut.last.0 in
+    let order = cut.order in
     let ends = part.end ∙ ap (range_end end) c.len.ensures.value in
     let long = size ∙ (λ i. tiny_len list - (ends i - part.start i) + length (c.as_bytes-bytes.ensures.value i)) in
     record {
       bytes = search rules;
-      text = chars_between list new c.args.self.now c.self.view_is c.self.invariant p q cuts.first cuts.last put c.as_bytes-bytes.ensures.utf8 made
-          ∙ (λ i. chars (take (part.start i) c.args.self.now.bytes) ++ chars (c.as_bytes-bytes.ensures.value i) ++ chars (drop ((ends ∙ (λ j. range_end end (length (c.self.view_is j).bytes))) i) c.args.self.now.bytes));
+      text = ap chars made ∙ chars_put bs (text_utf8 list c.self.invariant) p q cut.first cut.last put c.as_bytes-bytes.ensures.utf8
+          ∙ (λ i. chars (cut.front i) ++ chars (c.as_bytes-bytes.ensures.value i) ++ chars (cut.back i));
       room = rw (← c.self.view_is, ← long) (text_room _ _ list new _
           (replaced_room c.saturating_sub-more.result (tiny_view list) (tiny_view mid) (tiny_view new) (omega (arith, c.len.ensures.fits, c.len.ensures.value))
           (omega (arith, size, more, order, inside)) (λ some. omega (arith, size, more, order, inside, some))

@@ -1,33 +1,18 @@
-use Rattle.std.proofs.Common.{◌≡◌, ◌≤◌, ◌++◌, length, take, drop, sym, ap, ◌∙◌, arith}
-use Rattle.std.proofs.Math.Seq.{take-add}
-use Rattle.std.proofs.lemmas.List.{drop-drop}
-use Rattle.tinyvec_slots.specs.Slots.{items_in as listed, spare_in as left}
-use Rattle.tinyvec_slots.proofs.BorderLemmas.{list_to, spare_from}
-use Rattle.tinyvec_array.specs.ArrayVec.{items, items_len, spare}
-use Rattle.tinyvec_array.specs.CutLaws.{written_of}
+use Rattle.std.proofs.Common.{◌≤◌, length, ap, ◌∙◌, arith}
+use Rattle.tinyvec_array.specs.ArrayVec.{items, spare}
 use Rattle.tinyvec_array.proofs.Named.{array_slots}
 use Rattle.tinyvec_array.proofs.ViewLemmas.{parts_of}
-use Rattle.tinyvec_text.proofs.Moving.{repeated}
+use Rattle.tinyvec_text.proofs.Moving.{longer, filled, repeated}
 use Rattle.tinyvec_text.proofs.inline_text.bytes.repeat_inline.Goals as goal
 
-pub returns-clause-gains : goal.returns-clause-gains
-returns-clause-gains g c =
+pub returns : goal.returns
+returns g c =
     let v = c.args.v.now in
-    let n = c.args.count in
-    let len = c.len-len.result in
     let mid = c.set_len.new.self in
-    let seen = c.as_mut_slice.result.now in
-    let ws = c.repeat_at_end.new.bytes in
-    let long : length ws ≡ items_len mid = c.repeat_at_end.auto.bytes ∙ ap length c.as_mut_slice.ensures.value in
-    let at : len ≡ items_len v = c.len-len.ensures.value in
+    let n = c.args.count in
+    let at = c.len-len.ensures.value in
+    let is = c.set_len.ensures.value in
+    let seen = c.as_mut_slice.ensures.value in
     let few : n ≤ length (spare v) = omega (arith, c.requires.room, parts_of (array_slots g.row.N) v) in
-    let grown : seen ≡ items v ++ take n (spare v) =
-    c.as_mut_slice.ensures.value ∙ ap (λ w. listed w) c.set_len.ensures.value ∙ take-add len n v.slots
-    ∙ (λ i. list_to v.len.len v.slots len at i ++ take n (spare_from v.len.len v.slots len at i)) in
-    let written = written_of (array_slots g.row.N) mid ws long in
-    record {
-      items = written.0 ∙ c.repeat_at_end.ensures ∙ repeated (items v) (spare v) seen c.args.start len n at c.requires.in_list few grown;
-      spare =
-          written.1.1.0 ∙ ap (λ w. left w) c.set_len.ensures.value ∙ sym (drop-drop n len v.slots) ∙ ap (drop n) (spare_from v.len.len v.slots len at);
-      fits = omega (arith, ap length written.0, long, c.set_len.ensures.len, at, parts_of (array_slots g.row.N) v, c.requires.room);
-    }
+    filled v mid n _ at is _ _ c.requires.room (c.repeat_at_end.auto.bytes ∙ ap length seen)
+    (c.repeat_at_end.ensures ∙ repeated (items v) (spare v) _ c.args.start _ n at c.requires.in_list few (seen ∙ longer v mid n _ at is))
