@@ -79,7 +79,7 @@ def new_body(edit, owners, texts):
 
 def lay(top, numbered):
     """Copies the repository. In the copy each function that has edits does as the one does that is chosen."""
-    for name in ("crates", "scripts", "tests"):
+    for name in ("crates", "docs", "scripts", "tests"):
         shutil.copytree(crates.TOP / name, top / name, ignore=shutil.ignore_patterns("out", "proofs"))
     shutil.copy(crates.TOP / "crates.txt", top)
     arms = {}
