@@ -1,7 +1,6 @@
-"""Rows whose start begins with `each byte`: the case is also cut, failed and interrupted at each byte.
+"""Scripts whose start is `each byte`: they are also cut, failed and interrupted at each byte.
 
-Where the input of a script fails, its complete lines are answered; where the output fails, its first bytes are written. A value
-of the Borsh form that is cut is told as the end of the input, and any failure but an interruption as a fault."""
+Where the input of a script fails, its complete lines are answered; where the output fails, its first bytes are written."""
 from rows import commands, rows
 from rows.rows import ANY
 
@@ -15,8 +14,7 @@ def expanded(chain):
     if not chain.start.startswith(MARK):
         return [chain]
     plain = rows.Chain(chain.path, chain.kind, chain.start.removeprefix(MARK).removeprefix(CUT).strip(), chain.calls)
-    where = chain.calls[0][0]
-    cases = of_script(chain, where) if chain.kind == "script" else of_values(plain)
+    cases = of_script(chain, chain.calls[0][0])
     return [plain, *(rows.Chain(it[0], "streams", it[1], [(f"{it[0]}, {it[1]}", *it[2:])]) for it in cases)]
 
 
@@ -46,28 +44,6 @@ def refusal(given):
     """The answer to the last line, which is cut, and so no command."""
     name, _, text = given.rpartition(b"\n")[2].partition(b" ")
     return commands.bad(name.decode("latin-1"), text.decode("latin-1")) + b"\n"
-
-
-def of_values(chain):
-    """The same of each `get` alone, of the input that it takes, and of each `put`."""
-    for where, call, wanted in chain.calls:
-        answer, _, last = wanted.partition(";")[0].split(" / ")
-        value, fault = answer.rsplit(",", 1)[0], f"reader or writer fault, 1 faults / {ANY} /"
-        if call.startswith("put "):
-            written = bytes.fromhex(last)
-            for count in range(len(written)):
-                for full in ("!BrokenPipe", "0"):
-                    yield where, f"takes {count or ''} {full}", call, f"{fault} {written[:count].hex()}"
-            start = " ".join(["takes", *["!Interrupted 1"] * len(written)])
-            yield where, start, call, f"ok, {len(written)} faults / {ANY} / {last}"
-            continue
-        given = bytes.fromhex(chain.start.removeprefix("reads <").removesuffix(">"))
-        given = given[: len(given) - int(last.split()[0])]
-        for count in range(len(given)):
-            start = f"reads {piece(given[:count])}"
-            yield where, start, call, f"unexpected end of input, 0 faults / {ANY} / 0 left"
-            yield where, f"{start} !BrokenPipe", call, f"{fault} 0 left"
-        yield where, interrupted(given), call, f"{value}, {len(given)} faults / {ANY} / 0 left"
 
 
 def piece(given):

@@ -7,7 +7,6 @@ mod plan;
 mod runs;
 mod streams;
 mod text;
-mod text_call;
 
 use std::io;
 use std::io::{BufRead, BufReader};
@@ -39,7 +38,7 @@ fn answer(line: &str, out: &mut Out) {
         "streams" => streams::answer(&mut words, calls),
         "script" => streams::answer_lines(&mut words, calls),
         "errors" => errors::answer(&mut words, calls),
-        "InlineText" => text::answer(held, &mut words, calls),
+        "InlineText" if held == "4>" => text::answer(&mut words, calls),
         "Run" => runs::answer(held, &mut words, calls),
         "ArrayVec" => starts::answer_array(held, &mut words, calls),
         "TinyVec" => starts::answer_tiny(held, &mut words, calls),

@@ -1,12 +1,12 @@
 //! Calls of vectors. The words of a row become one of these once, and each vector looks at its name.
-use crate::{Closure, Name, Read, Span, Step, Words, find};
+use crate::{Closure, Name, Read, Span, Step, Table, Words, find};
 use std::alloc::Global;
 use std::ops::Bound;
 use std::{mem, str};
 
-// The calls, and the kinds of their words: an index, a number, an item (`t`), a list, slots, a range, a closure, steps
-// (`w`), bytes, a form; and whether the list has room for many more items, or for no more (`e`).
-const CALLS: [(&str, Name, &str); 79] = [
+/// The calls of vectors, and the kinds of their words: an index, a number, an item (`t`), a list, one that is reversed (`v`), slots, a range, a closure,
+/// steps (`w`), bytes; and whether the list has room for many more items.
+pub const VECTOR_CALLS: [(&str, Name, &str); 79] = [
     ("pop", Name::Pop, ""),
     ("pop_at", Name::PopAt, "i"),
     ("pop_if", Name::PopIf, "cn"),
@@ -20,7 +20,7 @@ const CALLS: [(&str, Name, &str); 79] = [
     ("iter_mut", Name::IterMut, "n"),
     ("as_mut_slice", Name::AsMutSlice, "n"),
     ("set_len", Name::SetLen, "i"),
-    ("write_spare", Name::WriteSpare, "l"),
+    ("write_spare", Name::WriteSpare, "n"),
     ("push", Name::Push, "t"),
     ("push_mut", Name::PushMut, "tt"),
     ("insert", Name::Insert, "it"),
@@ -34,12 +34,12 @@ const CALLS: [(&str, Name, &str); 79] = [
     ("extend_exact_size", Name::ExtendExactSize, "l"),
     ("extend_from_within", Name::ExtendFromWithin, "r"),
     ("resize", Name::Resize, "it"),
-    ("resize_with", Name::ResizeWith, "in"),
+    ("resize_with", Name::ResizeWith, "iv"),
     ("retain", Name::Retain, "c"),
     ("retain_mut", Name::RetainMut, "cn"),
     ("dedup", Name::Dedup, ""),
     ("dedup_by", Name::DedupBy, "c"),
-    ("dedup_by_key", Name::DedupByKey, "c"),
+    ("dedup_by_key", Name::DedupByKey, ""),
     ("drain", Name::Drain, "rw"),
     ("drain_into", Name::DrainInto, "rlm"),
     ("drain_each", Name::DrainEach, "rm"),
@@ -65,7 +65,7 @@ const CALLS: [(&str, Name, &str); 79] = [
     ("try_from_array_len", Name::TryFromArrayLen, "si"),
     ("try_from_slice", Name::TryFromSlice, "l"),
     ("from_slice", Name::FromSlice, "l"),
-    ("from_vec", Name::FromVec, "le"),
+    ("from_vec", Name::FromVec, "l"),
     ("from_iter", Name::FromIter, "l"),
     ("with_capacity", Name::WithCapacity, "i"),
     ("with_initial_len", Name::WithInitialLen, "i"),
@@ -81,7 +81,7 @@ const CALLS: [(&str, Name, &str); 79] = [
     ("shrink_to", Name::ShrinkTo, "i"),
     ("has_room", Name::HasRoom, "i"),
     ("compare", Name::Compare, ""),
-    ("show", Name::Show, "f"),
+    ("show", Name::Show, "w"),
     ("extend_from_slice_copy", Name::ExtendFromSliceCopy, "l"),
     ("replace_range", Name::ReplaceRange, "rl"),
     ("write_str", Name::WriteStr, "b"),
@@ -101,19 +101,17 @@ pub struct Call<T> {
     pub range: Span,
     // A list, all slots of a vector, or single items.
     pub items: Vec<T>,
-    // How many of these slots are its list.
-    pub len: usize,
     pub closure: Closure,
     pub steps: Vec<Step>,
     pub bytes: Vec<u8>,
-    pub form: Name,
 }
 
 impl<T: Read> Call<T> {
-    /// Reads a call: its name, and then no more words than it has.
-    pub fn read(words: &mut Words<'_>) -> Call<T> {
-        let (name, kinds) = find(&CALLS, words.word(), Name::Unknown);
+    /// Reads a call of a table: its name, and then no more words than it has.
+    pub fn read(table: Table<'_>, words: &mut Words<'_>) -> Call<T> {
+        let (name, kinds) = find(table, words.word());
         let mut call = Call::empty(words.alloc, name);
+        call.closure.reserve(words);
         for kind in kinds.as_bytes() {
             call.read_words(*kind, words);
         }
@@ -128,11 +126,9 @@ impl<T: Read> Call<T> {
             number: 0,
             range: (Bound::Unbounded, Bound::Unbounded),
             items: Vec::new(alloc),
-            len: 0,
             closure: Closure::new(alloc),
             steps: Vec::new(alloc),
             bytes: Vec::new(alloc),
-            form: Name::Unknown,
         }
     }
 
@@ -142,16 +138,17 @@ impl<T: Read> Call<T> {
             b'n' => self.number = words.number(),
             b't' => words.add(&mut self.items),
             b'l' => words.add_items(&mut self.items),
-            b's' => self.len = words.add_slots(&mut self.items),
+            b'v' => {
+                words.add_items(&mut self.items);
+                self.items.reverse();
+            }
+            b's' => self.index = words.add_slots(&mut self.items),
             b'r' => self.range = words.span(),
             b'c' => self.closure.read(words),
             b'w' => words.add_steps(&mut self.steps),
             b'b' => words.add_bytes(&mut self.bytes),
-            b'f' => self.form = words.name(),
             // Room for what is drained, so that no request falls into the call.
-            b'm' => words.reserve(&mut self.items, 1 << 10),
-            // Room for no more items.
-            _ => self.items.shrink_to_fit(),
+            _ => words.reserve(&mut self.items, 1 << 10),
         }
     }
 
@@ -171,11 +168,16 @@ impl<T: Read> Call<T> {
         str::from_utf8(self.bytes.as_slice()).unwrap_or("?")
     }
 
-    /// Whether the last step is this one that stops a splice.
-    pub fn is_stopped(&self) -> bool {
+    /// The first character of the text.
+    pub fn letter(&self) -> char {
+        self.text().chars().next().unwrap_or('?')
+    }
+
+    /// The name of the last step.
+    pub fn last_step(&self) -> Name {
         match self.steps.last() {
-            Some(step) => matches!(step.name, Name::Stop),
-            None => false,
+            Some(step) => step.name,
+            None => Name::Unknown,
         }
     }
 }

@@ -7,12 +7,9 @@ pub trait Read: Default + Drop {
     fn read(alloc: Global, word: &str) -> Option<Self>;
 }
 
-/// An item that all calls can have.
+/// An item that closures are asked about.
 pub trait Item: Read + Clone + PartialEq + fmt::Debug {
-    /// The item of a number, or a default if there is no memory for it.
-    fn of(alloc: Global, number: i32) -> Self;
-
-    /// The number that closures ask for.
+    /// The number that a key is made of.
     fn number(&self) -> i32;
 
     /// Adds to the number, wrapping.
@@ -35,10 +32,6 @@ impl Read for i32 {
 }
 
 impl Item for i32 {
-    fn of(_alloc: Global, number: i32) -> i32 {
-        number
-    }
-
     fn number(&self) -> i32 {
         *self
     }
@@ -55,22 +48,13 @@ impl Read for u8 {
 }
 
 impl Item for u8 {
-    fn of(_alloc: Global, number: i32) -> u8 {
-        byte(number)
-    }
-
     fn number(&self) -> i32 {
         i32::from(*self)
     }
 
     fn add(&mut self, more: i32) {
-        *self = self.wrapping_add(byte(more));
+        *self = self.wrapping_add(u8::try_from(more).unwrap_or(0));
     }
-}
-
-// The number modulo 256, so that all count on.
-fn byte(number: i32) -> u8 {
-    u8::try_from(number.rem_euclid(256)).unwrap_or(0)
 }
 
 impl Read for u16 {
@@ -79,21 +63,10 @@ impl Read for u16 {
     }
 }
 
-// An item of no size.
-impl Read for () {
-    fn read(_alloc: Global, word: &str) -> Option<()> {
-        (word == "()").then_some(())
+impl Read for f64 {
+    fn read(_alloc: Global, word: &str) -> Option<f64> {
+        word.parse::<f64>().ok()
     }
-}
-
-impl Item for () {
-    fn of(_alloc: Global, _number: i32) {}
-
-    fn number(&self) -> i32 {
-        0
-    }
-
-    fn add(&mut self, _more: i32) {}
 }
 
 // An item that owns memory, or nothing.
@@ -103,15 +76,11 @@ impl Read for Option<Box<i32>> {
             return Some(None);
         }
         let number = word.parse::<i32>().ok()?;
-        Some(Self::of(alloc, number))
+        Some(Box::new(alloc, number).ok())
     }
 }
 
 impl Item for Option<Box<i32>> {
-    fn of(alloc: Global, number: i32) -> Option<Box<i32>> {
-        Box::new(alloc, number).ok()
-    }
-
     fn number(&self) -> i32 {
         match self {
             Some(x) => **x,
@@ -124,65 +93,4 @@ impl Item for Option<Box<i32>> {
             **x = x.wrapping_add(more);
         }
     }
-}
-
-/// An item of 24 bytes: 1, 2, and its number.
-pub type Wide = (u64, u64, i32);
-
-impl Read for Wide {
-    fn read(alloc: Global, word: &str) -> Option<Wide> {
-        let number = word.parse::<i32>().ok()?;
-        Some(Self::of(alloc, number))
-    }
-}
-
-impl Item for Wide {
-    fn of(_alloc: Global, number: i32) -> Wide {
-        (1, 2, number)
-    }
-
-    fn number(&self) -> i32 {
-        self.2
-    }
-
-    fn add(&mut self, more: i32) {
-        self.2 = self.2.wrapping_add(more);
-    }
-}
-
-// Items that are only compared and shown.
-impl Read for u128 {
-    fn read(_alloc: Global, word: &str) -> Option<u128> {
-        word.parse::<u128>().ok()
-    }
-}
-
-impl Item for u128 {
-    fn of(_alloc: Global, _number: i32) -> u128 {
-        0
-    }
-
-    fn number(&self) -> i32 {
-        0
-    }
-
-    fn add(&mut self, _more: i32) {}
-}
-
-impl Read for f64 {
-    fn read(_alloc: Global, word: &str) -> Option<f64> {
-        word.parse::<f64>().ok()
-    }
-}
-
-impl Item for f64 {
-    fn of(_alloc: Global, _number: i32) -> f64 {
-        0.0
-    }
-
-    fn number(&self) -> i32 {
-        0
-    }
-
-    fn add(&mut self, _more: i32) {}
 }

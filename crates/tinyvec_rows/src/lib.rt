@@ -11,10 +11,10 @@ mod step;
 pub mod window;
 mod words;
 
-pub use call::Call;
-pub use closure::{Closure, Counter};
-pub use item::{Item, Read, Wide};
-pub use names::{Name, find, named};
+pub use call::{Call, VECTOR_CALLS};
+pub use closure::Closure;
+pub use item::{Item, Read};
+pub use names::{Name, Table, find, named};
 pub use out::{Out, Quoted};
 pub use span::{Span, has_at_most, is_within};
 pub use step::Step;

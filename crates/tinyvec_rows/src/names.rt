@@ -1,4 +1,4 @@
-//! The words of rows that name something: calls, steps, forms of texts, and closures.
+//! The words of rows that name something: calls, steps, and forms of texts.
 
 /// What a word names.
 #[derive(Clone, Copy, Drop)]
@@ -94,12 +94,28 @@ pub enum Name {
     Write,
     WriteAll,
     Flush,
+    // What only a text has.
+    IsCharBoundary,
+    AsBytes,
+    AsSlice,
+    AsStr,
+    PushReserved,
+    PushStr,
+    PushStrReserved,
+    ExtendWords,
+    InsertStr,
+    FromStr,
+    FromUtf8,
+    FromUtf8OrNone,
+    MadeWith,
+    Collect,
+    IntoBytes,
+    IntoString,
+    Take,
     // Steps of an iterator. `last` and `count` are the last ones of one that owns its items, `stop` that of a splice.
     Next,
     Back,
     Left,
-    Hint,
-    Debug,
     Touches,
     Slice,
     Nth,
@@ -109,28 +125,21 @@ pub enum Name {
     Stop,
     // Forms of a text.
     Plain,
+    Debug,
     Pretty,
-    Wide,
     LowerHex,
     UpperHex,
     Octal,
     Binary,
-    // What a closure answers.
-    Yes,
-    No,
-    Even,
-    Odd,
-    OneMore,
-    Tens,
-    Number,
 }
 
-const NAMES: [(&str, Name, &str); 28] = [
+/// What words name, and of a call the kinds of the words that follow it.
+pub type Table<'t> = &'t [(&'static str, Name, &'static str)];
+
+const NAMES: [(&str, Name, &str); 18] = [
     ("next", Name::Next, ""),
     ("back", Name::Back, ""),
     ("left", Name::Left, ""),
-    ("hint", Name::Hint, ""),
-    ("debug", Name::Debug, ""),
     ("touches", Name::Touches, ""),
     ("slice", Name::Slice, ""),
     ("clone", Name::Clone, ""),
@@ -142,32 +151,23 @@ const NAMES: [(&str, Name, &str); 28] = [
     ("{}", Name::Plain, ""),
     ("{:?}", Name::Debug, ""),
     ("{:#?}", Name::Pretty, ""),
-    ("{:4}", Name::Wide, ""),
     ("{:x}", Name::LowerHex, ""),
     ("{:X}", Name::UpperHex, ""),
     ("{:o}", Name::Octal, ""),
     ("{:b}", Name::Binary, ""),
-    ("yes", Name::Yes, ""),
-    ("no", Name::No, ""),
-    ("even", Name::Even, ""),
-    ("odd", Name::Odd, ""),
-    ("one_more", Name::OneMore, ""),
-    ("tens", Name::Tens, ""),
-    ("number", Name::Number, ""),
 ];
 
 /// What a word names that is no call.
 pub fn named(word: &str) -> Name {
-    find(&NAMES, word, Name::Unknown).0
+    find(&NAMES, word).0
 }
 
-/// What a table says of a word, or that it says nothing of it, and what stands beside that. A `match` of texts has a
-/// call and a branch for each.
-pub fn find<K: Copy>(table: &[(&str, K, &'static str)], word: &str, none: K) -> (K, &'static str) {
-    for (name, found, beside) in table {
+/// What a table says of a word. A `match` of texts has a call and a branch for each.
+pub fn find(table: Table<'_>, word: &str) -> (Name, &'static str) {
+    for (name, found, kinds) in table {
         if *name == word {
-            return (*found, *beside);
+            return (*found, *kinds);
         }
     }
-    (none, "")
+    (Name::Unknown, "")
 }

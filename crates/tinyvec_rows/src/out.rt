@@ -1,9 +1,8 @@
 //! What the calls of a row answer, as text. A space follows each answer.
-use crate::{Item, Words, Wrong};
+use crate::{Words, Wrong};
 use std::alloc::Global;
+use std::fmt;
 use std::fmt::Write;
-use std::iter::Fuse;
-use std::{fmt, vec};
 
 /// The answers of a row. Once it has failed nothing more is written, so that no call needs a way out.
 #[derive(Drop)]
@@ -68,6 +67,13 @@ impl Out {
         let _ = write!(self, "{answer:?} ");
     }
 
+    /// Writes an answer by `{:#?}`, in quotes.
+    pub fn say_pretty<T: fmt::Debug>(&mut self, answer: &T) {
+        self.put("\"");
+        let _ = write!(Quoted(&mut *self), "{answer:#?}");
+        self.say_word("\"");
+    }
+
     /// Writes why a call failed, and nothing if it did not.
     pub fn done<E: fmt::Debug + Drop>(&mut self, answer: Result<(), E>) {
         if let Err(error) = answer {
@@ -117,47 +123,17 @@ impl Out {
         let _ = write!(self, "{x:?}");
     }
 
-    /// Writes the items that an iterator still yields, as a list.
-    pub fn say_all<T: Item>(&mut self, rest: Fuse<vec::IntoIter<T>>) {
-        self.put("[");
-        let mut is_first = true;
-        for x in rest {
-            self.put_item(&x, is_first);
-            is_first = false;
-        }
-        self.say_word("]");
-    }
-
-    /// Writes an item that found no room.
-    pub fn say_refused<T: Item>(&mut self, x: &T) {
+    /// Writes an item that found no room, and the one that follows it.
+    pub fn say_refused<T: fmt::Debug>(&mut self, x: &T, next: &Option<T>) {
         self.say_word("refused");
         self.say(x);
+        self.say(next);
     }
 
-    /// Writes an item that found no room, and those that follow it.
-    pub fn say_rest<T: Item>(&mut self, x: &T, rest: vec::IntoIter<T>) {
-        self.say_refused(x);
-        self.say_all(rest.fuse());
-    }
-
-    /// Writes the number of an item that was lent, and another item to it.
-    pub fn say_and_set<T: Item>(&mut self, lent: &mut T, x: T) {
-        self.say(&lent.number());
+    /// Writes an item that was lent, and another item to it.
+    pub fn say_and_set<T: fmt::Debug + Drop>(&mut self, lent: &mut T, x: T) {
+        self.say(&*lent);
         *lent = x;
-    }
-
-    /// Writes how many spare slots were lent, and items over the first of them.
-    pub fn write_spare<T: Item>(&mut self, lent: &mut [T], items: &mut [T]) {
-        self.say(&lent.len());
-        if items.len() > lent.len() {
-            return self.fail(Wrong::Place);
-        }
-        lent[..items.len()].swap_with_slice(items);
-    }
-
-    /// Writes the hint of an iterator.
-    pub fn say_hint<I: Iterator>(&mut self, it: &I) {
-        self.say(&it.size_hint());
     }
 }
 

@@ -20,10 +20,13 @@ impl Default for Step {
 
 impl Read for Step {
     fn read(alloc: Global, word: &str) -> Option<Step> {
-        let (word, count) = word.split_once(':').unwrap_or((word, "0"));
+        let (name, count) = match word.split_once(':') {
+            Some((name, count)) if name != "{" => (name, count),
+            _ => (word, "0"),
+        };
         let count = usize::read(alloc, count)?;
         Some(Step {
-            name: named(word),
+            name: named(name),
             count,
         })
     }

@@ -1,5 +1,5 @@
 //! The words of a row.
-use crate::{Name, Read, Span, Step, named};
+use crate::{Read, Span, Step};
 use std::alloc::Global;
 use std::ops::Bound;
 use std::{mem, str};
@@ -250,11 +250,6 @@ impl<'a> Words<'a> {
     fn index_of(&mut self, text: &str) -> usize {
         let read = usize::read(self.alloc, text);
         self.got(read)
-    }
-
-    /// What the next word names.
-    pub fn name(&mut self) -> Name {
-        named(self.word())
     }
 
     /// Makes room for more items.

@@ -1,10 +1,10 @@
 //! Rows of what only an `ArrayVec` has.
-use crate::slots::{Storage, make_call, say_vector};
+use crate::slots::{Storage, make_call};
 use crate::steps::iterated;
 use std::fmt::Debug;
 use std::{mem, vec};
 use tinyvec::{Array, ArrayVec, FromIterRest};
-use tinyvec_rows::{Call, Counter, Item, Name, Out, Read, Wrong};
+use tinyvec_rows::{Call, Item, Name, Out, Read, Wrong};
 
 /// The array of these slots, or one of defaults if they are not as many.
 pub fn array_of<T: Read, A: Array<Item = T>>(items: &mut [T], out: &mut Out) -> A {
@@ -25,34 +25,27 @@ impl<T: Item, const N: usize> Storage for [T; N] {
         call: &mut Call<T>,
         out: &mut Out,
     ) {
-        copied(v, other, call, out);
+        copy(v, other, call, out);
     }
 }
 
-fn copied<T: Item, A: Array<Item = T>>(
+fn copy<T: Item, A: Array<Item = T>>(
     v: &mut ArrayVec<A>,
     other: &mut ArrayVec<A>,
     call: &mut Call<T>,
     out: &mut Out,
 ) {
     let n = call.index;
+    let (is_in, fits) = (n <= v.len(), n <= v.capacity());
     match call.name {
-        Name::Resize if n <= v.capacity() => out.done(v.resize(n, call.item())),
-        Name::ResizeWith if n <= v.capacity() => {
-            let mut counter = Counter::new(out.alloc(), call.number);
-            v.resize_with(n, || counter.next());
-            out.say(&counter.calls());
+        Name::Resize if fits => out.done(v.resize(n, call.item())),
+        Name::ResizeWith if fits => {
+            v.resize_with(n, || call.item());
+            out.say(&call.items.len());
         }
-        Name::SplitOff if n <= v.len() => say_vector(&v.split_off(n), out),
-        Name::CloneFrom => out.done(v.clone_from(other)),
-        Name::Clone => match v.clone() {
-            Ok(copy) => say_vector(&copy, out),
-            Err(error) => out.say(&error),
-        },
-        Name::IntoIter => {
-            let owned = mem::replace(v, ArrayVec::new());
-            iterated(owned.into_iter(), call.steps.as_slice(), out);
-        }
+        Name::SplitOff if is_in => set(other, v.split_off(n)),
+        Name::Clone => set_made(other, v.clone(), out),
+        Name::CloneFrom => out.done(v.clone_from(&*other)),
         _ => remake(v, other, call, out),
     }
 }
@@ -72,6 +65,10 @@ fn remake<T: Item, A: Array<Item = T>>(
         Name::From | Name::FromArray | Name::FromArrayEmpty | Name::TryFromArrayLen => {
             remake_of(v, array_of(call.items.as_mut_slice(), out), call, out);
         }
+        Name::IntoIter => {
+            let owned = mem::replace(v, ArrayVec::new());
+            iterated(owned.into_iter(), call.steps.as_slice(), out);
+        }
         _ => make_call(v, other, call, out),
     }
 }
@@ -86,14 +83,13 @@ fn remake_of<T: Item, A: Array<Item = T>>(
         Name::From => set(v, ArrayVec::from(array)),
         Name::FromArray => set(v, ArrayVec::from_array(array)),
         Name::FromArrayEmpty => set(v, ArrayVec::from_array_empty(array)),
-        Name::TryFromArrayLen => match ArrayVec::try_from_array_len(array, call.index) {
+        _ => match ArrayVec::try_from_array_len(array, call.index) {
             Ok(made) => set(v, made),
             Err(array) => {
                 out.say_word("refused");
                 set(v, ArrayVec::from_array_empty(array));
             }
         },
-        _ => out.fail(Wrong::Place),
     }
 }
 
@@ -110,7 +106,7 @@ pub fn set_made<V: Drop, E: Debug + Drop>(v: &mut V, made: Result<V, E>, out: &m
     }
 }
 
-/// The same of what was collected. Writes the items that found no room.
+/// The same of what was collected. Writes the item that found no room, and the next one.
 pub fn set_collected<V: Drop, T: Item>(
     v: &mut V,
     made: Result<V, FromIterRest<V, T, vec::IntoIter<T>>>,
@@ -118,9 +114,13 @@ pub fn set_collected<V: Drop, T: Item>(
 ) {
     match made {
         Ok(made) => set(v, made),
-        Err(FromIterRest { vec, item, rest }) => {
+        Err(FromIterRest {
+            vec,
+            item,
+            mut rest,
+        }) => {
             set(v, vec);
-            out.say_rest(&item, rest);
+            out.say_refused(&item, &rest.next());
         }
     }
 }

@@ -4,121 +4,103 @@ use std::{slice, vec};
 use tinyvec::{NoRoom, SpliceRest};
 use tinyvec_rows::{Item, Out};
 
-/// Adds to the numbers of all items.
+/// Adds to the numbers of items.
 pub fn add_to_each<T: Item>(items: slice::IterMut<'_, T>, more: i32) {
     for x in items {
         x.add(more);
     }
 }
 
-/// Writes the items that found no room.
+/// Writes the item that found no room, and the next one.
 pub fn say_extended<T: Item>(extended: Result<(), NoRoom<T, vec::IntoIter<T>>>, out: &mut Out) {
-    if let Err(NoRoom { item, rest }) = extended {
-        out.say_rest(&item, rest);
+    if let Err(NoRoom { item, mut rest }) = extended {
+        out.say_refused(&item, &rest.next());
     }
 }
 
-/// Writes the item that found no room.
+/// The same of a splice.
 pub fn say_spliced<T: Item>(
     spliced: Result<(), SpliceRest<T, Fuse<vec::IntoIter<T>>>>,
     out: &mut Out,
 ) {
-    if let Err(refused) = spliced {
-        out.say_refused(&refused.item);
+    if let Err(mut refused) = spliced {
+        out.say_refused(&refused.item, &refused.rest.next());
     }
 }
 
-/// Writes how many slots a finished splice touched, or the item that found no room.
-pub fn say_finished<T: Item>(
+/// The same, and how many slots were touched.
+pub fn say_counted<T: Item>(
     finished: (Result<(), SpliceRest<T, Fuse<vec::IntoIter<T>>>>, u128),
     out: &mut Out,
 ) {
-    match finished.0 {
-        Ok(()) => out.say(&finished.1),
-        Err(refused) => out.say_refused(&refused.item),
-    }
+    out.say(&finished.1);
+    say_spliced(finished.0, out);
 }
 
 // Calls that take items out of any vector.
 macro_rules! cut {
-    ($v:ident, $call:ident, $out:ident, $($arm:tt)*) => {
+    ($v:ident, $call:ident, $out:ident, $($arm:tt)*) => {{
+        let i = $call.index;
+        let is_in = i < $v.len();
         match $call.name {
             Name::Pop => $out.say(&$v.pop()),
-            Name::PopAt => $out.say(&$v.pop_at($call.index)),
+            Name::PopAt => $out.say(&$v.pop_at(i)),
             Name::PopIf => {
                 let (closure, more) = (&mut $call.closure, $call.number);
                 $out.say(&$v.pop_if(|x| closure.asks_and_adds(x, more)));
                 $call.closure.say($out);
             }
-            Name::Remove if $call.index < $v.len() => $out.say(&$v.remove($call.index)),
-            Name::SwapRemove if $call.index < $v.len() => $out.say(&$v.swap_remove($call.index)),
-            Name::Truncate => $v.truncate($call.index),
+            Name::Remove if is_in => $out.say(&$v.remove(i)),
+            Name::SwapRemove if is_in => $out.say(&$v.swap_remove(i)),
+            Name::Truncate => $v.truncate(i),
             Name::Clear => $v.clear(),
             $($arm)*
         }
-    };
+    }};
 }
 
 // Calls that count the slots of any vector or write to them. The last word of `size` is the answer of `$also`.
 macro_rules! lend {
-    ($v:ident, $call:ident, $also:ident, $out:ident, $($arm:tt)*) => {
+    ($v:ident, $call:ident, $also:ident, $out:ident, $($arm:tt)*) => {{
+        let i = $call.index;
+        let is_in = i < $v.len();
         match $call.name {
-            Name::Size => {
-                $out.say(&($v.len(), $v.capacity()));
-                $out.say(&($v.is_empty(), $v.$also()));
-            }
-            Name::Index if $call.index < $v.len() => $out.say(&$v[$call.index]),
-            Name::Set if $call.index < $v.len() => {
-                let i = $call.index;
-                $v[i] = $call.item();
-            }
+            Name::Size => $out.say(&($v.len(), $v.capacity(), $v.is_empty(), $v.$also())),
+            Name::Index if is_in => $out.say(&$v[i]),
+            Name::Set if is_in => $v[i] = $call.item(),
             Name::IterMut => $crate::calls::add_to_each($v.iter_mut(), $call.number),
             Name::AsMutSlice => $crate::calls::add_to_each($v.as_mut_slice().iter_mut(), $call.number),
             $($arm)*
         }
-    };
+    }};
 }
 
 // Calls that keep items of any vector.
 macro_rules! filter {
-    ($v:ident, $call:ident, $out:ident, $($arm:tt)*) => {
+    ($v:ident, $call:ident, $out:ident, $($arm:tt)*) => {{
+        let (closure, more) = (&mut $call.closure, $call.number);
         match $call.name {
-            Name::Retain => {
-                let closure = &mut $call.closure;
-                $v.retain(|x| closure.asks(x));
-                $call.closure.say($out);
-            }
-            Name::RetainMut => {
-                let (closure, more) = (&mut $call.closure, $call.number);
-                $v.retain_mut(|x| closure.asks_and_adds(x, more));
-                $call.closure.say($out);
-            }
+            Name::Retain => $v.retain(|x| closure.asks(x)),
+            Name::RetainMut => $v.retain_mut(|x| closure.asks_and_adds(x, more)),
             Name::Dedup => $v.dedup(),
-            Name::DedupBy => {
-                let closure = &mut $call.closure;
-                $v.dedup_by(|x, kept| closure.asks_both(x, kept));
-                $call.closure.say($out);
-            }
-            Name::DedupByKey => {
-                let closure = &mut $call.closure;
-                $v.dedup_by_key(|x| closure.key(x));
-                $call.closure.say($out);
-            }
+            Name::DedupBy => $v.dedup_by(|x, kept| closure.asks_both(&*x, &*kept)),
+            Name::DedupByKey => $v.dedup_by_key(|x| closure.key(&*x)),
             $($arm)*
         }
-    };
+        $call.closure.say($out);
+    }};
 }
 
 // Calls of a range of any vector. `$spliced` steps a splice.
 macro_rules! ranged {
     ($v:ident, $call:ident, $spliced:ident, $out:ident, $($arm:tt)*) => {{
         let is_within = is_within($call.range, $v.len());
-        let room = $call.items.capacity() - $call.items.len();
+        let has_room = $v.len() <= $call.items.capacity() - $call.items.len();
         match $call.name {
             Name::Drain if is_within => {
                 $crate::steps::stepped(&mut $v.drain($call.range), $call.steps.as_slice(), $out);
             }
-            Name::DrainInto if is_within && $v.len() <= room => {
+            Name::DrainInto if is_within && has_room => {
                 $v.drain_into($call.range, &mut $call.items);
                 $out.say(&$call.items.as_slice());
             }
@@ -133,16 +115,16 @@ macro_rules! ranged {
 
 // Steps a splice. Then it is stopped, or finished, so that none is dropped.
 macro_rules! splice {
-    ($v:ident, $call:ident, $out:ident) => {{
+    ($v:ident, $call:ident, $out:ident, $splice:ident => $finish:expr) => {{
         if !is_within($call.range, $v.len()) {
             return $out.fail(Wrong::Place);
         }
-        let mut splice = $v.splice($call.range, $call.take_items());
-        $crate::steps::stepped(&mut splice, $call.steps.as_slice(), $out);
-        if $call.is_stopped() {
-            $out.say_all(splice.stop());
+        let mut $splice = $v.splice($call.range, $call.take_items());
+        $crate::steps::stepped(&mut $splice, $call.steps.as_slice(), $out);
+        if let Name::Stop = $call.last_step() {
+            $out.say(&$splice.stop().next());
         } else {
-            $crate::calls::say_finished(splice.finish_counted(), $out);
+            $finish
         }
     }};
 }

@@ -3,19 +3,18 @@ use std::cmp::Ordering::{Equal, Greater, Less};
 use std::fmt;
 use std::fmt::Write;
 use std::hash::{DefaultHasher, Hash, Hasher};
-use tinyvec_rows::{Name, Out, Quoted, Wrong};
+use tinyvec_rows::{Name, Out, Quoted};
 
 /// Writes how two lists compare, either way round.
 pub fn say_orders<V: PartialOrd>(v: &V, w: &V, out: &mut Out) {
-    out.say(&v.partial_cmp(w));
-    out.say(&w.partial_cmp(v));
-    if !operators_agree(v, w) || !operators_agree(w, v) {
+    out.say(&(v.partial_cmp(w), w.partial_cmp(v)));
+    if !operators_agree(v, w) {
         out.say_word("but not by each operator");
     }
 }
 
-/// Whether each operator answers as `partial_cmp` does.
-pub fn operators_agree<V: PartialOrd>(v: &V, w: &V) -> bool {
+// Whether each operator answers as `partial_cmp` does.
+fn operators_agree<V: PartialOrd>(v: &V, w: &V) -> bool {
     let order = v.partial_cmp(w);
     let (less, greater) = (order == Some(Less), order == Some(Greater));
     let same = order == Some(Equal);
@@ -25,37 +24,30 @@ pub fn operators_agree<V: PartialOrd>(v: &V, w: &V) -> bool {
 }
 
 /// The same, and whether the hashes are equal. `list` is that of the first.
-pub fn say_compared<V: Ord + Hash, T: Hash>(v: &V, w: &V, list: &[T], out: &mut Out) {
+pub fn say_compared<V: Ord + Hash, L: Hash>(v: &V, w: &V, list: &L, out: &mut Out) {
     say_orders(v, w, out);
-    out.say(&(hash_of(v) == hash_of(w)));
-    if Some(v.cmp(w)) != v.partial_cmp(w) || Some(w.cmp(v)) != w.partial_cmp(v) {
-        out.say_word("but not by `cmp`");
-    }
-    if hash_of(v) != hash_of(&list) {
-        out.say_word("but its hash is not that of its slice");
+    let hash = hash_of(v);
+    out.say(&(hash == hash_of(w)));
+    if Some(v.cmp(w)) != v.partial_cmp(w) || hash != hash_of(list) {
+        out.say_word("but not by `cmp`, or as its slice");
     }
 }
 
-pub fn hash_of<T: Hash>(x: &T) -> u64 {
+fn hash_of<T: Hash>(x: &T) -> u64 {
     let mut state = DefaultHasher::new();
     x.hash(&mut state);
     state.finish()
 }
 
-/// Writes the text of a list by `{}`, `{:?}`, `{:#?}` or `{:4}`, in quotes.
+/// Writes a text by `{}`, `{:?}` or `{:#?}`, in quotes.
 pub fn say_plain<V: fmt::Display + fmt::Debug>(v: &V, form: Name, out: &mut Out) {
     out.put("\"");
     let mut text = Quoted(&mut *out);
-    let written = match form {
-        Name::Plain => write!(text, "{v}"),
+    let _ = match form {
         Name::Debug => write!(text, "{v:?}"),
         Name::Pretty => write!(text, "{v:#?}"),
-        Name::Wide => write!(text, "{v:4}"),
-        _ => Err(fmt::Error),
+        _ => write!(text, "{v}"),
     };
-    if written.is_err() {
-        out.fail(Wrong::Place);
-    }
     out.say_word("\"");
 }
 
@@ -68,8 +60,7 @@ impl<V: fmt::LowerHex + fmt::UpperHex + fmt::Octal + fmt::Binary> InBases for V 
 pub fn say_shown<V: fmt::Display + fmt::Debug + InBases>(v: &V, form: Name, out: &mut Out) {
     match form {
         Name::LowerHex | Name::UpperHex | Name::Octal | Name::Binary => {
-            let based = Based(v, form);
-            say_plain(&based, Name::Plain, out);
+            say_plain(&Based(v, form), Name::Plain, out);
         }
         form => say_plain(v, form, out),
     }

@@ -1,7 +1,8 @@
 //! Rows of what only a `SliceVec` has.
-use crate::slots::{Storage, make_call, say_vector};
+use crate::array::set;
+use crate::slots::{Storage, make_call};
 use tinyvec::ArrayVec;
-use tinyvec_rows::{Call, Counter, Item, Name, Out};
+use tinyvec_rows::{Call, Item, Name, Out};
 
 impl<'s, T: Item> Storage for &'s mut [T] {
     fn call(
@@ -11,14 +12,14 @@ impl<'s, T: Item> Storage for &'s mut [T] {
         out: &mut Out,
     ) {
         let n = call.index;
+        let (is_in, fits) = (n <= v.len(), n <= v.capacity());
         match call.name {
-            Name::Resize if n <= v.capacity() => out.done(v.resize(n, call.item())),
-            Name::ResizeWith if n <= v.capacity() => {
-                let mut counter = Counter::new(out.alloc(), call.number);
-                v.resize_with(n, || counter.next());
-                out.say(&counter.calls());
+            Name::Resize if fits => out.done(v.resize(n, call.item())),
+            Name::ResizeWith if fits => {
+                v.resize_with(n, || call.item());
+                out.say(&call.items.len());
             }
-            Name::SplitOff if n <= v.len() => say_vector(&v.split_off(n), out),
+            Name::SplitOff if is_in => set(other, v.split_off(n)),
             _ => make_call(v, other, call, out),
         }
     }

@@ -1,9 +1,9 @@
 //! Rows of a vector over slots: of an `ArrayVec` and of a `SliceVec`.
-use crate::calls::{cut, filter, lend, ranged, say_extended, splice};
+use crate::array::set_made;
+use crate::calls::{add_to_each, cut, filter, lend, ranged, say_counted, say_extended, splice};
 use crate::held::{Copies, Writes, write_text};
 use crate::steps::stepped;
 use crate::vector::Vector;
-use std::fmt::Debug;
 use tinyvec::{ArrayVec, Slots, TakesClones};
 use tinyvec_rows::{Call, Item, Name, Out, Span, Step, Wrong, has_at_most, is_within};
 
@@ -18,11 +18,6 @@ pub trait Storage: TakesClones {
     );
 }
 
-/// Writes the list and the spare slots. Apart from `Vector`, whose calls need it.
-pub fn say_vector<T: Item, S: Slots<Item = T>>(v: &ArrayVec<S>, out: &mut Out) {
-    out.say_slots(v.as_slice(), v.grab_spare_slice());
-}
-
 impl<T: Item, S: Storage<Item = T>> Vector for ArrayVec<S> {
     type Item = T;
 
@@ -31,7 +26,7 @@ impl<T: Item, S: Storage<Item = T>> Vector for ArrayVec<S> {
     }
 
     fn say_state(&self, out: &mut Out) {
-        say_vector(self, out);
+        out.say_slots(self.as_slice(), self.grab_spare_slice());
     }
 
     fn call(&mut self, other: &mut ArrayVec<S>, call: &mut Call<T>, out: &mut Out) {
@@ -59,17 +54,11 @@ pub fn make_call<T: Item, S: TakesClones<Item = T>>(
     call: &mut Call<T>,
     out: &mut Out,
 ) {
+    let fits = other.len() <= v.remaining_capacity();
     match call.name {
-        Name::Append if other.len() <= v.remaining_capacity() => v.append(other),
-        Name::TryAppend => {
-            if let Some(back) = v.try_append(other) {
-                say_vector(back, out);
-            }
-        }
-        Name::AppendIfFits => match v.append_if_fits(other) {
-            Ok(emptied) => say_vector(emptied, out),
-            Err(back) => say_vector(back, out),
-        },
+        Name::Append if fits => v.append(other),
+        Name::TryAppend => out.say(&v.try_append(other).is_some()),
+        Name::AppendIfFits => out.say(&v.append_if_fits(other).is_ok()),
         _ => append(v, call, out),
     }
 }
@@ -82,10 +71,7 @@ fn append<T: Item, S: TakesClones<Item = T>>(
     let room = v.remaining_capacity();
     match call.name {
         Name::Extend => say_extended(v.extend(call.take_items()), out),
-        Name::Fill => {
-            let rest = v.fill(call.take_items());
-            out.say_all(rest.fuse());
-        }
+        Name::Fill => out.say(&v.fill(call.take_items()).next()),
         Name::ExtendFromSlice if call.items.len() <= room => {
             out.done(v.extend_from_slice(call.items.as_slice()));
         }
@@ -105,26 +91,27 @@ fn take_out<T: Item, S: Slots<Item = T>>(v: &mut ArrayVec<S>, call: &mut Call<T>
 fn look<T: Item, S: Slots<Item = T>>(v: &mut ArrayVec<S>, call: &mut Call<T>, out: &mut Out) {
     lend!(v, call, is_full, out,
         Name::SetLen if call.index <= v.capacity() => v.set_len(call.index),
-        Name::WriteSpare => out.write_spare(v.grab_spare_slice_mut(), call.items.as_mut_slice()),
+        Name::WriteSpare => add_to_each(v.grab_spare_slice_mut().iter_mut(), call.number),
         _ => put_in(v, call, out),
     )
 }
 
 fn put_in<T: Item, S: Slots<Item = T>>(v: &mut ArrayVec<S>, call: &mut Call<T>, out: &mut Out) {
-    let (i, is_full) = (call.index, v.is_full());
+    let i = call.index;
+    let (is_in, has_room) = (i <= v.len(), !v.is_full());
     match call.name {
-        Name::Push if !is_full => v.push(call.item()),
-        Name::PushMut if !is_full => {
+        Name::Push if has_room => v.push(call.item()),
+        Name::PushMut if has_room => {
             let y = call.item();
             out.say_and_set(v.push_mut(call.item()), y);
         }
-        Name::Insert if i <= v.len() && !is_full => v.insert(i, call.item()),
-        Name::InsertMut if i <= v.len() && !is_full => {
+        Name::Insert if is_in && has_room => v.insert(i, call.item()),
+        Name::InsertMut if is_in && has_room => {
             let y = call.item();
             out.say_and_set(v.insert_mut(i, call.item()), y);
         }
         Name::TryPush => out.say(&v.try_push(call.item())),
-        Name::TryInsert if i <= v.len() => out.say(&v.try_insert(i, call.item())),
+        Name::TryInsert if is_in => out.say(&v.try_insert(i, call.item())),
         _ => keep(v, call, out),
     }
 }
@@ -134,50 +121,43 @@ fn keep<T: Item, S: Slots<Item = T>>(v: &mut ArrayVec<S>, call: &mut Call<T>, ou
 }
 
 fn replace<T: Item, S: Slots<Item = T>>(v: &mut ArrayVec<S>, call: &mut Call<T>, out: &mut Out) {
-    ranged!(v, call, spliced, out,
-        Name::DrainEach
-            if is_within(call.range, v.len())
-                && v.len() <= call.items.capacity() - call.items.len() => {
-            let (range, mut given) = (call.range, call.take_items());
-            v.drain_each(range, &mut |x| given.push(x).unwrap_or(()));
-            out.say(&given.as_slice());
-        }
-        Name::DrainToVec => say_vec(v.drain_to_vec(out.alloc()), out),
-        Name::DrainToVecAndReserve => {
-            say_vec(v.drain_to_vec_and_reserve(out.alloc(), call.index), out);
-        }
-        _ => out.fail(Wrong::Place),
-    )
+    ranged!(v, call, spliced, out, _ => move_out(v, call, out),)
 }
 
 fn spliced<T: Item, S: Slots<Item = T>>(v: &mut ArrayVec<S>, call: &mut Call<T>, out: &mut Out) {
-    splice!(v, call, out)
+    splice!(v, call, out, splice => say_counted(splice.finish_counted(), out))
 }
 
-// Writes the items that came out, and how much room they have.
-fn say_vec<T: Item, E: Debug + Drop>(made: Result<Vec<T>, E>, out: &mut Out) {
-    match made {
-        Ok(vec) => {
-            out.say(&vec.as_slice());
-            out.say(&vec.capacity());
+// Moves items into the list of the call.
+fn move_out<T: Item, S: Slots<Item = T>>(v: &mut ArrayVec<S>, call: &mut Call<T>, out: &mut Out) {
+    let alloc = out.alloc();
+    match call.name {
+        Name::DrainEach
+            if is_within(call.range, v.len())
+                && v.len() <= call.items.capacity() - call.items.len() => {
+            let items = &mut call.items;
+            v.drain_each(call.range, &mut |x| items.push(x).unwrap_or(()));
+            return out.say(&call.items.as_slice());
         }
-        Err(error) => out.say(&error),
+        Name::DrainToVec => set_made(&mut call.items, v.drain_to_vec(alloc), out),
+        Name::DrainToVecAndReserve => {
+            set_made(&mut call.items, v.drain_to_vec_and_reserve(alloc, call.index), out);
+        }
+        _ => return out.fail(Wrong::Place),
     }
+    out.say(&(call.items.as_slice(), call.items.capacity()));
 }
 
 impl<T: Item + Copy, S: Storage<Item = T>> Copies for ArrayVec<S> {
-    fn extend_copies(&mut self, items: &[T], out: &mut Out) {
-        if items.len() > self.remaining_capacity() {
-            return out.fail(Wrong::Place);
+    fn copy(&mut self, call: &Call<T>, out: &mut Out) {
+        let (range, items) = (call.range, call.items.as_slice());
+        match call.name {
+            Name::ReplaceRange if is_within(range, self.len()) => {
+                out.done(self.replace_range(range, items));
+            }
+            _ if items.len() <= self.remaining_capacity() => self.extend_from_slice_copy(items),
+            _ => out.fail(Wrong::Place),
         }
-        self.extend_from_slice_copy(items);
-    }
-
-    fn replace(&mut self, range: Span, items: &[T], out: &mut Out) {
-        if !is_within(range, self.len()) {
-            return out.fail(Wrong::Place);
-        }
-        out.done(self.replace_range(range, items));
     }
 }
 

@@ -1,11 +1,13 @@
 //! The vectors that rows begin with.
 use crate::array::set;
+use crate::compare::{say_orders, say_plain};
 use crate::held::HeldBy;
 use crate::slots::Storage;
 use crate::vector::{Calls, answer};
 use std::alloc::Global;
+use std::fmt;
 use tinyvec::{Array, ArrayVec, SliceVec, Slots, TinyVec};
-use tinyvec_rows::{Item, Read, Wide, Words, Wrong};
+use tinyvec_rows::{Item, Name, Read, Words, Wrong};
 
 type Boxed = Option<Box<i32>>;
 
@@ -23,13 +25,10 @@ macro_rules! sized {
 pub fn answer_array(held: &str, words: &mut Words<'_>, calls: &mut Calls<'_>) {
     let (item, count) = array_in(words.alloc, held);
     match item {
-        "[i32" => sized!(numbers_in_array, i32, count, words, calls, 0 3 4 7 8 10 600),
-        "[u8" => sized!(bytes_in_array, u8, count, words, calls, 10 600),
-        "[()" if count == 4 => of_array::<(), [(); 4]>(words, calls),
+        "[i32" => sized!(numbers_in_array, i32, count, words, calls, 0 4 10),
+        "[u8" if count == 10 => of_array::<u8, [u8; 10]>(words, calls),
         "[Box" if count == 4 => of_array::<Boxed, [Boxed; 4]>(words, calls),
-        "[Wide" if count == 20 => of_array::<Wide, [Wide; 20]>(words, calls),
-        "[u128" if count == 100 => of_array::<u128, [u128; 100]>(words, calls),
-        "[f64" if count == 70 => of_array::<f64, [f64; 70]>(words, calls),
+        "[f64" if count == 4 => floats_in_array(words, calls),
         _ => calls.out.fail(Wrong::Vector),
     }
 }
@@ -39,19 +38,14 @@ fn numbers_in_array<A: Array<Item = i32> + Storage>(words: &mut Words<'_>, calls
     of_array::<i32, A>(words, calls);
 }
 
-fn bytes_in_array<A: Array<Item = u8> + Storage>(words: &mut Words<'_>, calls: &mut Calls<'_>) {
-    of_array::<u8, A>(words, calls);
-}
-
 /// Makes the `TinyVec`s of a row, and answers its calls.
 pub fn answer_tiny(held: &str, words: &mut Words<'_>, calls: &mut Calls<'_>) {
     let (item, count) = array_in(words.alloc, held);
     match item {
-        "[i32" => sized!(numbers_in_tiny, i32, count, words, calls, 0 1 2 3 4 10 600),
-        "[u8" => sized!(bytes_in_tiny, u8, count, words, calls, 4 600),
-        "[()" if count == 2 => of_tiny::<(), [(); 2]>(words, calls),
+        "[i32" => sized!(numbers_in_tiny, i32, count, words, calls, 0 2 4 10),
+        "[u8" if count == 4 => of_tiny::<u8, [u8; 4]>(words, calls),
         "[Box" if count == 4 => of_tiny::<Boxed, [Boxed; 4]>(words, calls),
-        "[f64" if count == 2 => of_tiny::<f64, [f64; 2]>(words, calls),
+        "[f64" if count == 2 => floats_in_tiny(words, calls),
         _ => calls.out.fail(Wrong::Vector),
     }
 }
@@ -60,20 +54,51 @@ fn numbers_in_tiny<A: Array<Item = i32>>(words: &mut Words<'_>, calls: &mut Call
     of_tiny::<i32, A>(words, calls);
 }
 
-fn bytes_in_tiny<A: Array<Item = u8>>(words: &mut Words<'_>, calls: &mut Calls<'_>) {
-    of_tiny::<u8, A>(words, calls);
-}
-
 /// Makes the `SliceVec`s of a row, and answers its calls.
 pub fn answer_slice(item: &str, words: &mut Words<'_>, calls: &mut Calls<'_>) {
     match item {
         "i32>" => lend::<i32>(words, calls),
         "u8>" => lend::<u8>(words, calls),
-        "()>" => lend::<()>(words, calls),
         "Box>" => lend::<Boxed>(words, calls),
-        "f64>" => lend::<f64>(words, calls),
         _ => calls.out.fail(Wrong::Vector),
     }
+}
+
+// Numbers that need not be equal to themselves.
+fn floats_in_array(words: &mut Words<'_>, calls: &mut Calls<'_>) {
+    let mut v = ArrayVec::<[f64; 4]>::new();
+    let mut other = ArrayVec::<[f64; 4]>::new();
+    start(&mut v, words);
+    if words.goes_on("and") {
+        start(&mut other, words);
+    }
+    words.end();
+    if calls.out.accepts(words) {
+        answer_floats(&v, &other, calls);
+    }
+}
+
+fn floats_in_tiny(words: &mut Words<'_>, calls: &mut Calls<'_>) {
+    let mut v = TinyVec::<[f64; 2]>::new(words.alloc);
+    let mut other = TinyVec::<[f64; 2]>::new(words.alloc);
+    start_tiny(&mut v, words);
+    if words.goes_on("and") {
+        start_tiny(&mut other, words);
+    }
+    words.end();
+    if calls.out.accepts(words) {
+        answer_floats(&v, &other, calls);
+    }
+}
+
+fn answer_floats<V: PartialOrd + fmt::Display + fmt::Debug>(v: &V, w: &V, calls: &mut Calls<'_>) {
+    match calls.text {
+        "compare" => say_orders(v, w, calls.out),
+        "show {}" => say_plain(v, Name::Plain, calls.out),
+        "show {:?}" => say_plain(v, Name::Debug, calls.out),
+        _ => calls.out.fail(Wrong::Place),
+    }
+    calls.out.put("\t");
 }
 
 // The item and the length of an array, as in `[i32;4]>`.
@@ -193,9 +218,7 @@ fn lend<T: InSlices>(words: &mut Words<'_>, calls: &mut Calls<'_>) {
             pair,
         };
         let shown = shown(slots.as_mut_slice(), others.as_mut_slice(), lent, calls);
-        // A list of numbers that are none is not equal to itself.
-        let is_told = shown.as_slice() == shown.as_slice();
-        if is_told && !slots.starts_with(shown.as_slice()) {
+        if !slots.starts_with(shown.as_slice()) {
             calls.out.say_word("but the owner of the slots sees others");
         }
     }
@@ -254,32 +277,10 @@ impl InSlices for u8 {
     }
 }
 
-impl InSlices for () {
-    fn answer<'s>(
-        v: &mut SliceVec<'s, ()>,
-        other: &mut SliceVec<'s, ()>,
-        pair: bool,
-        calls: &mut Calls<'_>,
-    ) {
-        answer(v, other, pair, calls);
-    }
-}
-
 impl InSlices for Boxed {
     fn answer<'s>(
         v: &mut SliceVec<'s, Boxed>,
         other: &mut SliceVec<'s, Boxed>,
-        pair: bool,
-        calls: &mut Calls<'_>,
-    ) {
-        answer(v, other, pair, calls);
-    }
-}
-
-impl InSlices for f64 {
-    fn answer<'s>(
-        v: &mut SliceVec<'s, f64>,
-        other: &mut SliceVec<'s, f64>,
         pair: bool,
         calls: &mut Calls<'_>,
     ) {

@@ -1,5 +1,4 @@
 //! Steps of the iterators of vectors, which rows name.
-use std::fmt::Write;
 use std::iter::Fuse;
 use std::vec;
 use tinyvec_rows::{Item, Name, Out, Step, Wrong};
@@ -34,6 +33,8 @@ macro_rules! step_at_ends {
             tinyvec_rows::Name::Next => $out.say(&$it.next()),
             tinyvec_rows::Name::Back => $out.say(&$it.next_back()),
             tinyvec_rows::Name::Left => $out.say(&((*$it).len(), (*$it).size_hint())),
+            tinyvec_rows::Name::Debug => $out.say($it),
+            tinyvec_rows::Name::Pretty => $out.say_pretty($it),
             $($arm)*
         }
     };
@@ -50,11 +51,7 @@ where
     ghost Ready = { DrainCanStep V.CanDrain };
 
     fn step(&mut self, step: Step, out: &mut Out) {
-        step_at_ends!(self, step, out,
-            Name::Debug => out.say(self),
-            Name::Hint => out.say_hint(self),
-            _ => out.fail(Wrong::Place),
-        )
+        step_at_ends!(self, step, out, _ => out.fail(Wrong::Place),)
     }
 }
 
@@ -69,7 +66,7 @@ where
     fn step(&mut self, step: Step, out: &mut Out) {
         match step.name {
             Name::Next => out.say(&self.next()),
-            Name::Hint => out.say_hint(self),
+            Name::Left => out.say(&(*self).size_hint()),
             _ => out.fail(Wrong::Place),
         }
     }
@@ -85,7 +82,6 @@ where
 
     fn step(&mut self, step: Step, out: &mut Out) {
         step_at_ends!(self, step, out,
-            Name::Debug => drop(write!(out, "{self:?} ")),
             Name::Touches => out.say(&(*self).touches()),
             Name::Stop => {}
             _ => out.fail(Wrong::Place),
@@ -101,22 +97,9 @@ where
     for step in steps {
         match step.name {
             Name::Last => return out.say(&it.last()),
-            Name::Count => return say_count(it, out),
+            Name::Count => return out.say(&it.count()),
             _ => iterate(&mut it, *step, out),
         }
-    }
-}
-
-// Writes by `count` how many items are left, if `len` says so too.
-fn say_count<V: OwnsItems>(it: OwnedItems<V>, out: &mut Out)
-where
-    V::Item: Item,
-{
-    let len = it.len();
-    let count = it.count();
-    out.say(&count);
-    if count != len {
-        out.say_word("but not by `len`");
     }
 }
 
@@ -125,7 +108,6 @@ where
     V::Item: Item,
 {
     step_at_ends!(it, step, out,
-        Name::Debug => out.say(it),
         Name::Slice => out.say(&it.as_slice()),
         Name::Clone => out.say_made(it.clone()),
         Name::Nth => out.say(&it.nth(step.count)),

@@ -1,13 +1,12 @@
 //! Rows of a `TinyVec`.
 use crate::array::{array_of, set, set_collected, set_made};
-use crate::calls::{cut, filter, lend, ranged, say_extended, splice};
+use crate::calls::{cut, filter, lend, ranged, say_extended, say_spliced, splice};
 use crate::held::Copies;
 use crate::steps::{iterated, stepped};
 use crate::vector::Vector;
-use std::fmt::Debug;
 use std::mem;
 use tinyvec::{Array, NoMemory, TinyVec};
-use tinyvec_rows::{Call, Counter, Item, Name, Out, Span, Step, Wrong, is_within};
+use tinyvec_rows::{Call, Item, Name, Out, Span, Step, Wrong, is_within};
 
 impl<T: Item, A: Array<Item = T>> Vector for TinyVec<A> {
     type Item = T;
@@ -23,7 +22,11 @@ impl<T: Item, A: Array<Item = T>> Vector for TinyVec<A> {
     fn call(&mut self, other: &mut TinyVec<A>, call: &mut Call<T>, out: &mut Out) {
         match call.name {
             Name::Append => out.done(self.append(other)),
-            Name::CloneFrom => out.done(self.clone_from(other)),
+            Name::Clone => set_made(other, self.clone(), out),
+            Name::CloneFrom => out.done(self.clone_from(&*other)),
+            Name::SplitOff if call.index <= self.len() => {
+                set_made(other, self.split_off(call.index), out);
+            }
             _ => take_out(self, call, out),
         }
     }
@@ -115,9 +118,8 @@ fn append<T: Item, A: Array<Item = T>>(v: &mut TinyVec<A>, call: &mut Call<T>, o
         }
         Name::Resize => out.done(v.resize(call.index, call.item())),
         Name::ResizeWith => {
-            let mut counter = Counter::new(out.alloc(), call.number);
-            out.done(v.resize_with(call.index, || counter.next()));
-            out.say(&counter.calls());
+            out.done(v.resize_with(call.index, || call.item()));
+            out.say(&call.items.len());
         }
         _ => keep(v, call, out),
     }
@@ -128,48 +130,31 @@ fn keep<T: Item, A: Array<Item = T>>(v: &mut TinyVec<A>, call: &mut Call<T>, out
 }
 
 fn replace<T: Item, A: Array<Item = T>>(v: &mut TinyVec<A>, call: &mut Call<T>, out: &mut Out) {
-    ranged!(v, call, spliced, out, _ => part(v, call, out),)
+    ranged!(v, call, spliced, out, _ => move_out(v, call, out),)
 }
 
 fn spliced<T: Item, A: Array<Item = T>>(v: &mut TinyVec<A>, call: &mut Call<T>, out: &mut Out) {
-    splice!(v, call, out)
+    splice!(v, call, out, splice => say_spliced(splice.finish(), out))
 }
 
-fn part<T: Item, A: Array<Item = T>>(v: &mut TinyVec<A>, call: &mut Call<T>, out: &mut Out) {
+// Moves the items out.
+fn move_out<T: Item, A: Array<Item = T>>(v: &mut TinyVec<A>, call: &mut Call<T>, out: &mut Out) {
     match call.name {
-        Name::Clone => say_made(v.clone(), out),
-        Name::SplitOff if call.index <= v.len() => say_made(v.split_off(call.index), out),
-        Name::IntoIter | Name::IntoVec | Name::IntoBoxedSlice => drain_all(v, call, out),
-        _ => with_room(v, call, out),
-    }
-}
-
-fn say_made<T: Item, A: Array<Item = T>, E: Debug + Drop>(
-    made: Result<TinyVec<A>, E>,
-    out: &mut Out,
-) {
-    match made {
-        Ok(v) => say_tiny(&v, out),
-        Err(error) => out.say(&error),
-    }
-}
-
-fn drain_all<T: Item, A: Array<Item = T>>(v: &mut TinyVec<A>, call: &Call<T>, out: &mut Out) {
-    let owned = mem::replace(v, TinyVec::new(out.alloc()));
-    match call.name {
-        Name::IntoIter => iterated(owned.into_iter(), call.steps.as_slice(), out),
-        Name::IntoVec => match owned.into_vec() {
-            Ok(vec) => {
-                out.say(&vec.as_slice());
-                out.say(&vec.capacity());
-            }
+        Name::IntoIter => iterated(taken(v, out).into_iter(), call.steps.as_slice(), out),
+        Name::IntoVec => match taken(v, out).into_vec() {
+            Ok(vec) => out.say(&(vec.as_slice(), vec.capacity())),
             Err(NoMemory(back)) => {
                 set(v, back);
                 out.say_word("NoMemory");
             }
         },
-        _ => out.say_made(owned.into_boxed_slice()),
+        Name::IntoBoxedSlice => out.say_made(taken(v, out).into_boxed_slice()),
+        _ => with_room(v, call, out),
     }
+}
+
+fn taken<T: Item, A: Array<Item = T>>(v: &mut TinyVec<A>, out: &Out) -> TinyVec<A> {
+    mem::replace(v, TinyVec::new(out.alloc()))
 }
 
 fn with_room<T: Item, A: Array<Item = T>>(v: &mut TinyVec<A>, call: &mut Call<T>, out: &mut Out) {
@@ -195,34 +180,42 @@ fn remake<T: Item, A: Array<Item = T>>(v: &mut TinyVec<A>, call: &mut Call<T>, o
         Name::WithInitialLen => set_made(v, TinyVec::with_initial_len(alloc, n), out),
         Name::FromSlice => set_made(v, TinyVec::from_slice(alloc, call.items.as_slice()), out),
         Name::FromVec => set(v, TinyVec::from_vec(call.take_items())),
-        Name::FromArray => {
-            let array = array_of(call.items.as_mut_slice(), out);
-            set(v, TinyVec::from_array(alloc, array));
-        }
-        Name::TryFromArrayLen => {
-            let array = array_of(call.items.as_mut_slice(), out);
-            match TinyVec::try_from_array_len(alloc, array, n) {
-                Ok(made) => set(v, made),
-                Err(array) => {
-                    out.say_word("refused");
-                    set(v, TinyVec::from_array(alloc, array));
-                }
-            }
-        }
         Name::FromIter => set_collected(v, TinyVec::from_iter(alloc, call.take_items()), out),
+        Name::FromArray | Name::TryFromArrayLen => {
+            remake_of(v, array_of(call.items.as_mut_slice(), out), call, out);
+        }
         _ => out.fail(Wrong::Place),
     }
 }
 
-impl<T: Item + Copy, A: Array<Item = T>> Copies for TinyVec<A> {
-    fn extend_copies(&mut self, items: &[T], out: &mut Out) {
-        out.done(self.extend_from_slice_copy(items));
+fn remake_of<T: Item, A: Array<Item = T>>(
+    v: &mut TinyVec<A>,
+    array: A,
+    call: &Call<T>,
+    out: &mut Out,
+) {
+    let alloc = out.alloc();
+    match call.name {
+        Name::FromArray => set(v, TinyVec::from_array(alloc, array)),
+        _ => match TinyVec::try_from_array_len(alloc, array, call.index) {
+            Ok(made) => set(v, made),
+            Err(array) => {
+                out.say_word("refused");
+                set(v, TinyVec::from_array(alloc, array));
+            }
+        },
     }
+}
 
-    fn replace(&mut self, range: Span, items: &[T], out: &mut Out) {
-        if !is_within(range, self.len()) {
-            return out.fail(Wrong::Place);
+impl<T: Item + Copy, A: Array<Item = T>> Copies for TinyVec<A> {
+    fn copy(&mut self, call: &Call<T>, out: &mut Out) {
+        let (range, items) = (call.range, call.items.as_slice());
+        match call.name {
+            Name::ReplaceRange if is_within(range, self.len()) => {
+                out.done(self.replace_range(range, items));
+            }
+            Name::ExtendFromSliceCopy => out.done(self.extend_from_slice_copy(items)),
+            _ => out.fail(Wrong::Place),
         }
-        out.done(self.replace_range(range, items));
     }
 }

@@ -1,6 +1,6 @@
 //! The trait of the vectors that rows call, and what answers their calls.
 use crate::held::HeldBy;
-use tinyvec_rows::{Call, Item, Name, Out, Span, Step, Words, window};
+use tinyvec_rows::{Call, Item, Name, Out, Span, Step, VECTOR_CALLS, Words, window};
 
 /// A vector that rows call.
 pub trait Vector {
@@ -41,18 +41,12 @@ where
     let out = &mut *calls.out;
     for call in calls.text.split('\t') {
         answer_call(v, other, call, out);
-        if V::Item::is_left() {
-            say_states(v, other, pair, out);
+        v.say_state(out);
+        if pair {
+            out.put("and ");
+            other.say_state(out);
         }
         out.put("\t");
-    }
-}
-
-fn say_states<V: Vector>(v: &V, other: &V, pair: bool, out: &mut Out) {
-    v.say_state(out);
-    if pair {
-        out.put("and ");
-        other.say_state(out);
     }
 }
 
@@ -63,7 +57,7 @@ where
     let alloc = out.alloc();
     let mut words = Words::new(alloc, call);
     let refused = window::read(&mut words);
-    let mut call = Call::read(&mut words);
+    let mut call = Call::read(&VECTOR_CALLS, &mut words);
     out.reserve(1 << 15);
     if out.accepts(&words) {
         window::open(alloc, refused);
