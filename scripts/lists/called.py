@@ -18,7 +18,7 @@ FORMS = ("BorshSerialize", "BorshDeserialize")
 SHOWN = {
     "streams": ("Counted", "BorshSerialize", "BorshError"),
     "TinyVec": ("TinyVec", "Drain", "Splice"),
-    "InlineText": ("InlineText", "InlineTextDrain"),
+    "InlineText": ("InlineText", "InlineTextDrain", "FromUtf8Error"),
 }
 
 BENCH = exports.TOP / "bench/calls.txt"

@@ -8,37 +8,31 @@ EACH = 65535
 class Calls:
     def __init__(self, operands, refusal, uncounted=()):
         """`operands` has for each form of a word what draws it of a model: its text and its value, or None where there is none.
-        `refusal` tells what a call answers to which memory was refused. Of calls with words of the uncounted forms it is not
-        known how many requests they make."""
-        self.operands, self.refusal, self.uncounted = operands, refusal, uncounted
-        self.known, self.of_kind = [], {}
+        `refusal` tells what a call answers to which memory was refused. Of the uncounted calls it is not known how many requests
+        they make."""
+        self.operands, self.refusal, self.uncounted, self.known = operands, refusal, uncounted, []
 
-    def __call__(self, form, on=(), held=()):
-        """Keeps a function as the call of this form, as `insert I X`, of models of these kinds, or all, that hold these items. It
-        returns what the call answers, or None, with nothing changed, where its condition does not hold or memory is refused."""
+    def __call__(self, form):
+        """Keeps a function as the call of this form, as `insert B C`. It returns what the call answers, or None, with nothing
+        changed, where its condition does not hold or memory is refused."""
         name, *forms = form.split(" ")
-        return lambda does: self.known.append((name, forms, on, held, does)) or does
+        return lambda does: self.known.append((name, forms, does)) or does
 
-    def drawn(self, draw, model, is_refused, named=None):
-        """A call that the model can make, or the one of that name, what it answers, and how many requests it makes. Some are
-        refused where that is asked."""
-        kind = model.kind, model.name, named
-        if kind not in self.of_kind:
-            known = [it for it in self.known if model.kind in (it[2] or kind) and model.name in (it[3] or kind)]
-            self.of_kind[kind] = [it for it in known if it[0] == (named or it[0])]
+    def drawn(self, draw, model, is_refused):
+        """A call that the model can make, what it answers, and how many requests it makes. Some are refused where that is asked."""
         while True:
-            name, forms, *_, does = draw.choice(self.of_kind[kind])
+            name, forms, does = draw.choice(self.known)
             operands = [self.operands[it](draw, model) for it in forms]
             if None in operands:
                 continue
-            is_counted = not set(self.uncounted) & {name, *forms}
+            is_counted = name not in self.uncounted
             model.asked, model.granted = 0, math.inf
-            if is_refused and is_counted and not model.item.is_owner and draw.random() < 0.2:
+            if is_refused and is_counted and draw.random() < 0.2:
                 model.granted = draw.choice([0, 0, 1])
             values = [value for _, value in operands]
             answer = does(model, *values)
             if answer is None and model.asked > model.granted:
-                answer = self.refusal(name, model, values)
+                answer = self.refusal(name)
             if answer is not None:
                 refused = {math.inf: "", 0: f"refused {EACH}"}.get(model.granted, f"refused {model.granted + 1}")
                 words = " ".join(it for it in (refused, name, *(text for text, _ in operands)) if it)

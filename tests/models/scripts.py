@@ -59,7 +59,7 @@ class Model:
     """The vectors of a script, and its text."""
 
     def __init__(self):
-        self.held = {name: Vector(kind, "i32", SLOTS) for name, kind in zip("AST", ("ArrayVec", "SliceVec", "TinyVec"))}
+        self.held = {name: Vector(kind, SLOTS) for name, kind in zip("AST", ("ArrayVec", "SliceVec", "TinyVec"))}
         self.held["X"] = Text(SLOTS)
 
     def answer(self, line):

@@ -4,10 +4,10 @@ from models.texts import LETTERS
 
 NUMBERS = ("u8", "i8", "u16", "i16", "u32", "i32", "u64", "i64", "u128", "i128")
 LISTS = (
-    *(f"ArrayVec<[{it}]>" for it in ("u8;0", "u8;1", "u8;2", "u8;4", "i16;2", "i32;0", "i32;4", "ArrayVec<[u8;2]>;2")),
-    *(f"TinyVec<[{it}]>" for it in ("u8;0", "u8;2", "u8;3", "i16;4", "u32;2", "i32;1", "i128;4", "ArrayVec<[u8;2]>;1")),
+    *(f"ArrayVec<[{it}]>" for it in ("u8;0", "u8;4", "i32;0", "i32;4", "ArrayVec<[u8;2]>;2")),
+    *(f"TinyVec<[{it}]>" for it in ("u8;2", "u8;4", "i32;0", "i32;1", "i32;4", "u32;4", "ArrayVec<[u8;2]>;1")),
 )
-TEXTS = ("InlineText<0>", "InlineText<4>")
+TEXTS = ("InlineText<4>",)
 
 
 class Fault(Exception):

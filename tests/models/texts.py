@@ -1,17 +1,17 @@
 """A text as its contracts have it: the bytes of its characters, inline or on the heap; and what calls answer and leave."""
 from rows import swept
 from models.calls import Calls, listed, spelled
-from models.vector_calls import into_vec, shrink_to_fit
+from models.vector_calls import shrink_to, shrink_to_fit
 from models.vectors import DOUBLES, EXACTLY, FOR, Vector, word
 
-SLOTS = (0, 4, 20)
+SLOTS = 4
 # Characters of one to four bytes.
 LETTERS = "ab \u00e9\u07ff\u20ac\U0001f600"
 
 
 class Text(Vector):
-    def __init__(self, slots):
-        super().__init__("TinyVec", "u8", slots)
+    def __init__(self, slots=SLOTS):
+        super().__init__("TinyVec", slots)
 
     def state(self, spell=None):
         return f"{'inline' if self.is_inline else f'heap {self.on_heap}'} {(spell or told)(self.text())}"
@@ -49,10 +49,10 @@ def given(text):
 
 
 def drawn(draw):
-    t = Text(draw.choice(SLOTS))
+    t = Text()
     t.list = list(drawn_text(draw).encode())
     t.is_inline = len(t.list) <= t.slots and draw.random() < 0.6
-    t.spare = t.defaults(t.slots - len(t.list)) if t.is_inline else []
+    t.spare = [0] * (t.slots - len(t.list)) if t.is_inline else []
     # Just the room for a text that is longer than the slots, or at least twice as much.
     count, more = len(t.list), draw.randint(0, 5)
     t.on_heap = draw.choice([count, 2 * count + more]) if count > t.slots else t.slots + 1 + more
@@ -77,9 +77,14 @@ def drawn_slots(draw, t):
 
 
 def drawn_other(draw, t):
-    """The same text or another, on the heap."""
+    """The same text or another, inline or on the heap."""
     text = draw.choice([t.text(), drawn_text(draw)])
-    return f"heap {2 * len(text.encode()) + t.slots + 1} {hexed(text)}", text
+    return f"{draw.choice([0, t.slots + 1])} {hexed(text)}", text
+
+
+def drawn_steps(draw, _t):
+    steps = draw.choices(["next", "back", "left", "slice", "{:?}"], k=draw.randrange(7))
+    return " ".join(steps), steps
 
 
 OPERANDS = {
@@ -90,14 +95,15 @@ OPERANDS = {
     "T": lambda draw, _t: given(drawn_text(draw)),
     "OTHER": drawn_other,
     "SLOTS": drawn_slots,
+    "STEPS": drawn_steps,
 }
 
 
-def refusal(name, _t, _operands):
-    return {"into_string": "", "write_str": "Error", "write_pair": "Error"}.get(name, "AllocError")
+def refusal(name):
+    return {"into_string": "", "write_str": "Error", "write_numbers": "Error"}.get(name, "AllocError")
 
 
-calls = Calls(OPERANDS, refusal, uncounted=["shrink_to_fit", "shrink_to", "cmp"])
+calls = Calls(OPERANDS, refusal, uncounted=["shrink_to_fit", "shrink_to"])
 
 
 def reserved(t, text):
@@ -112,31 +118,27 @@ def part(t, start, end=None):
         return f"{'inline' if t.is_inline else f'heap {len(text)}'} {swept.told(text)}"
 
 
-def drained(t, start, end, is_from_back):
-    """What is removed, how many characters it may have, the one at an end before the rest, and those of the rest."""
-    text = bytes(t.list[start:end])
+def drained(t, span, steps):
+    text = bytes(t.list[slice(*span)])
     if not t.asks(len(text) > t.slots):
         return None
-    t.becomes(t.list[:start] + t.list[end:])
-    letters = text.decode()
-    end, rest = (letters[-1:], letters[:-1]) if is_from_back else (letters[:1], letters[1:])
-    taken = f"Some('{end}')" if end else "None"
-    answers = [f"InlineTextDrain({told(letters)})", f"({-(-len(text) // 4)}, Some({len(text)}))", f"({taken}, {told(rest)})"]
-    return " ".join([*answers, *(f"'{it}'" for it in rest)])
+    t.becomes(t.list[: span[0]] + t.list[span[1] :])
+    letters, said = list(text.decode()), []
+    for step in steps:
+        left = "".join(letters)
+        if step in ("next", "back"):
+            said.append(f"Some('{letters.pop(0 if step == 'next' else -1)}')" if letters else "None")
+        elif step == "left":
+            said.append(f"({-(-len(left.encode()) // 4)}, Some({len(left.encode())}))")
+        else:
+            said.append(told(left) if step == "slice" else f"InlineTextDrain({told(left)})")
+    return " ".join(said)
 
 
 def without(t, i):
     """Removes the character at `i`, and tells it."""
     letter = bytes(t.list[i:]).decode()[0]
     return t.puts(i, i + len(letter.encode()), "") or f"'{letter}'"
-
-
-def shrink_to(t, room):
-    wanted = max(len(t.list), room)
-    if t.is_inline or wanted <= t.slots:
-        return shrink_to_fit(t)
-    t.on_heap = min(t.on_heap, wanted)
-    return ""
 
 
 def from_utf8(t, new):
@@ -147,20 +149,28 @@ def from_utf8(t, new):
 
 
 def collected(t, text):
-    new = Text(t.slots)
+    new = Text()
     new.asked, new.granted = t.asked, t.granted
     return None if new.adds(text, are_pushed=True) is None else t.is_now(new)
 
 
 def compared(t, other):
-    ours, theirs = bytes(t.list), other.encode()
-    return f"Some({'Less' if ours < theirs else 'Greater' if ours > theirs else 'Equal'})"
+    orders, ours, theirs = ("Some(Less)", "Some(Equal)", "Some(Greater)"), bytes(t.list), other.encode()
+    order = (ours > theirs) - (ours < theirs)
+    return f"({orders[1 + order]}, {orders[1 - order]}) {spelled(order == 0)}"
 
 
-def retain_not(t, letter):
+def retained(t, letter):
     """It says how often the closure was asked: about each character once."""
     text = t.text()
     return t.becomes(list(text.replace(letter, "").encode())) or str(len(text))
+
+
+def into_string(t):
+    """An inline text gets just the room for it."""
+    if t.asks(t.is_inline and bool(t.list)):
+        said = f"({len(t.list) if t.is_inline else t.on_heap}, {told(t.text())})"
+        return said + t.made([])
 
 
 # What makes a text.
@@ -175,8 +185,8 @@ calls("collect T")(collected)
 calls("push C")(lambda t, letter: t.adds([letter], are_pushed=True))
 calls("push_str T")(lambda t, text: t.adds([text]))
 calls("write_str T")(lambda t, text: t.adds([text]))
-calls("write_pair N T")(lambda t, n, text: t.adds([str(n), ", ", text]))
-calls("extend_chars T")(lambda t, text: t.adds(text, are_pushed=True))
+calls("write_numbers N N")(lambda t, n, m: t.adds([str(n), ", ", str(m)]))
+calls("extend T")(lambda t, text: t.adds(text, are_pushed=True))
 calls("extend_words T")(lambda t, text: t.adds(text.split(" ")))
 calls("push_reserved C")(reserved)
 calls("push_str_reserved T")(reserved)
@@ -192,26 +202,20 @@ calls("truncate B")(lambda t, i: t.becomes(t.list[:i]))
 calls("insert B C")(lambda t, i, letter: t.puts(i, i, letter))
 calls("insert_str B T")(lambda t, i, text: t.puts(i, i, text))
 calls("replace_range R T")(lambda t, span, text: t.puts(*span, text))
-calls("retain_not C")(retain_not)
+calls("retain C")(retained)
 calls("split_off B")(lambda t, i: part(t, i, i))
-calls("drain R")(lambda t, span: drained(t, *span, False))
-calls("drain_from_back R")(lambda t, span: drained(t, *span, True))
+calls("drain R STEPS")(drained)
 calls("clone")(lambda t: part(t, 0))
 calls("shrink_to_fit")(shrink_to_fit)
 calls("shrink_to N")(shrink_to)
 calls("take")(lambda t: t.state() + t.made([]))
 calls("into_bytes")(lambda t: Vector.state(t) + t.made([]))
-calls("into_string")(lambda t: into_vec(t, lambda t, room: f"({room}, {told(t.text())})"))
+calls("into_string")(into_string)
 
 # What looks at it.
-calls("len")(lambda t: f"({len(t.list)}, {spelled(not t.list)}, {t.capacity()})")
-calls("is_inline")(lambda t: spelled(t.is_inline))
+calls("size")(lambda t: f"({len(t.list)}, {t.capacity()}, {spelled(not t.list)}, {spelled(t.is_inline)})")
 calls("is_char_boundary N")(lambda t, n: spelled(n in t.boundaries()))
-calls("show_to_four")(lambda t: told(t.text().rjust(4)))
-calls("show_one")(lambda t: told(t.text()[:1]))
-calls("is_hashed_as_str")(lambda t: "true")
-calls("cmp OTHER")(compared)
+calls("compare OTHER")(compared)
+calls("as_str")(lambda t: told(t.text()))
 for name in ("as_bytes", "as_slice"):
     calls(name)(lambda t: t.shown(t.list))
-for name in ("as_str", "debug", "show"):
-    calls(name)(lambda t: told(t.text()))

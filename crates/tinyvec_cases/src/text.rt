@@ -113,7 +113,7 @@ fn answer_call(t: &mut Text, call: &str, out: &mut Out) {
 // Each function makes the calls of a kind, and hands others on.
 fn look(t: &mut Text, other: &Text, call: &mut Call<u8>, out: &mut Out) {
     match call.name {
-        Name::Size => out.say(&(t.len(), t.is_empty(), t.capacity())),
+        Name::Size => out.say(&(t.len(), t.capacity(), t.is_empty(), t.is_inline())),
         Name::IsCharBoundary => out.say(&t.is_char_boundary(call.index)),
         Name::AsBytes => out.say(&t.as_bytes()),
         Name::AsSlice => out.say(&AsSlice::as_slice(t)),
