@@ -1,5 +1,6 @@
 """The words that the `specs/` of the crates define: what each is given, what it says, and its comment."""
 import functools
+import itertools
 import re
 
 from reading import contracts, exports, sources
@@ -35,6 +36,9 @@ class Word:
         # What it is given, by name.
         self.given = " ".join([*given, *own]).split()
         self.shown = code(" ".join([self.name, *self.given]))
+        type_ = " ".join(" ".join([found["rest"], *itertools.takewhile(lambda it: "=" not in it, body)]).split())
+        # How many arguments it takes: those of its modules, of its head and of its type.
+        self.arity = len(" ".join(given).split()) + arrows(head if self.kind else type_)
         # The fields of a record, or the variants of a data type, each with its statement and its comment.
         parts, said, is_record = [], "", self.kind == "record"
         for line in body if self.kind else ():
@@ -83,6 +87,14 @@ def words_of(file):
             comment = []
     ends = [*(at for at, *_ in starts[1:]), len(lines)]
     return [Word(*it, lines[at + 1 : end]) for (at, *it), end in zip(starts, ends)]
+
+
+def arrows(head):
+    """How many arguments a declaration takes that says `(a b : A) : B → {c : C} → D`."""
+    own, type_ = contracts.parts_of(f" {head} ", " : ")[:2]
+    taken = contracts.parts_of(type_, " → ")[:-1]
+    names = lambda text: len(" ".join(given_by(text)).split())
+    return names(own) + sum(names(it) or 1 for it in taken if not it.startswith("{"))
 
 
 def given_by(head):
