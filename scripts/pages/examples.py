@@ -8,9 +8,9 @@ from reading import exports
 FILE = exports.TOP / "docs/reference/examples.txt"
 
 # An example has at least so many lines, and at most so many.
-LEAST, MOST = 2, 5
+LEAST, MOST = 2, 6
 
-# The crate that has callers of the calls, over which these are compiled too.
+# The crate with which these are tried.
 CRATE = "tinyvec_examples"
 HEAD = """//! What the pages of the reference show.
 #![tactic(auto)]
@@ -20,11 +20,12 @@ use std::test::Fail;
 use tinyvec::{ArrayVec, FromIterRest, NoRoom, SliceVec, TinyVec, array_vec, tiny_vec};
 use tinyvec_borsh::{BorshDeserialize, BorshSerialize};
 use tinyvec_io::Counted;
+use tinyvec_script::{Answer, Call, End, drive_splice, run, run_array, run_tiny};
 use tinyvec_text::InlineText;
 """
 TEST = """
 #[test]
-fn {name}(rt: HostRuntime) -> Result<(), Fail> {{
+fn shows_{name}(rt: HostRuntime) -> Result<(), Fail> {{
 {lines}
     Ok(())
 }}
@@ -51,13 +52,15 @@ def faults(keys, calls):
         yield from [f"{where}: the example of {it} does not call it"] * (it in calls and not re.search(rf"\b{called}\(", text))
 
 
-def crate(callers):
-    """The crate whose tests the examples are, each by the name of its call. It uses what the crate of the callers uses."""
-    one, tests = crates.Crate("examples", f"examples: {' '.join(it.name for it in callers.uses)}", callers.uses), []
+def crate(shown):
+    """The crate whose tests the examples are, each by the name of its call, over all libraries; `shown` keeps what was built."""
+    known, tests = crates.read_crates(), []
+    uses = [known[it] for it in exports.LIBRARIES]
+    one = crates.Crate("examples", f"examples: {' '.join(exports.LIBRARIES)}", uses)
     for name, text in examples():
         lines = "let alloc = rt.alloc();\n" * bool(re.search(r"\balloc\b", text)) + text
         name = re.sub(r"\W+", "_", name.replace("!", "_macro")).lower()
         tests.append(TEST.format(name=name, lines=textwrap.indent(lines, "    ")))
-    one.out = callers.out
+    one.out = shown.out
     one.files = one.sources = {"src/lib.rt": (HEAD + "".join(tests)).encode()}
     return one
