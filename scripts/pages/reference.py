@@ -1,14 +1,14 @@
-"""Writes the reference, docs/reference/*.md: all that the libraries export, with contracts, callers and what differs in Rust.
+"""Writes the reference, docs/reference/*.md: all that the libraries export, with contracts, examples and what differs in Rust.
 
 `tests/docs` names the pages that differ from what this would write or have more than MOST lines, comments that are missing,
-and calls without a caller. What precedes the line MARK of a page is written by hand.
+and calls without an example. What precedes the line MARK of a page is written by hand.
 """
 import functools
 import re
 
 from building.crates import text_of
 from pages import examples, outcomes
-from reading import callers, exports
+from reading import exports
 from reading.exports import PAGES
 
 TOP = exports.TOP
@@ -21,8 +21,6 @@ MOST = 2000
 # The page of the table of calls, and the types that it has.
 INDEX = "README"
 COLUMNS = ("ARRAY_VEC", "SLICE_VEC", "TINY_VEC", "INLINE_TEXT")
-# Of a caller of more lines, and of one that the page has shown, only the line of the call is shown, between its neighbours.
-LONGEST = 8
 # The sections that a type with two pages has on the second, whose name ends so.
 SECOND = "_BULK"
 BULK = ("extending", "drain", "splice", "filters", "clones", "into_iter")
@@ -69,13 +67,10 @@ def faults():
         unended = (said[-60:] for said in it.prose() if not said.endswith((".", ":")))
         yield from (f"{where}: {key}: a sentence without its end: {said}" for said in unended)
         yield from [f"{where}: {key} has no `///`"] * (it.kind != "impl" and not it.item.comment)
-        if key in library.uncalled and not it.is_part:
-            yield f"docs/reference/{page}.md: no caller of {key}: write one in crates/tinyvec_examples/src"
     yield from exports.table_faults(COSTS, [it for it, _ in costs()], library.calls)
     yield from examples.faults(library.keys, library.calls)
     sections = {it.section() for _, it in library.entries()}
     yield from (f"docs/reference/sections.txt: {it} is only there, or only on a page" for it in sorted(sections ^ set(SECTIONS)))
-    yield from (f"{it} shows fewer than three lines of a caller" for it in sorted(library.short))
     for page, text in written.items():
         if text.count("\n") > MOST:
             yield f"docs/reference/{page}.md: more than {MOST} lines: give a section to its second page"
@@ -122,7 +117,7 @@ def pages():
 
 @functools.cache
 class Library:
-    """All exports by page, who calls them, and what is said of them beside Rust's crate."""
+    """All exports by page, an example of each call, and what is said of them beside Rust's crate."""
 
     def __init__(self):
         self.crates = [exports.Crate(it) for it in exports.LIBRARIES]
@@ -132,15 +127,10 @@ class Library:
         made = [Entry(export, self) for crate in self.crates for export in crate.exports()]
         self.pages = {page: [it for it in made if it.page == page] for page in PAGES}
         self.keys = {it.key() for _, it in self.entries()}
-        self.callers = {}
-        for caller in callers.callers(callers.Known(self.crates)):
-            for it in caller.calls:
-                self.callers[it] = min(self.callers.get(it, caller), caller, key=lambda one: len(one.text))
-        self.uncalled = {it for it in self.keys if is_call(it)} - self.callers.keys()
         self.calls = {it.key() for _, it in self.entries() if is_call(it.key()) and not it.is_part}
         self.costs, self.examples = dict(costs()), dict(examples.examples())
-        # Where a note is shown, and the calls of which few lines of a caller are.
-        self.notes, self.noted, self.short = notes(), {}, set()
+        # Where a note is shown.
+        self.notes, self.noted = notes(), {}
 
     def entries(self):
         return [(page, it) for page, found in self.pages.items() for it in found]
@@ -349,7 +339,7 @@ class Page:
     """What a page has: a table of its sections, and each section with its entries."""
 
     def __init__(self, library, name):
-        self.library, self.name, self.entries, self.shown = library, name, library.pages[name], set()
+        self.library, self.name, self.entries = library, name, library.pages[name]
         self.codes, self.told = {}, set()
         self.main, self.sections = main_of(name), {}
         for it in self.entries:
@@ -416,7 +406,7 @@ class Page:
         yield from ["\n| Impl | Defines |\n|---|---|\n", *rows] if rows else ()
 
     def entry(self, it):
-        """What it is called as, what it does, an example or a caller, and its contract, which is folded."""
+        """What it is called as, what it does, an example, and its contract, which is folded."""
         yield f"\n### {it.heading()}\n"
         code, twin, instead = it.code(), *self.twin(it)
         # A comment at its end is of what follows.
@@ -430,17 +420,12 @@ class Page:
         notes = self.notes(it) if twin is it or it.kind == "impl" else ()
         yield from (f"\n{note}\n" for note in notes)
         yield from self.facts(it)
-        caller, example = self.library.callers.get(it.key()), self.library.examples.get(it.key())
-        proved = f" [A proved caller]({caller.place()})." if caller and example else ""
-        if example:
-            yield f"\n```\n{example}\n```\n"
-        elif caller and is_call(it.key()):
-            yield from self.caller(it, caller)
+        if it.key() in self.library.examples:
+            yield f"\n```\n{self.library.examples[it.key()]}\n```\n"
         if twin is not it:
-            yield f"\nIts contract is that of {twin.link('', twin.trait or twin.name)}{instead}.{proved}\n"
+            yield f"\nIts contract is that of {twin.link('', twin.trait or twin.name)}{instead}.\n"
         elif head != code:
-            below = f"\n{proved.strip()}\n" if proved else ""
-            yield f"\n<details><summary>Contract</summary>\n\n```\n{code}\n```\n{below}\n</details>\n"
+            yield f"\n<details><summary>Contract</summary>\n\n```\n{code}\n```\n\n</details>\n"
 
     def aliased(self, it):
         """The calls and traits of the type that an alias names, as a table if these are in several sections."""
@@ -471,13 +456,6 @@ class Page:
             said = f" {allocates.capitalize()} allocate." if allocates.startswith("only ") else said
             lines.append(f"- *Cost*: {time}.{said}\n")
         yield from ["\n", *lines] if lines else ()
-
-    def caller(self, it, caller):
-        is_part = caller.text.count("\n") > LONGEST or caller.text in self.shown
-        text, name = (caller.around(it.key()), f"`{caller.name}` ") if is_part else (caller.text, "")
-        self.shown |= {text} if not is_part else set()
-        self.library.short |= {f"docs/reference/{self.name}.md: {it.key()}"} if text.count("\n") < 2 else set()
-        yield f"\nA caller, {name}in [`{caller.path}`]({caller.place()}):\n\n```\n{text}\n```\n"
 
     def twin(self, it):
         """The entry above that has the same contract but for its name, as a call and its `try_` form, and what differs otherwise."""

@@ -1,5 +1,5 @@
 """Writes docs/reference/WORDS.md: each word that a contract of the reference cites, what it means, and an example. A word that
-the definition of such a word cites, or a caller in the reference, is told too, if it has an example.
+the definition of such a word cites, or a caller in CALLERS, is told too, if it has an example.
 
 A meaning is the comment above the definition in crates/*/specs, after that of its module. An example is the statement of a
 lemma `example-WORD` in crates/*/proofs/words, in a file that imports the word. What precedes the line MARK of the
@@ -16,6 +16,7 @@ TOP = exports.TOP
 PAGE = TOP / "docs/reference/WORDS.md"
 MARK = "<!-- scripts/pages/words.py writes what follows -->"
 EXAMPLES = "crates/*/proofs/words"
+CALLERS = "crates/tinyvec_examples/src/**/*.rt"
 
 # A comment above a lemma is shown before it: of what is lent, say, whose word is no part of a fact. It may begin with
 # `of PATH:`, the file of a word that the statement itself does not have.
@@ -41,13 +42,7 @@ def faults():
             is_named = re.search(rf"(?<![\w.-]){re.escape(name)}(?![\w-])", example)
             yield from [f"{EXAMPLES}: `example-{name}` of {path} does not show {name}"] * bool(example and not is_named)
     uncited = (it for it in words.examples if it not in words.cited)
-    yield from (f"{EXAMPLES}: no contract of the reference cites `{name}` of {path}" for path, name in uncited)
-
-
-def words_of_caller(caller):
-    """The words of the libraries that the contract of a caller cites, which names the types of its vectors."""
-    clauses = re.findall(r"^ *(?:requires|ensures).*?(?=^ *(?:requires|ensures|\{$))", caller.text, re.M | re.S)
-    return [it for it in reference.cited(TOP / caller.path, "".join(clauses)) if it[0].split(".")[0] in exports.LIBRARIES]
+    yield from (f"{EXAMPLES}: no contract of the reference or a caller cites `{name}` of {path}" for path, name in uncited)
 
 
 class Words:
@@ -63,7 +58,8 @@ class Words:
             of = lambda path, name: (path, name) if path else known.get(name, (file.stem, name))
             for path, said, _, name, shown in EXAMPLE.findall(text_of(file)):
                 self.examples[of(path, name)] = (file, said and f"{said}: ", plain(" ".join(shown.split())))
-        self.add(word for it in library.callers.values() for word in words_of_caller(it))
+        for file in sorted(TOP.glob(CALLERS)):
+            self.add(it for it in reference.cited(file, re.sub(r"^ghost use .*", "", text_of(file), flags=re.M)))
         for path, name in [it for it in self.cited if it in self.defined]:
             known = exports.imported(text_of(source_of(path)))
             self.add(known.get(it, (path, it)) for it in re.findall(r"\w+", self.defined[path, name].text))
