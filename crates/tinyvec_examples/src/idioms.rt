@@ -1,4 +1,4 @@
-//! Idioms of code over Rust's `tinyvec` that no other example has, as they are written here. None needs a file of proof.
+//! Idioms of code over Rust's `tinyvec`, as they are written here. None needs a file of proof.
 ghost use Rattle.std.specs.Prelude.{◌≡◌, ◌-◌, ◌≤◌, length};
 ghost use Rattle.tinyvec.specs.TinyVec.{tiny_len};
 
