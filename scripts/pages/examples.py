@@ -8,9 +8,9 @@ from reading import exports
 FILE = exports.TOP / "docs/reference/examples.txt"
 
 # An example has at least so many lines, and at most so many.
-LEAST, MOST = 2, 6
+LEAST, MOST = 2, 5
 
-# The crate with which these are tried.
+# With the tests of this crate they are run.
 CRATE = "tinyvec_examples"
 HEAD = """//! What the pages of the reference show.
 #![tactic(auto)]
@@ -25,7 +25,7 @@ use tinyvec_text::InlineText;
 """
 TEST = """
 #[test]
-fn shows_{name}(rt: HostRuntime) -> Result<(), Fail> {{
+fn of_{name}(rt: HostRuntime) -> Result<(), Fail> {{
 {lines}
     Ok(())
 }}
@@ -41,9 +41,11 @@ def examples():
 
 
 def faults(keys, calls):
-    """What shows nothing of these keys, one twice, or in too few or too many lines, and what does not make its call."""
+    """What shows nothing of these keys, one twice, or in too few or too many lines, what does not make its call, and calls
+    without an example."""
     named = [it for it, _ in examples()]
     where = FILE.relative_to(exports.TOP)
+    yield from (f"{where}: no example of {it}" for it in sorted(calls - set(named)))
     yield from (f"{where}: no such call: {it}" for it in dict.fromkeys(named) if it not in keys)
     yield from (f"{where}: {it} has two examples" for it in dict.fromkeys(named) if named.count(it) > 1)
     for it, text in examples():
@@ -52,15 +54,14 @@ def faults(keys, calls):
         yield from [f"{where}: the example of {it} does not call it"] * (it in calls and not re.search(rf"\b{called}\(", text))
 
 
-def crate(shown):
-    """The crate whose tests the examples are, each by the name of its call, over all libraries; `shown` keeps what was built."""
-    known, tests = crates.read_crates(), []
-    uses = [known[it] for it in exports.LIBRARIES]
-    one = crates.Crate("examples", f"examples: {' '.join(exports.LIBRARIES)}", uses)
+def crate(beside):
+    """The crate whose tests the examples are, each by the name of its call. It uses all libraries."""
+    known = crates.read_crates()
+    one, tests = crates.Crate("examples", f"examples: {' '.join(exports.LIBRARIES)}", [known[it] for it in exports.LIBRARIES]), []
     for name, text in examples():
         lines = "let alloc = rt.alloc();\n" * bool(re.search(r"\balloc\b", text)) + text
         name = re.sub(r"\W+", "_", name.replace("!", "_macro")).lower()
         tests.append(TEST.format(name=name, lines=textwrap.indent(lines, "    ")))
-    one.out = shown.out
+    one.out = beside.out
     one.files = one.sources = {"src/lib.rt": (HEAD + "".join(tests)).encode()}
     return one

@@ -67,8 +67,6 @@ def faults():
         unended = (said[-60:] for said in it.prose() if not said.endswith((".", ":")))
         yield from (f"{where}: {key}: a sentence without its end: {said}" for said in unended)
         yield from [f"{where}: {key} has no `///`"] * (it.kind != "impl" and not it.item.comment)
-        is_shown = key in library.examples or key not in library.calls or " ".join(it.item.comment).startswith("The same as ")
-        yield from [f"{examples.FILE.relative_to(TOP)}: no example of {key}"] * (not is_shown)
     yield from exports.table_faults(COSTS, [it for it, _ in costs()], library.calls)
     yield from examples.faults(library.keys, library.calls)
     sections = {it.section() for _, it in library.entries()}

@@ -2,7 +2,7 @@ use Rattle.std.proofs.Common.{[], ◌∷◌, ◌+◌, length, pos, ap, ◌∙◌
 use Rattle.tinyvec_slots.proofs.KnownItems.{array_yields}
 use Rattle.tinyvec_slots.proofs.ReplacingLemmas.{between}
 use Rattle.tinyvec_array.specs.ArrayVec.{items, all_slots}
-use Rattle.tinyvec_examples.proofs.calls.replacing.pair_put_in.Goals as goal
+use Rattle.tinyvec_examples.proofs.replacing.pair_put_in.Goals as goal
 
 pub returns : goal.returns
 returns c =
