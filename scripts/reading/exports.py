@@ -2,10 +2,11 @@
 import functools
 import re
 
-from building.crates import TOP
+from building.crates import TOP, text_of
 from reading import contracts
 
-LIBRARIES = "tinyvec_slots tinyvec_array tinyvec tinyvec_text tinyvec_io tinyvec_borsh tinyvec_script".split()
+# The crates that others call, each after those that it needs.
+LIBRARIES = [it for it in re.findall(r"^(\w+):", text_of(TOP / "crates.txt"), re.M) if (TOP / "crates" / it / "CALLING.md").is_file()]
 
 # The pages of docs/reference: the crate of each, and the type whose methods are named without it. Of a crate of two pages the
 # first has what is of no other's.
