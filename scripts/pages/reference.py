@@ -176,7 +176,9 @@ def notes():
         for of, mark, name in ((of, mark, it) for of, mark, names in named for it in re.findall(r"\w+!?", names)):
             # A macro is of no type.
             key = name if name.endswith("!") else of + mark + name
-            found.setdefault(key, []).append(f"In Rust: {rust}. Here: {here}.")
+            said = f"In Rust: {rust}. Here: {here}."
+            # A link is from the folder of the pages.
+            found.setdefault(key, []).append(re.sub(r"\]\((?=[\w.-]+\.md)", "](../", said))
     return found
 
 
