@@ -58,10 +58,8 @@ def faults():
     library = Library()
     for crate in library.crates:
         yield from crate.lost()
-    shown = {page: " ".join(text.split()) for page, text in written.items()}
     for page, it in library.entries():
         where, key = it.source.path, it.key()
-        yield from (f"{where}: not on {page}: {line}" for line in it.said() if line not in shown[page])
         unended = (said[-60:] for said in it.prose() if not said.endswith((".", ":")))
         yield from (f"{where}: {key}: a sentence without its end: {said}" for said in unended)
         yield from [f"{where}: {key} has no `///`"] * (it.kind != "impl" and not it.item.comment)
@@ -261,12 +259,6 @@ class Entry(exports.Export):
         for it in self.item.members():
             if it.kind in ("fn", "type", "const") and it.comment:
                 yield from (f"`{it.name}`: {said}" for said in paragraphs(it.comment))
-
-    def said(self):
-        """Each line of `///` that a page has to show, as the source has it."""
-        inside = self.item.lines if self.item.kind in ("impl", "trait") and not self.is_part else []
-        comment = [] if self.is_part else self.item.comment
-        return [" ".join(it.split()) for it in [*comment, *re.findall(r"^ *///(.*)$", "\n".join(inside), re.M)] if it.strip()]
 
     def code(self):
         """The declaration, without bodies, private fields and proofs."""
