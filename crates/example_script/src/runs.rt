@@ -6,7 +6,7 @@ ghost use Rattle.tinyvec_array.specs.SliceVec.{slice_name};
 use std::alloc::{AllocError, Global};
 use tinyvec::{ArrayVec, SliceVec, TinyVec};
 use tinyvec_script::{
-    Answer, Call, Driven, End, drive_array_splice, drive_tiny_splice, run_array, run_slice, run_tiny,
+    Answer, Call, Driven, End, drive_array_splice, drive_splice, drive_tiny_splice, run_array, run_slice, run_tiny,
 };
 
 /// The answers of a vector in an array, or an error, if there is no memory for them.
@@ -54,6 +54,19 @@ pub fn one_for_two(alloc: Global) -> Result<(Driven<i32>, ArrayVec<[i32; 4]>), A
     let word = [End::Front, End::Back];
     let driven = drive_array_splice(alloc, &mut vec, 1, 3, replacement, &word)?;
     Ok((driven, vec))
+}
+
+/// Puts the bytes in the place of the list of a vector in lent slots, after the items at these ends were taken.
+pub fn replaced_in_slice(
+    alloc: Global,
+    v: &mut SliceVec<'_, u8>,
+    bytes: Vec<u8>,
+    word: &[End],
+) -> Result<Driven<u8>, AllocError>
+    ensures { OnErr result (v.new ≡ v.old) }
+{
+    let len = v.len();
+    Ok(drive_splice(alloc, v, 0, len, bytes, word)?)
 }
 
 /// Puts the bytes in the place of the list of a vector that may move to the heap, after the items at these ends were taken.

@@ -3,7 +3,7 @@ ghost use Rattle.std.specs.Prelude.{◌≡◌, ◌+◌, ◌<◌, ◌≤◌, ◌�
 ghost use Rattle.std.specs.Iterator.Adapters.{fuse_steps};
 ghost use Rattle.std.specs.Vec.Iter.{into_iter_items, into_iter_steps, into_iter_steps_back};
 ghost use Rattle.tinyvec_slots.specs.Ends.{RunsWord, given_items};
-ghost use Rattle.tinyvec_array.specs.ArrayVec.{view_of, items_of, len_of};
+ghost use Rattle.tinyvec_array.specs.ArrayVec.{view_of, items_of, slots_of, len_of};
 ghost use Rattle.tinyvec_slots.specs.Slots.{items_in, SlotRule};
 ghost use Rattle.tinyvec_slots.specs.Fused.{fused_rest};
 ghost use Rattle.tinyvec_slots.specs.Splice.{splice_left, SpliceCanStep, SpliceSteps, SpliceStepsBack};
@@ -28,8 +28,7 @@ pub struct Driven<T> {
 }
 
 /// Replaces the items from `start` up to `end`. Before that it takes an item from each end that the word names. Allocates
-/// both result lists first; if that fails, returns the replacement and changes nothing. In a `TinyVec` items find no room
-/// only if the allocator refuses to grow it.
+/// both result lists first; if that fails, returns the replacement and changes nothing.
 pub fn drive_splice<V: CanSplice>(
     alloc: Global,
     vec: &mut V,
@@ -56,7 +55,7 @@ pub fn drive_splice<V: CanSplice>(
     Ok(driven)
 }
 
-/// `drive_splice` of an `ArrayVec`.
+/// Replaces the items from `start` up to `end`, as `drive_splice` does.
 pub fn drive_array_splice<A: Array>(
     alloc: Global,
     vec: &mut ArrayVec<A>,
@@ -67,17 +66,19 @@ pub fn drive_array_splice<A: Array>(
 ) -> Result<Driven<A::Item>, NoMemory<Vec<A::Item>>>
     requires start_le_end { start ≤ end }
     requires in_bounds { end ≤ len_of A.Slots vec.old }
-    ensures splices { IfOk result (λ driven. DrivenSplices items_in (SlotRule A.Item.is_default) A.CAPACITY (view_of A.Slots vec.old)
-        start end word.now replacement.items driven.yields.items driven.rest.items (view_of A.Slots vec.new)) }
-    ensures computed { IfOk result (λ driven. SpliceComputes A.CAPACITY (items_of A.Slots vec.old) start end word.now
-        replacement.items driven.yields.items driven.rest.items (items_of A.Slots vec.new)) }
+    ensures splices { IfOk result (λ driven. DrivenSplices items_in (SlotRule A.Item.is_default)
+        (length (slots_of A.Slots vec.old)) (view_of A.Slots vec.old) start end word.now replacement.items
+        driven.yields.items driven.rest.items (view_of A.Slots vec.new)) }
+    ensures computed { IfOk result (λ driven. SpliceComputes (length (slots_of A.Slots vec.old)) (items_of A.Slots vec.old)
+        start end word.now replacement.items driven.yields.items driven.rest.items (items_of A.Slots vec.new)) }
     ensures refused { IfErr result (λ refused. (refused.0 ≡ replacement) × (vec.new ≡ vec.old)
         × (start < end + vec_len replacement)) }
 {
     drive_splice(alloc, vec, start, end, replacement, word)
 }
 
-/// `drive_splice` of a `TinyVec`.
+/// Replaces the items from `start` up to `end`, as `drive_splice` does. Items find no room only if the allocator refuses to
+/// grow the vector.
 pub fn drive_tiny_splice<A: Array>(
     alloc: Global,
     vec: &mut TinyVec<A>,

@@ -25,7 +25,7 @@ trait Answers<V: Drop> {
         ensures { step vec.old call result vec.new };
 }
 
-// Those in an array, in a lent slice, and in an array or on the heap: one type cannot say that a lent slice is no array.
+// A type for each kind of vector, since impls for `ArrayVec<A>` and for `SliceVec<T>`, which are one type, would overlap.
 struct InArray;
 
 struct InSlice;
@@ -86,7 +86,7 @@ pub fn run_array<A: Array>(
     run_calls::<InArray, _>(alloc, vec, calls)
 }
 
-/// The same of a vector in a lent slice, which has no splice.
+/// Makes the calls in order, as `run_array` does. Here a `SliceVec` has no `Splice`: it is answered `Unfit`.
 pub fn run_slice<'s, T: Default + Drop>(
     alloc: Global,
     vec: &mut SliceVec<'s, T>,
