@@ -89,7 +89,6 @@ def here():
     """What a caller can name, each with its crate."""
     library = reference.Library()
     found = {(crate.name, f"{name} of {of}") for crate in library.crates for of, name in crate.passed_on}
-    found |= {(crate.name, name) for crate in library.crates for name in crate.renamed}
     for it in (it for page in library.pages.values() for it in page if not it.is_part):
         forms = [it.of, *(re.sub(r"\w+$", alias, it.of) for alias in it.also)] if it.of else [None]
         for of in forms:

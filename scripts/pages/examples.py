@@ -20,7 +20,7 @@ use std::test::Fail;
 use tinyvec::{ArrayVec, FromIterRest, NoRoom, SliceVec, TinyVec, array_vec, tiny_vec};
 use tinyvec_borsh::{BorshDeserialize, BorshSerialize};
 use tinyvec_io::Counted;
-use tinyvec_script::{Answer, Call, End, drive_splice, run, run_array, run_tiny};
+use tinyvec_script::{Answer, Call, End, drive_array_splice, drive_splice, drive_tiny_splice, run, run_array, run_slice, run_tiny};
 use tinyvec_text::InlineText;
 """
 TEST = """
