@@ -1,18 +1,19 @@
 //! Clones, of items that own memory and of numbers.
-ghost use Rattle.std.specs.Prelude.{◌≡◌, ◌+◌, ◌-◌, ◌≤◌, length, IfOk, OnOk};
+ghost use Rattle.std.specs.Prelude.{◌≡◌, ◌+◌, ◌-◌, ◌≤◌, length, IfOk, OnOk, OnErr};
 ghost use Rattle.std.specs.List.{AppendsClones};
 ghost use Rattle.tinyvec_array.specs.ArrayVec.{items, items_of, len_of};
 
 use std::alloc::AllocError;
-use tinyvec::{Array, ArrayVec};
+use tinyvec_array::{Array, ArrayVec};
 
-/// Clones of any items are appended.
+/// Clones of any items are appended. If one fails, the list is as before.
 pub fn appended<A: Array>(v: &mut ArrayVec<A>, more: &[A::Item]) -> Result<(), AllocError>
 where
     A::Item: Clone,
     requires { length more.now ≤ A.CAPACITY - len_of A.Slots v.old }
     ensures items { OnOk result (AppendsClones A.Item.is_clone (items_of A.Slots v.old) (items_of A.Slots v.new) more.now) }
     ensures len { OnOk result (len_of A.Slots v.new ≡ len_of A.Slots v.old + length more.now) }
+    ensures refused { OnErr result (items_of A.Slots v.new ≡ items_of A.Slots v.old) }
 {
     // For the proof: how many slots there are.
     let _slots = v.capacity();
