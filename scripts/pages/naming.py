@@ -55,7 +55,7 @@ def faults(text, page=None):
             if given and name in words() and not its:
                 yield f"`{code}`: the page neither imports {name} nor links it"
             elif given and its and given not in arities and not (is_part and given < max(arities)):
-                yield f"`{code}`: {name} takes {' or '.join(map(str, sorted(arities)))} arguments, and is given {given}"
+                yield f"`{code}`: {name} takes {' or '.join(map(str, sorted(arities)))}, and is given {given}"
 
 
 def applied(tokens):
