@@ -1,19 +1,18 @@
-"""Writes tests/clauses.txt, the lock: what each public call states, and each function with its edits.
+"""Writes tests/clauses.txt, the lock: what each public call states.
 
-A line `clauses CALL: SUM NAMES` has the names of the call's clauses, each with the fields of the relations that it cites, as
-in `room(place)`, and a sum of what they state: of the clauses and ghost items, and of the definitions in `specs/` that these
+A line `CALL: SUM NAMES` has the names of the call's clauses, each with the fields of the relations that it cites, as in
+`room(place)`, and a sum of what they state: of the clauses and ghost items, and of the definitions in `specs/` that these
 cite, and those that those cite, without comments and white space. std's words count by their names.
 
-`tests/docs` names what the lock lacks and each sum that differs, which this writes, each clause that the sources lack, unless a
-line of the first part of CHANGELOG.md has it and its call in backticks (of a call that is gone, the call alone), and each edit
-that is gone while its function is there. This keeps the names of both: where an edit is replaced, its name is removed by hand.
+`tests/docs` names what the lock lacks and each sum that differs, which this writes, and each clause that the sources lack, unless a
+line of the first part of CHANGELOG.md has it and its call in backticks (of a call that is gone, the call alone). This keeps the
+names of those.
 """
 import functools
 import hashlib
 import re
 
 from pages import reference
-from planting import edits, functions
 from reading import contracts, definitions, exports, sources
 
 TOP = exports.TOP
@@ -41,28 +40,23 @@ def faults():
     name = LOCK.relative_to(TOP)
     lacking = {line: [it for it in names if it not in locked.get(line, ())] for line, names in current.items()}
     yield from (f"{name}: run tests/docs --write: {line} lacks {', '.join(its)}" for line, its in lacking.items() if its)
-    others = [line.removeprefix("clauses ") for line, it in stated.items() if sums.get(line) != it and not lacking[line]]
+    others = [line for line, it in stated.items() if sums.get(line) != it and not lacking[line]]
     why = "run tests/docs --write: these state something else than it was written for"
     yield from [f"{name}: {why}: {', '.join(others)}"] * bool(others)
     for line, names in kept(locked, current).items():
-        why = "no line of CHANGELOG.md says so" if line.startswith("clauses ") else "its function is there"
-        yield from (f"{name}: {line}: {it} is gone, and {why}" for it in names)
+        yield from (f"{name}: {line}: {it} is gone, and no line of CHANGELOG.md says so" for it in names)
 
 
 def kept(locked, current):
     """The names that went, and that have no reason for it."""
-    there = {line for line, _ in edits_by_function()}
     # The words in backticks of each line of the first part of the changelog.
     first = (TOP / "CHANGELOG.md").read_text(encoding="utf-8").split("\n## ")[1]
     told = [set(re.findall(r"[\w.]+", " ".join(re.findall(r"`([^`]*)`", line)))) for line in first.splitlines()]
     gone = {line: [it for it in names if it not in current.get(line, ())] for line, names in locked.items()}
     for line, names in gone.items():
-        if line.startswith("clauses "):
-            call = re.findall(r"\w+", line.partition(",")[0])[-1]
-            needed = {it: {call, *[it.split(".")[-1]] * (line in current)} for it in names}
-            gone[line] = [it for it in names if not any(needed[it] <= row for row in told)]
-        elif line not in there:
-            gone[line] = []
+        call = re.findall(r"\w+", line.partition(",")[0])[-1]
+        needed = {it: {call, *[it.split(".")[-1]] * (line in current)} for it in names}
+        gone[line] = [it for it in names if not any(needed[it] <= row for row in told)]
     return {line: names for line, names in gone.items() if names}
 
 
@@ -70,7 +64,7 @@ def read():
     """The names of each line of the lock, and the sums."""
     names, sums = {}, {}
     for line, _, text in (it.rpartition(": ") for it in LOCK.read_text(encoding="utf-8").splitlines()):
-        summed = SUM.match(text) if line.startswith("clauses ") else None
+        summed = SUM.match(text)
         names[line] = list(unfolded(text[summed.end() :] if summed else text))
         sums.update({line: summed[1]} if summed else {})
     return names, sums
@@ -99,13 +93,11 @@ def unfolded(text):
 
 
 def found():
-    """The names by call, as the sources have them, and the edits by function; and the sums of the calls."""
+    """The names by call, as the sources have them, and the sums of the calls."""
     names, sums = {}, {}
     for key, its, text in (it for crate in exports.LIBRARIES for it in stated(crate)):
-        names[f"clauses {key}"] = sorted(set(its))
-        sums |= {f"clauses {key}": hashlib.sha256(text.encode()).hexdigest()[:8]} if text else {}
-    for line, edit in edits_by_function():
-        names[line] = names.get(line, []) + ([edit.name] if edit else [])
+        names[key] = sorted(set(its))
+        sums |= {key: hashlib.sha256(text.encode()).hexdigest()[:8]} if text else {}
     return names, sums
 
 
@@ -174,13 +166,3 @@ class Scope:
             left += [(home, word.whole) for home, word in new]
         squeezed = lambda texts: [" ".join(it.split()) for it in texts]
         return "\n".join([*squeezed(texts), *sorted({*squeezed(reached.values())})])
-
-
-@functools.cache
-def edits_by_function():
-    """Each function that edits may change, with one of its edits, or with none."""
-    folders = sorted(it.name for it in edits.FOLDER.iterdir() if it.is_dir())
-    found = [(f"edits {crate} {it.path()}", None) for crate in folders for it in functions.of_crate(TOP / "crates" / crate)]
-    for edit, owners, _ in functions.owned(edits.read_all(folders)[0]):
-        found += [(f"edits {edit.crate} {it}", edit) for it in {one.path() for one in owners}]
-    return found

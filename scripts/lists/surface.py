@@ -9,14 +9,16 @@ each that only these crates have:
                               column names this call
 
 and `CRATE of the kit in CRATE` for a crate of the toolchain that a library uses. What `pub use` passes on is there as of the crate
-that passes it on. Nothing here takes a line away, or lowers the number of a heading.
+that passes it on. Below the heading FIXED a line has a whole form: a function with the types of its arguments and of its
+result, as `Splice::touches (&self) -> u128`, a variant or a public field with its type, or an alias. Nothing here takes a line away,
+lowers the number of a heading or writes below FIXED.
 """
 import functools
 import re
 
 from building import crates
 from pages import reference
-from reading import exports
+from reading import contracts, exports
 
 TOP = exports.TOP
 LIST = TOP / "tests/surface.txt"
@@ -26,6 +28,9 @@ LINE = re.compile(r"(?P<name>.+?) (?:(?:is (?P<other>.+) )?in (?P<crate>\w+)|not
 KIT = re.compile(r"(?P<name>\w+) of the kit in (?P<crate>\w+)$")
 HEADING = re.compile(r"# (.*): (\d+) names$")
 OWN = "Of these crates alone"
+FIXED = "Forms that are fixed"
+CLAUSES = re.compile(r" (?:requires|ensures\*?|ghost|where)\b| //")
+SELF = re.compile(r"&?(?:'\w+ )?(?:mut )?self$")
 
 
 def write():
@@ -48,10 +53,14 @@ def faults():
 
 def gone(lines):
     """Lines that hold no longer."""
-    known, used = here(), of_the_kit()
+    used, known = of_the_kit(), here()
     told = [it.removeprefix("| ") for it in crates.text_of(TOP / "docs/DIFFERENCES.md").splitlines()]
-    for line in (it for it in lines if it and not it.startswith("#")):
-        if found := KIT.match(line):
+    for line in filter(None, lines):
+        if heading := HEADING.match(line):
+            known = forms() if heading[1] == FIXED else here()
+        elif line.startswith("#"):
+            continue
+        elif found := KIT.match(line):
             if (found["name"], found["crate"]) not in used:
                 yield f"{found['crate']} uses {found['name']} of the kit no longer"
         elif not (found := LINE.match(line)):
@@ -80,7 +89,6 @@ def here():
     """What a caller can name, each with its crate."""
     library = reference.Library()
     found = {(crate.name, f"{name} of {of}") for crate in library.crates for of, name in crate.passed_on}
-    found |= {(crate.name, name) for crate in library.crates for name in crate.renamed}
     for it in (it for page in library.pages.values() for it in page if not it.is_part):
         forms = [it.of, *(re.sub(r"\w+$", alias, it.of) for alias in it.also)] if it.of else [None]
         for of in forms:
@@ -102,6 +110,36 @@ def inside(export):
         yield from (f"{name}: {it}" for it in re.findall(r"\w+", derived))
     if export.kind == "trait":
         yield from (f"{name}::{it.name}" for it in item.members() if it.kind in ("fn", "type", "const"))
+
+
+@functools.cache
+def forms():
+    """The forms of what a caller can name, each with its crate."""
+    return {(crate.name, form) for crate in map(exports.Crate, exports.LIBRARIES) for it in crate.exports() for form in forms_of(it)}
+
+
+def forms_of(export):
+    item, key = export.item, export.key()
+    if item.kind == "fn":
+        names = [export.of, *export.also] if export.of else []
+        yield from (f"{key.replace(export.of or key, name, 1)} {types_of(item)}" for name in names or [key])
+    elif item.kind == "trait":
+        yield from (f"{key}::{it.name} {types_of(it)}" for it in item.members() if it.kind == "fn")
+    elif item.kind == "type":
+        yield item.signature().removeprefix("pub ").rstrip(";")
+    elif item.kind in ("struct", "enum"):
+        inside = re.findall(r"^    (?:pub )?(\w.*),$", "\n".join(item.lines[1:-1]), re.M)
+        yield from (f"{key}::{it}" for it in [*inside, *re.findall(r"struct \w+<.*>\(pub (.*)\);", item.lines[0])])
+
+
+def types_of(function):
+    """The types of its arguments and of its result."""
+    text = CLAUSES.split(function.signature())[0]
+    rest = exports.split_angles(re.split(r"\bfn \w+", text)[1])[1]
+    end = contracts.end_of(rest, 0, "(", ")")
+    arguments = filter(None, map(str.strip, contracts.parts_of_types(rest[1 : end - 1], ",")))
+    types = [it if SELF.match(it) else re.sub(r"^(?:mut )?\w+: ", "", it) for it in arguments]
+    return f"({', '.join(types)}) {rest[end:].strip(' {;')}".rstrip()
 
 
 @functools.cache

@@ -10,7 +10,7 @@ FILE = exports.TOP / "docs/reference/examples.txt"
 # An example has at least so many lines, and at most so many.
 LEAST, MOST = 2, 5
 
-# The crate that has callers of the calls, over which these are compiled too.
+# With the tests of this crate they are run.
 CRATE = "tinyvec_examples"
 HEAD = """//! What the pages of the reference show.
 #![tactic(auto)]
@@ -20,11 +20,12 @@ use std::test::Fail;
 use tinyvec::{ArrayVec, FromIterRest, NoRoom, SliceVec, TinyVec, array_vec, tiny_vec};
 use tinyvec_borsh::{BorshDeserialize, BorshSerialize};
 use tinyvec_io::Counted;
+use tinyvec_script::{Answer, Call, End, drive_array_splice, drive_splice, drive_tiny_splice, run, run_array, run_slice, run_tiny};
 use tinyvec_text::InlineText;
 """
 TEST = """
 #[test]
-fn {name}(rt: HostRuntime) -> Result<(), Fail> {{
+fn of_{name}(rt: HostRuntime) -> Result<(), Fail> {{
 {lines}
     Ok(())
 }}
@@ -40,9 +41,11 @@ def examples():
 
 
 def faults(keys, calls):
-    """What shows nothing of these keys, one twice, or in too few or too many lines, and what does not make its call."""
+    """What shows nothing of these keys, one twice, or in too few or too many lines, what does not make its call, and calls
+    without an example."""
     named = [it for it, _ in examples()]
     where = FILE.relative_to(exports.TOP)
+    yield from (f"{where}: no example of {it}" for it in sorted(calls - set(named)))
     yield from (f"{where}: no such call: {it}" for it in dict.fromkeys(named) if it not in keys)
     yield from (f"{where}: {it} has two examples" for it in dict.fromkeys(named) if named.count(it) > 1)
     for it, text in examples():
@@ -51,13 +54,14 @@ def faults(keys, calls):
         yield from [f"{where}: the example of {it} does not call it"] * (it in calls and not re.search(rf"\b{called}\(", text))
 
 
-def crate(callers):
-    """The crate whose tests the examples are, each by the name of its call. It uses what the crate of the callers uses."""
-    one, tests = crates.Crate("examples", f"examples: {' '.join(it.name for it in callers.uses)}", callers.uses), []
+def crate(beside):
+    """The crate whose tests the examples are, each by the name of its call. It uses all libraries."""
+    known = crates.read_crates()
+    one, tests = crates.Crate("examples", f"examples: {' '.join(exports.LIBRARIES)}", [known[it] for it in exports.LIBRARIES]), []
     for name, text in examples():
         lines = "let alloc = rt.alloc();\n" * bool(re.search(r"\balloc\b", text)) + text
         name = re.sub(r"\W+", "_", name.replace("!", "_macro")).lower()
         tests.append(TEST.format(name=name, lines=textwrap.indent(lines, "    ")))
-    one.out = callers.out
+    one.out = beside.out
     one.files = one.sources = {"src/lib.rt": (HEAD + "".join(tests)).encode()}
     return one

@@ -1,19 +1,19 @@
-"""Writes the reference, docs/reference/*.md: all that the libraries export, with contracts, callers and what differs in Rust.
+"""Writes the reference, docs/reference/*.md: all that the libraries export, with comments, examples, contracts and what differs in Rust.
 
-`tests/docs` names the pages that differ from what this would write or have more than MOST lines, comments that are missing,
-and calls without a caller. What precedes the line MARK of a page is written by hand.
+`tests/docs` names the pages that differ from what this would write or have more than MOST lines, comments and examples that are
+missing, and costs and errors that are not those of the sources. What precedes the line MARK of a page is written by hand.
 """
 import functools
 import re
 
 from building.crates import text_of
-from pages import examples, outcomes
-from reading import callers, exports
+from pages import examples
+from reading import contracts, exports
 from reading.exports import PAGES
 
 TOP = exports.TOP
 FOLDER = TOP / "docs/reference"
-COSTS = FOLDER / "costs.txt"
+COSTS, REQUESTS = FOLDER / "costs.txt", TOP / "tests/requests.txt"
 MARK = "<!-- scripts/pages/reference.py writes what follows -->"
 
 # A page has at most so many lines.
@@ -21,8 +21,6 @@ MOST = 2000
 # The page of the table of calls, and the types that it has.
 INDEX = "README"
 COLUMNS = ("ARRAY_VEC", "SLICE_VEC", "TINY_VEC", "INLINE_TEXT")
-# Of a caller of more lines, and of one that the page has shown, only the line of the call is shown, between its neighbours.
-LONGEST = 8
 # The sections that a type with two pages has on the second, whose name ends so.
 SECOND = "_BULK"
 BULK = ("extending", "drain", "splice", "filters", "clones", "into_iter")
@@ -60,40 +58,26 @@ def faults():
     library = Library()
     for crate in library.crates:
         yield from crate.lost()
-    unlisted = (it.parent.name for it in TOP.glob("crates/*/CALLING.md") if it.parent.name not in exports.LIBRARIES)
-    yield from (f"crates/{it}: a library that scripts/reading/exports.py does not list" for it in unlisted)
-    shown = {page: " ".join(text.split()) for page, text in written.items()}
     for page, it in library.entries():
         where, key = it.source.path, it.key()
-        yield from (f"{where}: not on {page}: {line}" for line in it.said() if line not in shown[page])
         unended = (said[-60:] for said in it.prose() if not said.endswith((".", ":")))
         yield from (f"{where}: {key}: a sentence without its end: {said}" for said in unended)
         yield from [f"{where}: {key} has no `///`"] * (it.kind != "impl" and not it.item.comment)
-        if key in library.uncalled and not it.is_part:
-            yield f"docs/reference/{page}.md: no caller of {key}: write one in crates/tinyvec_examples/src"
     yield from exports.table_faults(COSTS, [it for it, _ in costs()], library.calls)
+    # The rows of tests/cases show which calls make no request.
+    asking = {f"{kind}::{it}" for kind, how, names, _ in exports.lines_of(REQUESTS) if how == "may" for it in names.split()}
+    yield from (f"{REQUESTS.name} says that {it} may allocate" for it, (_, how) in costs() if how == "never" and it in asking)
     yield from examples.faults(library.keys, library.calls)
     sections = {it.section() for _, it in library.entries()}
     yield from (f"docs/reference/sections.txt: {it} is only there, or only on a page" for it in sorted(sections ^ set(SECTIONS)))
-    yield from (f"{it} shows fewer than three lines of a caller" for it in sorted(library.short))
     for page, text in written.items():
         if text.count("\n") > MOST:
             yield f"docs/reference/{page}.md: more than {MOST} lines: give a section to its second page"
-        yield from (f"docs/reference/{page}.md: {it}" for it in said_twice(text))
     yield from wrong_errors(library)
     yield from (f"docs/DIFFERENCES.md: no such call: {it}" for it in library.notes if it not in library.keys)
     for cells in differences():
         bare = [it for it in re.findall(r"`([^`]*)`", cells[2]) if not NAMES.fullmatch(it)]
         yield from (f"docs/DIFFERENCES.md: a call without its type: {it}" for it in bare)
-
-
-def said_twice(text):
-    """Sentences that an entry has twice, and phrases that a sentence of a failure has twice."""
-    for entry in re.split(r"\n(?=### )", re.sub(r"^(?:```.*?^```|\|.*)$", "", text, flags=re.M | re.S)):
-        sentences = [it for line in entry.splitlines() for it in re.split(r"(?<=[.:])\s", line)]
-        phrases = [it.strip(" .") for line in sentences if line.startswith("Then ") for it in re.split(r" and |, |^Then ", line)]
-        for it in (one for found in (sentences, phrases) for one in dict.fromkeys(found) if found.count(one) > 1):
-            yield from [f"said twice: {entry.partition(chr(10))[0]}: {it}"] * (len(it.split()) > 2)
 
 
 def wrong_errors(library):
@@ -132,15 +116,10 @@ class Library:
         made = [Entry(export, self) for crate in self.crates for export in crate.exports()]
         self.pages = {page: [it for it in made if it.page == page] for page in PAGES}
         self.keys = {it.key() for _, it in self.entries()}
-        self.callers = {}
-        for caller in callers.callers(callers.Known(self.crates)):
-            for it in caller.calls:
-                self.callers[it] = min(self.callers.get(it, caller), caller, key=lambda one: len(one.text))
-        self.uncalled = {it for it in self.keys if is_call(it)} - self.callers.keys()
         self.calls = {it.key() for _, it in self.entries() if is_call(it.key()) and not it.is_part}
         self.costs, self.examples = dict(costs()), dict(examples.examples())
-        # Where a note is shown, and the calls of which few lines of a caller are.
-        self.notes, self.noted, self.short = notes(), {}, set()
+        # Where a note is shown.
+        self.notes, self.noted = notes(), {}
 
     def entries(self):
         return [(page, it) for page, found in self.pages.items() for it in found]
@@ -177,14 +156,14 @@ def is_call(key):
 
 
 def costs():
-    """Each call, as `TinyVec::push`, `tiny_vec!` or `run`, with its line of COSTS: what takes its time, what it allocates, and names."""
+    """Each call, as `TinyVec::push`, `tiny_vec!` or `run`, with its line of COSTS: what takes its time, and what it allocates."""
     of = ""
     for line in (it for it in text_of(COSTS).splitlines() if it and not it.startswith("#")):
         *cost, names = (it.strip() for it in line.split("|"))
         of = of if cost else names
         for name in names.split() if cost else ():
             # A macro is of no type, nor are the functions of a page, whose name is in capitals.
-            yield name if name.endswith("!") or of.isupper() else f"{of}::{name}", (*cost, names)
+            yield name if name.endswith("!") or of.isupper() else f"{of}::{name}", tuple(cost)
 
 
 def notes():
@@ -195,7 +174,9 @@ def notes():
         for of, mark, name in ((of, mark, it) for of, mark, names in named for it in re.findall(r"\w+!?", names)):
             # A macro is of no type.
             key = name if name.endswith("!") else of + mark + name
-            found.setdefault(key, []).append(f"In Rust: {rust}. Here: {here}.")
+            said = f"In Rust: {rust}. Here: {here}."
+            # A link is from the folder of the pages.
+            found.setdefault(key, []).append(re.sub(r"\]\((?=[\w.-]+\.md)", "](../", said))
     return found
 
 
@@ -264,23 +245,10 @@ class Entry(exports.Export):
         is_own = self.kind != "method" and main and (of == main or main in (self.trait or ""))
         return "traits" if is_own else stem
 
-    def functions(self):
-        """The functions whose clauses tell when it fails. What prints fails if its writer does."""
-        if self.kind == "impl":
-            return [it for it in self.item.members() if it.kind == "fn" and it.name != "fmt" and has_contract(it)]
-        return [self.item] if self.kind in ("fn", "method") else []
-
-    def outcomes(self):
-        """What the clauses of each of these functions tell."""
-        known = exports.imported(text_of(self.source.file))
-        return [(it.name, outcomes.Outcomes(it, known)) for it in self.functions()]
-
-    def failure(self):
-        """How a call fails, in a word. Of a macro its comment tells."""
-        if self.kind == "macro_rules!":
-            error = re.search(r"`(\w+Error)`", " ".join(self.item.comment))
-            return f"with an `{error[1]}`" if error else "never"
-        return next(it.failure() for _, it in self.outcomes())
+    def conditions(self):
+        """What a caller proves, as the source has it."""
+        clauses = contracts.function(contracts.without_comments("\n".join(self.item.head())))[1] if self.item.kind == "fn" else {}
+        return [f"    {it}" for it in clauses.values() if it.startswith("requires")]
 
     def words(self):
         """The words that its contract cites."""
@@ -291,12 +259,6 @@ class Entry(exports.Export):
         for it in self.item.members():
             if it.kind in ("fn", "type", "const") and it.comment:
                 yield from (f"`{it.name}`: {said}" for said in paragraphs(it.comment))
-
-    def said(self):
-        """Each line of `///` that a page has to show, as the source has it."""
-        inside = self.item.lines if self.item.kind in ("impl", "trait") and not self.is_part else []
-        comment = [] if self.is_part else self.item.comment
-        return [" ".join(it.split()) for it in [*comment, *re.findall(r"^ *///(.*)$", "\n".join(inside), re.M)] if it.strip()]
 
     def code(self):
         """The declaration, without bodies, private fields and proofs."""
@@ -349,7 +311,7 @@ class Page:
     """What a page has: a table of its sections, and each section with its entries."""
 
     def __init__(self, library, name):
-        self.library, self.name, self.entries, self.shown = library, name, library.pages[name], set()
+        self.library, self.name, self.entries = library, name, library.pages[name]
         self.codes, self.told = {}, set()
         self.main, self.sections = main_of(name), {}
         for it in self.entries:
@@ -379,17 +341,12 @@ class Page:
             yield f"| {title} | {', '.join(it.link(page, it.trait) for it in found)} |\n"
 
     def text(self):
-        below, cited, rows = [], {}, [*self.contents()]
+        below, rows = [], [*self.contents()]
         if self.name + SECOND in PAGES:
             rows += Page(self.library, self.name + SECOND).contents(self.name + SECOND)
         for section in self.order:
             found = self.sections[section]
             below.append(f"\n## {self.title(section)}\n")
-            # Each word has a link in the first section that cites it.
-            words = [word for it in found if not it.is_part for word in it.words() if cited.setdefault(word, section) == section]
-            words = sorted(set(words), key=lambda it: it[1].lower())
-            links = ", ".join(f"[`{name}`](WORDS.md#{exports.word_anchor(path, name)})" for path, name in words)
-            below += [f"\nWords: {links}.\n"] if words else []
             below += self.parts(found) if section == "parts" else self.section(found)
         return f"\n\n{self.costs()}| | |\n|---|---|\n" + "".join(rows + below)
 
@@ -398,10 +355,10 @@ class Page:
         calls, rows = {it.key(): it for it in self.entries}, {}
         for key, cost in self.library.costs.items():
             if key in calls:
-                rows.setdefault((*cost, calls[key].failure()), []).append(calls[key].link())
-        lines = ["| Calls | Time for | Allocate | Fail |\n|---|---|---|---|\n"]
-        for (time, allocates, _, fails), links in rows.items():
-            lines.append(f"| {', '.join(links)} | {time} | {allocates} | {fails} |\n")
+                rows.setdefault(cost, []).append(calls[key].link())
+        lines = ["| Calls | Time for | Allocate |\n|---|---|---|\n"]
+        for (time, allocates), links in rows.items():
+            lines.append(f"| {', '.join(links)} | {time} | {allocates} |\n")
         return "".join([*lines, "\n## Contents\n\n"]) if rows else ""
 
     def parts(self, found):
@@ -416,12 +373,12 @@ class Page:
         yield from ["\n| Impl | Defines |\n|---|---|\n", *rows] if rows else ()
 
     def entry(self, it):
-        """What it is called as, what it does, an example or a caller, and its contract, which is folded."""
+        """What it is called as and on which conditions, what it does, an example, and its contract, which is folded."""
         yield f"\n### {it.heading()}\n"
         code, twin, instead = it.code(), *self.twin(it)
         # A comment at its end is of what follows.
         head = re.sub(r"(?:\n +//[^\n]*)+$", "", CONTRACT.split(code, maxsplit=1)[0])
-        yield f"\n```\n{head}\n```\n"
+        yield "\n```\n" + "\n".join([head, *it.conditions()]) + "\n```\n"
         for said in it.prose():
             # One that begins with the label of a clause is told once.
             yield f"\n{said}\n" * (said not in self.told or not said.startswith("`"))
@@ -429,18 +386,12 @@ class Page:
         yield from self.aliased(it) if it.kind == "type" else ()
         notes = self.notes(it) if twin is it or it.kind == "impl" else ()
         yield from (f"\n{note}\n" for note in notes)
-        yield from self.facts(it)
-        caller, example = self.library.callers.get(it.key()), self.library.examples.get(it.key())
-        proved = f" [A proved caller]({caller.place()})." if caller and example else ""
-        if example:
-            yield f"\n```\n{example}\n```\n"
-        elif caller and is_call(it.key()):
-            yield from self.caller(it, caller)
+        if it.key() in self.library.examples:
+            yield f"\n```\n{self.library.examples[it.key()]}\n```\n"
         if twin is not it:
-            yield f"\nIts contract is that of {twin.link('', twin.trait or twin.name)}{instead}.{proved}\n"
+            yield f"\nIts contract is that of {twin.link('', twin.trait or twin.name)}{instead}.\n"
         elif head != code:
-            below = f"\n{proved.strip()}\n" if proved else ""
-            yield f"\n<details><summary>Contract</summary>\n\n```\n{code}\n```\n{below}\n</details>\n"
+            yield f"\n<details><summary>Contract</summary>\n\n```\n{code}\n```\n\n</details>\n"
 
     def aliased(self, it):
         """The calls and traits of the type that an alias names, as a table if these are in several sections."""
@@ -457,27 +408,6 @@ class Page:
             yield "\n| Its type, calls and traits | |\n|---|---|\n" + "".join(f"| {title} | {links} |\n" for title, links in rows)
         elif rows:
             yield f"\nIts type, calls and traits: {', '.join(links for _, links in rows)}.\n"
-
-    def facts(self, it):
-        """What a call requires, when it fails and when it cannot, and what it costs."""
-        lines = []
-        for name, found in it.outcomes():
-            own = [found.conditions(), found.fails(), found.cannot_fail() if it.kind != "impl" or found.can_fail() else ""]
-            lines += [re.sub(r"^- \*[^*]*\*", rf"\g<0> (`{name}`)", line) if it.kind == "impl" else line for line in own if line]
-        if it.key() in self.library.costs:
-            time, allocates, _ = self.library.costs[it.key()]
-            # That a call never allocates is in the table alone.
-            said = f" It allocates {allocates}." * (allocates != "never")
-            said = f" {allocates.capitalize()} allocate." if allocates.startswith("only ") else said
-            lines.append(f"- *Cost*: {time}.{said}\n")
-        yield from ["\n", *lines] if lines else ()
-
-    def caller(self, it, caller):
-        is_part = caller.text.count("\n") > LONGEST or caller.text in self.shown
-        text, name = (caller.around(it.key()), f"`{caller.name}` ") if is_part else (caller.text, "")
-        self.shown |= {text} if not is_part else set()
-        self.library.short |= {f"docs/reference/{self.name}.md: {it.key()}"} if text.count("\n") < 2 else set()
-        yield f"\nA caller, {name}in [`{caller.path}`]({caller.place()}):\n\n```\n{text}\n```\n"
 
     def twin(self, it):
         """The entry above that has the same contract but for its name, as a call and its `try_` form, and what differs otherwise."""

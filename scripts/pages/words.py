@@ -1,5 +1,5 @@
 """Writes docs/reference/WORDS.md: each word that a contract of the reference cites, what it means, and an example. A word that
-the definition of such a word cites, or a caller in the reference, is told too, if it has an example.
+the definition of such a word cites, or a page imports or links, is told too, if it has an example.
 
 A meaning is the comment above the definition in crates/*/specs, after that of its module. An example is the statement of a
 lemma `example-WORD` in crates/*/proofs/words, in a file that imports the word. What precedes the line MARK of the
@@ -8,7 +8,7 @@ page is written by hand, and stays: there std's words have a line each. `tests/d
 import re
 
 from building.crates import text_of
-from pages import reference
+from pages import naming, reference
 from reading import contracts, exports
 from reading.definitions import COMMENT, code, source_of, words_of
 
@@ -16,6 +16,8 @@ TOP = exports.TOP
 PAGE = TOP / "docs/reference/WORDS.md"
 MARK = "<!-- scripts/pages/words.py writes what follows -->"
 EXAMPLES = "crates/*/proofs/words"
+# The pages whose words are told.
+NAMING = ("docs/*.md", "docs/reference/*.md", "crates/*/CALLING.md")
 
 # A comment above a lemma is shown before it: of what is lent, say, whose word is no part of a fact. It may begin with
 # `of PATH:`, the file of a word that the statement itself does not have.
@@ -44,12 +46,6 @@ def faults():
     yield from (f"{EXAMPLES}: no contract of the reference cites `{name}` of {path}" for path, name in uncited)
 
 
-def words_of_caller(caller):
-    """The words of the libraries that the contract of a caller cites, which names the types of its vectors."""
-    clauses = re.findall(r"^ *(?:requires|ensures).*?(?=^ *(?:requires|ensures|\{$))", caller.text, re.M | re.S)
-    return [it for it in reference.cited(TOP / caller.path, "".join(clauses)) if it[0].split(".")[0] in exports.LIBRARIES]
-
-
 class Words:
     """The words that contracts cite, with their definitions and examples."""
 
@@ -63,7 +59,9 @@ class Words:
             of = lambda path, name: (path, name) if path else known.get(name, (file.stem, name))
             for path, said, _, name, shown in EXAMPLE.findall(text_of(file)):
                 self.examples[of(path, name)] = (file, said and f"{said}: ", plain(" ".join(shown.split())))
-        self.add(word for it in library.callers.values() for word in words_of_caller(it))
+        pages = (text_of(it).partition("<!-- scripts/pages/")[0] for pattern in NAMING for it in TOP.glob(pattern) if it != PAGE)
+        told = [naming.known(it) for it in pages]
+        self.add(word for word in self.examples if any(word[0].endswith(end) for it in told for end in it.get(word[1], ())))
         for path, name in [it for it in self.cited if it in self.defined]:
             known = exports.imported(text_of(source_of(path)))
             self.add(known.get(it, (path, it)) for it in re.findall(r"\w+", self.defined[path, name].text))

@@ -1,5 +1,6 @@
 """The words that the `specs/` of the crates define: what each is given, what it says, and its comment."""
 import functools
+import itertools
 import re
 
 from reading import contracts, exports, sources
@@ -25,7 +26,8 @@ class Word:
         self.whole = sources.COMMENT[".antt"].sub("", "\n".join([*heads, found[0], *own]))
         self.text = "\n".join([found["rest"], *lines])
         self.comment = comment.strip().rstrip(".")
-        body = [it for it in lines if len(it) - len(it.lstrip()) > len(found["indent"])]
+        is_deeper = lambda it: len(it) - len(it.lstrip()) > len(found["indent"])
+        body = [it for it in lines if is_deeper(it)]
         head = found["rest"]
         while self.kind and body and not head.endswith("where"):
             head += body.pop(0)
@@ -34,7 +36,11 @@ class Word:
         own = given_by(head) if self.kind else [left.removeprefix(self.name)] * bool(re.fullmatch(r"[\w ]+", left))
         # What it is given, by name.
         self.given = " ".join([*given, *own]).split()
-        self.shown = code(" ".join([self.name, *self.given]))
+        # The lines of its type, before its equation.
+        type_ = " ".join(" ".join([found["rest"], *itertools.takewhile(is_deeper, lines)]).split())
+        # How many arguments it takes: those of its modules, of its head and of its type.
+        self.arity = len(" ".join(given).split()) + arrows(head if self.kind else type_)
+        self.shown = code(" ".join([self.name, *self.given, *["_"] * (self.arity - len(self.given))]))
         # The fields of a record, or the variants of a data type, each with its statement and its comment.
         parts, said, is_record = [], "", self.kind == "record"
         for line in body if self.kind else ():
@@ -43,7 +49,7 @@ class Word:
             elif found := FIELD.match(line):
                 parts.append([found[1], found[2], said])
                 said = ""
-            elif parts:
+            elif parts and not re.match(r" *(?:pub )?open ", line):
                 parts[-1][1] += f" {line.strip()}"
         self.fields = [(name, text) for name, text, _ in parts if is_record]
         self.variants = [name for name, _, _ in parts if not is_record]
@@ -83,6 +89,14 @@ def words_of(file):
             comment = []
     ends = [*(at for at, *_ in starts[1:]), len(lines)]
     return [Word(*it, lines[at + 1 : end]) for (at, *it), end in zip(starts, ends)]
+
+
+def arrows(head):
+    """How many arguments a declaration takes that says `(a b : A) : B → {c : C} → D`."""
+    own, type_ = contracts.parts_of(f" {head} ", " : ")[:2]
+    taken = contracts.parts_of(type_, " → ")[:-1]
+    names = lambda text: len(" ".join(given_by(text)).split())
+    return names(own) + sum(names(it) or 1 for it in taken if not it.startswith("{"))
 
 
 def given_by(head):

@@ -2,10 +2,11 @@
 import functools
 import re
 
-from building.crates import TOP
+from building.crates import TOP, text_of
 from reading import contracts
 
-LIBRARIES = "tinyvec_slots tinyvec_array tinyvec tinyvec_text tinyvec_io tinyvec_borsh tinyvec_script".split()
+# The crates that others call, each after those that it needs.
+LIBRARIES = [it for it in re.findall(r"^(\w+):", text_of(TOP / "crates.txt"), re.M) if (TOP / "crates" / it / "CALLING.md").is_file()]
 
 # The pages of docs/reference: the crate of each, and the type whose methods are named without it. Of a crate of two pages the
 # first has what is of no other's.
@@ -145,8 +146,6 @@ class Crate:
         self.sources = {it.module: it for it in (Source(name, file) for file in files)}
         # Each exported name, with its file and declaration, and those that another crate declares.
         self.names, self.passed_on = {}, []
-        # Other names under which something of these is exported: `pub use runs::{run_array as run_slice}`.
-        self.renamed = {}
         items = [(source, it) for source in self.sources.values() for it in source.items]
         self.public = {it.name: (source, it) for source, it in items if it.is_public and it.kind in (*TYPES, "fn")}
         self.export(())
@@ -163,12 +162,11 @@ class Crate:
             if item.kind == "use":
                 path, names = USED.match("\n".join(item.lines)).groups()
                 first = path.split("::")[0]
-                for name, other in NAMED.findall(names or ""):
+                for name, _ in NAMED.findall(names or ""):
                     if first != "crate" and (first,) not in self.sources:
                         self.passed_on.append((first, name))
                     elif name in self.public:
                         self.names[name] = self.public[name]
-                    self.renamed |= {other: name} if other else {}
             elif item.kind == "mod":
                 self.export((*module, item.name))
             elif item.name in self.public:

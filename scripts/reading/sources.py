@@ -1,9 +1,7 @@
 """Finds what was left behind in the sources, and edits that can no longer be applied: a definition of specs/ or proofs/
 that nothing reaches from the contracts, the answers to goals and the documents; a name that a file imports and does not
-use, or that an item imports and its file has at its top; a header, the first line `//!` of a file, with a name in backticks
-that is nowhere, in a library also one that says `inserted` where its file has no `insert`, or a noun of NOUNS for an impl
-that its file lacks. Names are compared as words, so one that two things share is told of neither. First it looks for a fault of
-each kind in PLANTED.
+use, or that an item imports and its file has at its top. Names are compared as words, so one that two things share is told of
+neither. First it looks for a fault of each kind in PLANTED.
 """
 import collections
 import functools
@@ -28,11 +26,6 @@ DEFINITION = re.compile(r"((?:(?:pub|abbrev|unfoldable|opaque|data|record|mutual
 ANSWER = re.compile(r"^.* : (?:goal|[\w.]*Goals|[\w.]*Given)\.")
 CONTAINER = re.compile(r"(?:abbrev )?mutual$|(?:pub )?module \S")
 
-# What a header calls the impls of a file.
-NOUNS = {
-    "comparisons": "cmp|eq|Ord", "hashes": "Hash", "indexing": "Index", "iteration": "Iterator|iter", "writers": "Write",
-}
-
 # The methods and macros of std's traits that files call.
 METHODS = {
     "Write": r"write\w*|flush", "Read": r"read\w*|bytes", "BufRead": r"fill_buf|consume|lines|read\w*",
@@ -48,10 +41,8 @@ PLANTED = (
     ("src/c.rt", "use std::{mem, io::{self, Read}};\n\nfn f() { mem::take(io::stdin().bytes()); g(Some(Write)); }\n", ""),
     ("src/d.rt", "use std::{mem, fmt::Write};\n\nfn f() { write!(w, \"\") }\n", "it imports mem and does not use it"),
     ("src/e.rt", "ghost use A.{b};\n\nimpl C {\n    ghost use A.{b};\n}\n", f"an item imports b, {AT_TOP}"),
-    ("src/f.rt", "//! Items that are inserted.\npub fn push() {}\n", "its header says inserted, and it has no insert"),
-    ("src/g.rt", "//! Items that are inserted.\npub fn insert() {}\n", ""),
-    ("src/h.rt", "//! The trait `Gone`.\npub trait Here {\n    const MOST: usize;\n}\n", "its header names Gone, which is nowhere"),
-    ("src/i.rt", "use h::Here;\n\nfn f() { g(T::MOST); }\n", ""),
+    ("src/f.rt", "pub trait Here {\n    const MOST: usize;\n}\n", ""),
+    ("src/g.rt", "use f::Here;\n\nfn f() { g(T::MOST); }\n", ""),
 )
 AMBIGUOUS = edits.Edit("planted", "ambiguous", (edits.Change("src/a.rt", "x", "y", ""),))
 
@@ -150,7 +141,6 @@ class Workspace:
         yield from self.unreached()
         for it in self.sources:
             yield from self.imports_left(it)
-            yield from self.header_faults(it)
 
     def unreached(self):
         known, uses, left = [], collections.defaultdict(set), set(self.documents)
@@ -194,38 +184,7 @@ class Workspace:
         is_called = bool(called) and re.search(rf"[.:](?:{called})\b|\b(?:{called})!", source.body)
         return name == "*" or name in source.words or bool(is_called)
 
-    def header_faults(self, source):
-        header = re.match(r"//! ?(.*)", source.text) if source.kind == ".rt" else None
-        for name in re.findall(r"`(\w+)`", header[1]) if header else ():
-            if name not in self.names:
-                yield source, f"its header names {name}, which is nowhere"
-        is_library = not re.search(r"test|example|bench", source.crate)
-        for word in re.findall(r"[a-z]+", header[1].lower()) if header and is_library else ():
-            wanted = NOUNS.get(word) or "|".join(it for it in stems(word) if it in self.public)
-            if wanted and not re.search(rf"(?i:{wanted})", source.code):
-                yield source, f"its header says {word}, and it has no {wanted}"
-
-    def code(self):
-        return (it.code for it in self.sources if it.kind == ".rt")
-
     @functools.cached_property
     def traits(self):
         """The functions and constants of each trait, as a pattern."""
-        return {it[1]: "|".join(MEMBER.findall(it[0])) for text in self.code() for it in TRAIT.finditer(text)}
-
-    @functools.cached_property
-    def public(self):
-        return {it for text in self.code() for it in re.findall(r"\bpub fn (\w+)", text)}
-
-    @functools.cached_property
-    def names(self):
-        """The words of all code, and the names of crates and modules."""
-        return {it for source in self.sources for it in re.findall(r"\w+", f"{source.crate} {source.path} {source.code}")}
-
-
-def stems(word):
-    """What a participle may be made from: `pushed`, `removed`, `popped`."""
-    if word.endswith("ed"):
-        yield from (word[:-2], word[:-1])
-        if word[-3:-2] == word[-4:-3]:
-            yield word[:-3]
+        return {it[1]: "|".join(MEMBER.findall(it[0])) for source in self.sources if source.kind == ".rt" for it in TRAIT.finditer(source.code)}

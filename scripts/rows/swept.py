@@ -1,7 +1,7 @@
 """Scripts whose start is `each byte`: they are also cut, failed and interrupted at each byte.
 
 Where the input of a script fails, its complete lines are answered; where the output fails, its first bytes are written."""
-from rows import commands, rows
+from rows import rows
 from rows.rows import ANY
 
 MARK, CUT = "each byte", " cut"
@@ -25,25 +25,19 @@ def of_script(chain, where):
     given, output = b"".join(lines), b"".join(answers)
     for count in range(len(given) + 1):
         complete, start = b"".join(answers[: given[:count].count(b"\n")]), f"reads {piece(given[:count])}"
-        fault = f"cannot read input: broken pipe, 1 faults / {ANY} / {told(complete)}"
+        fault = f"cannot read input, 1 faults / {ANY} / {told(complete)}"
         yield where, f"{start} !BrokenPipe", "script", fault
         if count < len(given) and chain.start.endswith(CUT):
             # Of a line that is cut only the line feed may be missing: else no line of such a script is a command.
             is_cut = count > 0 and given[count - 1 : count] != b"\n"
-            last = answers[given[:count].count(b"\n")] if given[count : count + 1] == b"\n" else refusal(given[:count])
+            last = answers[given[:count].count(b"\n")] if given[count : count + 1] == b"\n" else b"bad\n"
             yield where, start, "script", f"ok, 0 faults / {ANY} / {told(complete + (last if is_cut else b''))}"
     for count in range(len(output)):
-        for full, error in (("!BrokenPipe", "broken pipe"), ("0", "write zero")):
+        for full in ("!BrokenPipe", "0"):
             start = f"reads {piece(given)} takes {count or ''} {full}"
-            yield where, start, "script", f"cannot write output: {error}, 1 faults / {ANY} / {told(output[:count])}"
+            yield where, start, "script", f"cannot write output, 1 faults / {ANY} / {told(output[:count])}"
     start = " ".join([interrupted(given), "takes", *["!Interrupted 1"] * len(output)])
     yield where, start, "script", f"ok, {len(given) + len(output)} faults / {ANY} / {told(output)}"
-
-
-def refusal(given):
-    """The answer to the last line, which is cut, and so no command."""
-    name, _, text = given.rpartition(b"\n")[2].partition(b" ")
-    return commands.bad(name.decode("latin-1"), text.decode("latin-1")) + b"\n"
 
 
 def piece(given):

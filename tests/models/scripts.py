@@ -7,7 +7,7 @@ block is freed.
 import copy
 import math
 
-from rows.commands import COMMANDS, bad, read
+from rows.commands import COMMANDS, read
 from models.iterators import Splice, removed
 from models.texts import Text
 from models.vector_calls import move_to_the_heap, put, shrink_to_fit, swap_remove, take, with_len
@@ -63,13 +63,10 @@ class Model:
         self.held["X"] = Text(SLOTS)
 
     def answer(self, line):
-        if len(line) > LONGEST_LINE:
-            return b"bad: a line has at most 128 bytes"
-        name, blank, rest = line.partition(b" ")
-        name, text = name.decode("latin-1"), rest.decode("latin-1")
-        given = read(name, text) if blank else None
+        name, _, text = line.decode("latin-1").partition(" ")
+        given = read(name, text) if len(line) <= LONGEST_LINE else None
         if given is None:
-            return bad(name, text)
+            return b"bad"
         return f"{CALLS[text.split(' ')[0]](self.held[name], *given)} {self.state(name)}".encode()
 
     def state(self, name):

@@ -314,8 +314,7 @@ impl Vectors<'_> {
     /// Writes the answer to a line.
     fn answer_line(&mut self, line: &Line, output: &mut Vec<u8>) {
         if line.is_long || self.answer(&line.bytes, output).is_none() {
-            // The input has no other bad line.
-            output.extend_from_slice(b"bad: a line begins with A, S, T or X\n");
+            output.extend_from_slice(b"bad\n");
         }
     }
 

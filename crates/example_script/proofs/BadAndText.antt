@@ -26,7 +26,7 @@ no_name S rest e = differ 0 _ _ e refl
 no_name T rest e = differ 0 _ _ e refl
 
 bad_line : (old new : State) (text : List ℕ) → Answered old (codes "B pop") text new
-    → (text ≡ codes "bad: a line begins with A, S, T or X") × (new ≡ old)
+    → (text ≡ codes "bad") × (new ≡ old)
 bad_line old new text h = elim h [
   | Answered.done name call answer command steps e ↦ absurd (no_name name command.text command.named)
   | Answered.memory name asks e same ↦ absurd (no_name name asks.text asks.named)
@@ -75,5 +75,5 @@ bad_then_text output script =
     let second = first.5 in
     let one = bad_line start first.1 first.0 first.3 in
     let two = text_line second.1 second.0 (subst (λ old. Answered old (codes "X add hi") second.0 second.1) one.1 second.3) in
-    first.4 ∙ ap (λ text. text ++ 10 ∷ first.2) one.0 ∙ ap (λ rest. codes "bad: a line begins with A, S, T or X" ++ 10 ∷ rest)
+    first.4 ∙ ap (λ text. text ++ 10 ∷ first.2) one.0 ∙ ap (λ rest. codes "bad" ++ 10 ∷ rest)
     (second.4 ∙ ap (λ text. text ++ 10 ∷ second.2) two ∙ ap (λ rest. codes "ok [hi] inline" ++ 10 ∷ rest) second.5.0)

@@ -13,7 +13,7 @@ abbrev pub bad_and_text : List (List ℕ)
 bad_and_text = codes "B pop" ∷ codes "X add hi" ∷ []
 
 abbrev pub bad_and_text_answers : List (List ℕ)
-bad_and_text_answers = codes "bad: a line begins with A, S, T or X" ∷ codes "ok [hi] inline" ∷ []
+bad_and_text_answers = codes "bad" ∷ codes "ok [hi] inline" ∷ []
 
 -- a splice that returns a rest, and what is written if memory is refused for it
 abbrev pub spliced : List (List ℕ)

@@ -5,7 +5,9 @@ ghost use Rattle.tinyvec_array.specs.SliceVec.{slice_name};
 
 use std::alloc::{AllocError, Global};
 use tinyvec::{ArrayVec, SliceVec, TinyVec};
-use tinyvec_script::{Answer, Call, Driven, End, drive_splice, run_array, run_tiny};
+use tinyvec_script::{
+    Answer, Call, Driven, End, drive_array_splice, drive_splice, drive_tiny_splice, run_array, run_slice, run_tiny,
+};
 
 /// The answers of a vector in an array, or an error, if there is no memory for them.
 pub fn answers_of_array(
@@ -27,7 +29,7 @@ pub fn answers_of_slice(
     ensures same_reference { slice_name v.new ≡ slice_name v.old }
     ensures refused { OnErr result (v.new ≡ v.old) }
 {
-    Ok(run_array(alloc, v, calls)?)
+    Ok(run_slice(alloc, v, calls)?)
 }
 
 /// The same of a vector that may move to the heap.
@@ -50,8 +52,21 @@ pub fn one_for_two(alloc: Global) -> Result<(Driven<i32>, ArrayVec<[i32; 4]>), A
     let mut vec = ArrayVec::from_array([1, 2, 3, 4]);
     let replacement = Vec::from_array(alloc, [7])?;
     let word = [End::Front, End::Back];
-    let driven = drive_splice(alloc, &mut vec, 1, 3, replacement, &word)?;
+    let driven = drive_array_splice(alloc, &mut vec, 1, 3, replacement, &word)?;
     Ok((driven, vec))
+}
+
+/// Puts the bytes in the place of the list of a vector in lent slots, after the items at these ends were taken.
+pub fn replaced_in_slice(
+    alloc: Global,
+    v: &mut SliceVec<'_, u8>,
+    bytes: Vec<u8>,
+    word: &[End],
+) -> Result<Driven<u8>, AllocError>
+    ensures { OnErr result (v.new ≡ v.old) }
+{
+    let len = v.len();
+    Ok(drive_splice(alloc, v, 0, len, bytes, word)?)
 }
 
 /// Puts the bytes in the place of the list of a vector that may move to the heap, after the items at these ends were taken.
@@ -64,5 +79,5 @@ pub fn replaced_in_tiny(
     ensures { OnErr result (v.new ≡ v.old) }
 {
     let len = v.len();
-    Ok(drive_splice(alloc, v, 0, len, bytes, word)?)
+    Ok(drive_tiny_splice(alloc, v, 0, len, bytes, word)?)
 }

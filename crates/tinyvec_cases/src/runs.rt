@@ -1,8 +1,9 @@
 //! Runs of calls, and driven splices.
-use tinyvec::{Array, ArrayVec, SliceVec, Slots, TinyVec};
+use tinyvec::{Array, ArrayVec, SliceVec, TinyVec};
 use tinyvec_rows::{Out, Words, Wrong, window};
-use tinyvec_script::{Call, End, drive_splice, run_array, run_tiny};
-use tinyvec_slots::authors::CanSplice;
+use tinyvec_script::{
+    Call, End, drive_array_splice, drive_tiny_splice, run_array, run_slice, run_tiny,
+};
 use tinyvec_vector_cases::starts::start;
 use tinyvec_vector_cases::vector::Calls;
 
@@ -20,29 +21,19 @@ pub(crate) fn answer(kind: &str, words: &mut Words<'_>, calls: &mut Calls<'_>) {
 fn in_array<A: Array<Item = i32>>(words: &mut Words<'_>, calls: &mut Calls<'_>) {
     let mut v = ArrayVec::<A>::new();
     start(&mut v, words);
-    answer_slots(&mut v, words, calls);
+    words.end();
+    if calls.out.accepts(words) {
+        answer_array(&mut v, calls);
+    }
 }
 
 fn over_slice(words: &mut Words<'_>, calls: &mut Calls<'_>) {
     let mut slots = Vec::new(words.alloc);
     let len = words.add_slots::<i32>(&mut slots);
     let mut v = SliceVec::from_slice_at_most(slots.as_mut_slice(), len);
-    answer_slots(&mut v, words, calls);
-}
-
-fn answer_slots<S: Slots<Item = i32>>(
-    v: &mut ArrayVec<S>,
-    words: &mut Words<'_>,
-    calls: &mut Calls<'_>,
-) {
     words.end();
-    if !calls.out.accepts(words) {
-        return;
-    }
-    for call in calls.text.split('\t') {
-        call_slots(v, call, calls.out);
-        calls.out.say_slots(v.as_slice(), v.grab_spare_slice());
-        calls.out.put("\t");
+    if calls.out.accepts(words) {
+        answer_slice(&mut v, calls);
     }
 }
 
@@ -58,6 +49,22 @@ fn in_tiny<A: Array<Item = i32>>(words: &mut Words<'_>, calls: &mut Calls<'_>) {
     }
 }
 
+fn answer_array<A: Array<Item = i32>>(v: &mut ArrayVec<A>, calls: &mut Calls<'_>) {
+    for call in calls.text.split('\t') {
+        call_array(v, call, calls.out);
+        calls.out.say_slots(v.as_slice(), v.grab_spare_slice());
+        calls.out.put("\t");
+    }
+}
+
+fn answer_slice(v: &mut SliceVec<'_, i32>, calls: &mut Calls<'_>) {
+    for call in calls.text.split('\t') {
+        call_slice(v, call, calls.out);
+        calls.out.say_slots(v.as_slice(), v.grab_spare_slice());
+        calls.out.put("\t");
+    }
+}
+
 fn answer_tiny<A: Array<Item = i32>>(v: &mut TinyVec<A>, calls: &mut Calls<'_>) {
     for call in calls.text.split('\t') {
         call_tiny(v, call, calls.out);
@@ -67,14 +74,13 @@ fn answer_tiny<A: Array<Item = i32>>(v: &mut TinyVec<A>, calls: &mut Calls<'_>) 
     }
 }
 
-// Drives a splice, or runs calls, in a window.
+// Does what the first word names, in a window.
 macro_rules! answer_call {
-    ($v:ident, $call:ident, $out:ident, $run:ident) => {{
+    ($v:ident, $call:ident, $out:ident, $($name:literal => $does:ident),*) => {{
         let mut words = Words::new($out.alloc(), $call);
         let refused = window::read(&mut words);
         match words.word() {
-            "run" => $run($v, refused, &mut words, $out),
-            "drive" => drive($v, refused, &mut words, $out),
+            $($name => $does($v, refused, &mut words, $out),)*
             _ => $out.fail(Wrong::Place),
         }
     }};
@@ -93,12 +99,30 @@ macro_rules! run {
     }};
 }
 
-fn call_slots<S: Slots<Item = i32>>(v: &mut ArrayVec<S>, call: &str, out: &mut Out) {
-    answer_call!(v, call, out, run_slots);
+// The words are a range, a word of ends, and items.
+macro_rules! drive {
+    ($v:ident, $refused:ident, $words:ident, $out:ident, $drive:ident) => {{
+        let (alloc, start, end) = ($out.alloc(), $words.index(), $words.index());
+        let (ends, mut items) = (read_ends($words), Vec::new(alloc));
+        $words.add_items::<i32>(&mut items);
+        $words.end();
+        if start > end || end > $v.len() {
+            $out.fail(Wrong::Place);
+        } else if $out.accepts($words) {
+            window::open(alloc, $refused);
+            let driven = $drive(alloc, $v, start, end, items, ends.as_slice());
+            window::close(alloc);
+            $out.say(&driven);
+        }
+    }};
 }
 
-fn run_slots<S: Slots<Item = i32>>(
-    v: &mut ArrayVec<S>,
+fn call_array<A: Array<Item = i32>>(v: &mut ArrayVec<A>, call: &str, out: &mut Out) {
+    answer_call!(v, call, out, "run" => run_in_array, "drive" => drive_array);
+}
+
+fn run_in_array<A: Array<Item = i32>>(
+    v: &mut ArrayVec<A>,
     refused: u16,
     words: &mut Words<'_>,
     out: &mut Out,
@@ -106,8 +130,30 @@ fn run_slots<S: Slots<Item = i32>>(
     run!(v, refused, words, out, run_array);
 }
 
+fn drive_array<A: Array<Item = i32>>(
+    v: &mut ArrayVec<A>,
+    refused: u16,
+    words: &mut Words<'_>,
+    out: &mut Out,
+) {
+    drive!(v, refused, words, out, drive_array_splice);
+}
+
+fn call_slice(v: &mut SliceVec<'_, i32>, call: &str, out: &mut Out) {
+    answer_call!(v, call, out, "run" => run_over_slice);
+}
+
+fn run_over_slice(
+    v: &mut SliceVec<'_, i32>,
+    refused: u16,
+    words: &mut Words<'_>,
+    out: &mut Out,
+) {
+    run!(v, refused, words, out, run_slice);
+}
+
 fn call_tiny<A: Array<Item = i32>>(v: &mut TinyVec<A>, call: &str, out: &mut Out) {
-    answer_call!(v, call, out, run_in_tiny);
+    answer_call!(v, call, out, "run" => run_in_tiny, "drive" => drive_tiny);
 }
 
 fn run_in_tiny<A: Array<Item = i32>>(
@@ -119,20 +165,13 @@ fn run_in_tiny<A: Array<Item = i32>>(
     run!(v, refused, words, out, run_tiny);
 }
 
-// The words are a range, a word of ends, and items.
-fn drive<V: CanSplice<Item = i32>>(v: &mut V, refused: u16, words: &mut Words<'_>, out: &mut Out) {
-    let (alloc, start, end) = (out.alloc(), words.index(), words.index());
-    let (ends, mut items) = (read_ends(words), Vec::new(alloc));
-    words.add_items::<i32>(&mut items);
-    words.end();
-    if start > end || end > v.len() {
-        out.fail(Wrong::Place);
-    } else if out.accepts(words) {
-        window::open(alloc, refused);
-        let driven = drive_splice(alloc, v, start, end, items, ends.as_slice());
-        window::close(alloc);
-        out.say(&driven);
-    }
+fn drive_tiny<A: Array<Item = i32>>(
+    v: &mut TinyVec<A>,
+    refused: u16,
+    words: &mut Words<'_>,
+    out: &mut Out,
+) {
+    drive!(v, refused, words, out, drive_tiny_splice);
 }
 
 // The letters `f` and `b`, or `-` if there is none.

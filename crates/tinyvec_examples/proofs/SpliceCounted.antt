@@ -85,10 +85,10 @@ module _ {S I T : Type 0} {view : S → SpliceView I T} {keeps : S → S → Typ
   pub kept_around : length (view s).front + length (view s).back ≤ length list
   kept_around = omega (arith, counts.borders)
 
-  pub touched_at_least : (touches slots : ℕ) → FinishTouches (view t) slots 0 list touches
+  pub touched_at_least : (touches slots : ℕ) → FinishTouches (view t) slots list touches
       → length (given_items answers) + (length list - (length (view s).front + length (view s).back)) ≤ touches
   touched_at_least touches slots h = omega (arith, h.at_least, counts.borders, counts.touches)
 
-  pub touched_at_most : (touches slots : ℕ) → FinishTouches (view t) slots 0 list touches
+  pub touched_at_most : (touches slots : ℕ) → FinishTouches (view t) slots list touches
       → touches ≤ length (view s).left + (length list - (length (view s).front + length (view s).back)) + max slots (length list)
   touched_at_most touches slots h = omega (arith, h.at_most, counts.borders, counts.touches, counts.given)

@@ -6,18 +6,6 @@ ghost use Rattle.tinyvec_array.specs.Ranges.{IsRangeOf, before, removed, after};
 use std::ops::RangeBounds;
 use tinyvec_array::{Array, ArrayVec};
 
-/// Dropped after one item.
-pub fn after_next() -> (Option<i32>, [i32; 4])
-    ensures item { result.0 ≡ Some (pos 2) }
-    ensures left { result.1 ≡ pos 1 ∷ pos 4 ∷ pos 0 ∷ pos 0 ∷ [] }
-{
-    let mut v = ArrayVec::from_array_len([1, 2, 3, 4], 4);
-    let mut d = v.drain(1..3);
-    let x = d.next();
-    drop(d);
-    (x, v.into_inner())
-}
-
 /// Dropped after an item from the back.
 pub fn after_next_back() -> (Option<i32>, [i32; 4])
     ensures item { result.0 ≡ Some (pos 3) }

@@ -24,12 +24,3 @@ pub fn popped() -> [i32; 4]
     let _two = v.pop();
     v.into_inner()
 }
-
-/// A push writes the slot after the list, and no other.
-pub fn pushed_in_array() -> [i32; 4]
-    ensures { result ≡ pos 1 ∷ pos 2 ∷ pos 9 ∷ pos 4 ∷ [] }
-{
-    let mut v = ArrayVec::from_array_len([1, 2, 3, 4], 2);
-    v.push(9);
-    v.into_inner()
-}

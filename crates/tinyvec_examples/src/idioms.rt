@@ -1,22 +1,16 @@
-//! Idioms of code over Rust's `tinyvec` that no other example has, as they are written here. None needs a file of proof.
+//! Idioms of code over Rust's `tinyvec`, as they are written here. None needs a file of proof.
 ghost use Rattle.std.specs.Prelude.{◌≡◌, ◌-◌, ◌≤◌, length};
 ghost use Rattle.tinyvec.specs.TinyVec.{tiny_len};
 
-use std::alloc::{AllocError, Global};
+use std::alloc::AllocError;
 use std::collections::{BTreeMap, HashMap};
-use tinyvec::{ArrayVec, TinyVec};
-use tinyvec_text::InlineText;
+use tinyvec::TinyVec;
 
 /// `&v[1..]`.
 pub fn all_but_first(v: &TinyVec<[u32; 4]>) -> &[u32]
     requires { 1 ≤ tiny_len v.now }
 {
     &v[1..]
-}
-
-/// `v.first()`.
-pub fn first(v: &ArrayVec<[u32; 4]>) -> Option<&u32> {
-    v.first()
 }
 
 fn count(numbers: &[u32]) -> usize
@@ -72,52 +66,6 @@ pub fn count_list(
 /// `map.get(&v)`, of lists as keys, in order.
 pub fn at_list(map: &BTreeMap<TinyVec<[u8; 4]>, u32>, list: &TinyVec<[u8; 4]>) -> Option<u32> {
     map.get(list).copied()
-}
-
-/// `map.get(t)`, of texts as keys.
-pub fn at_text(map: &HashMap<InlineText<16>, u32>, text: &InlineText<16>) -> Option<u32> {
-    map.get(text).copied()
-}
-
-/// `v == xs`: both sides are slices.
-pub fn equals_slice(v: &TinyVec<[u32; 4]>, xs: &[u32]) -> bool {
-    v.as_slice() == xs
-}
-
-/// `v.first_chunk::<2>()`.
-pub fn first_two(v: &TinyVec<[u8; 4]>) -> Option<&[u8; 2]> {
-    v.first_chunk::<2>()
-}
-
-/// `v.as_chunks::<2>()`.
-pub fn pairs(v: &ArrayVec<[u8; 4]>) -> (&[[u8; 2]], &[u8]) {
-    v.as_chunks::<2>()
-}
-
-/// `v.chunk_by(..)`.
-pub fn number_of_runs(v: &TinyVec<[u8; 4]>) -> usize {
-    v.chunk_by(|x, y| *x == *y).count()
-}
-
-/// `v.drain(..).collect()`.
-pub fn drained(alloc: Global, v: &mut TinyVec<[u8; 4]>) -> Result<Vec<u8>, AllocError> {
-    v.drain(..).collect(alloc)
-}
-
-/// `v.to_vec()`.
-pub fn to_vec(alloc: Global, v: &ArrayVec<[u8; 4]>) -> Result<Vec<u8>, AllocError> {
-    v.to_vec(alloc)
-}
-
-/// `v < w`.
-pub fn is_below(v: &ArrayVec<[u8; 4]>, w: &ArrayVec<[u8; 4]>) -> bool {
-    v < w
-}
-
-/// A `Vec` extended by a vector.
-pub fn append_to(out: &mut Vec<u8>, v: &ArrayVec<[u8; 4]>) -> Result<(), AllocError> {
-    out.extend_from_slice(v)?;
-    Ok(())
 }
 
 /// A struct with a vector in it derives these.

@@ -1,14 +1,13 @@
 //! Items that are known beforehand, and fit: `extend` succeeds, and the list is known.
-ghost use Rattle.std.specs.Prelude.{◌≡◌, ◌+◌, ◌-◌, ◌≤◌, ◌++◌, length, vec_len, IsOk, IfOk, OnOk};
+ghost use Rattle.std.specs.Prelude.{◌≡◌, ◌+◌, ◌-◌, ◌≤◌, ◌++◌, length, vec_len, IsOk};
 ghost use Rattle.std.specs.List.{range_with_len};
 ghost use Rattle.tinyvec_array.specs.ArrayVec.{items, spare};
-ghost use Rattle.tinyvec.specs.TinyVec.{tiny_items};
 
 use std::alloc::Global;
 use std::iter::Copied;
 use std::ops::Range;
 use std::{slice, vec};
-use tinyvec::{ArrayVec, FromIterRest, NoMemory, NoRoom, TinyVec};
+use tinyvec::{ArrayVec, NoRoom};
 
 /// The items of a `Vec`.
 pub fn by_vec(
@@ -42,24 +41,4 @@ pub fn by_copies<'a>(
     ensures { IsOk result × (items v.new ≡ items v.old ++ more.now) }
 {
     v.extend(more.iter().copied())
-}
-
-/// The items of a `Vec`, whose number is known: room for all is allocated once.
-pub fn by_length(
-    v: &mut TinyVec<[u32; 8]>,
-    more: Vec<u32>,
-) -> Result<(), NoMemory<vec::IntoIter<u32, Global>>>
-    ensures { OnOk result (tiny_items v.new ≡ tiny_items v.old ++ more.items) }
-{
-    v.extend_exact_size(more)
-}
-
-/// A new vector of the items of a `Vec`. If memory is refused for one, what was made, that item and the others are returned.
-pub fn into_new(
-    alloc: Global,
-    numbers: Vec<u32>,
-) -> Result<TinyVec<[u32; 8]>, FromIterRest<TinyVec<[u32; 8]>, u32, vec::IntoIter<u32, Global>>>
-    ensures { IfOk result (λ v. tiny_items v ≡ numbers.items) }
-{
-    TinyVec::from_iter(alloc, numbers)
 }

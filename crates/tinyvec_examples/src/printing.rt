@@ -1,13 +1,11 @@
 //! Vectors as texts.
 ghost use Rattle.std.specs.Prelude.{◌≡◌, ◌++◌, List, ℕ, Some, IfOk, string_bytes, codes};
-ghost use Rattle.std.specs.Fmt.{decimal};
 ghost use Rattle.std.specs.List.{join_by};
 ghost use Rattle.tinyvec_array.specs.ArrayVec.{items_of};
-ghost use Rattle.tinyvec.specs.TinyVec.{tiny_items_of};
 
 use std::alloc::{AllocError, Global};
 use std::fmt;
-use tinyvec::{Array, ArrayVec, TinyVec};
+use tinyvec::{Array, ArrayVec};
 
 /// A list whose items' texts are known: these, joined by a comma and a blank, in brackets.
 pub fn displayed_items<A: Array>(alloc: Global, v: &ArrayVec<A>) -> Result<String, AllocError>
@@ -15,17 +13,6 @@ where
     A::Item: fmt::Display,
     ensures { (text : A.Item → List ℕ) → ((x : A.Item) → A.Item.output x ≡ Some (text x))
         → IfOk result (λ s. string_bytes s ≡ codes "[" ++ (join_by text (codes ", ") (items_of A.Slots v.now) ++ codes "]")) }
-{
-    format!(in alloc; "{}", *v)
-}
-
-/// A list of numbers, wherever it is.
-pub fn displayed_numbers<A: Array<Item = u32>>(
-    alloc: Global,
-    v: &TinyVec<A>,
-) -> Result<String, AllocError>
-    ensures { IfOk result (λ s. string_bytes s
-        ≡ codes "[" ++ (join_by decimal (codes ", ") (tiny_items_of A.Slots v.now) ++ codes "]")) }
 {
     format!(in alloc; "{}", *v)
 }

@@ -82,3 +82,9 @@ pub fn touches_of_replace<A: Array, I: DoubleEndedIterator<Item = A::Item>>(
     let (_finished, touches) = splice.finish_counted();
     (first, last, touches)
 }
+
+/// Takes a list out, and puts one byte in its place. A splice is ended by `finish` or `stop`: one that is dropped is refused.
+pub fn ended(v: &mut ArrayVec<[u8; 4]>) {
+    let splice = v.splice(.., [2]);
+    let _rest = splice.stop();
+}

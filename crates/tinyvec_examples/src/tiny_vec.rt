@@ -1,11 +1,11 @@
 //! Callers of a `TinyVec`: one list, and where it is.
-ghost use Rattle.std.specs.Prelude.{◌≡◌, ◌==◌, ◌+◌, ◌-◌, ◌%◌, ◌<◌, ◌≤◌, ◌++◌, ◌∷◌, [], pos, slice_get, slice_set, false, IsTrue, IsOk, OnOk, OnErr};
-ghost use Rattle.std.specs.List.{filter};
+ghost use Rattle.std.specs.Prelude.{◌≡◌, ◌+◌, ◌-◌, ◌<◌, ◌++◌, ◌∷◌, [], pos, slice_get, slice_set, IfOk, OnOk, OnErr};
 ghost use Rattle.tinyvec.specs.Ranges.{IsRangeOf, before, removed, after};
-ghost use Rattle.tinyvec.specs.TinyVec.{tiny_items, tiny_items_of, tiny_len, tiny_len_of, tiny_spare, tiny_spare_of, is_inline, IsInline, tiny_capacity, tiny_view_of};
+ghost use Rattle.tinyvec.specs.TinyVec.{tiny_items, tiny_items_of, tiny_len_of, tiny_spare, tiny_spare_of, is_inline, IsInline, tiny_capacity, tiny_capacity_of, tiny_view_of};
 ghost use Rattle.tinyvec.specs.View.{Becomes, Unchanged};
 
 use std::alloc::{AllocError, Global};
+use std::mem;
 use std::ops::RangeBounds;
 use tinyvec::{Array, NoMemory, NoRoom, TinyVec, TinyVecIterator};
 
@@ -22,27 +22,6 @@ pub fn three(alloc: Global) -> TinyVec<[i32; 4]>
     v
 }
 
-/// A full inline list moves to the heap, or nothing changes if memory is refused.
-pub fn one_too_many<A: Array>(v: &mut TinyVec<A>, x: A::Item) -> bool
-    requires { tiny_len_of A.Slots v.old ≡ A.CAPACITY }
-    ensures heap { IsTrue result → is_inline v.new ≡ false }
-    ensures items { IsTrue result → tiny_items_of A.Slots v.new ≡ tiny_items_of A.Slots v.old ++ x ∷ [] }
-    ensures kept { result ≡ false → Unchanged (tiny_view_of A.Slots v.old) (tiny_view_of A.Slots v.new) }
-{
-    v.push(x).is_ok()
-}
-
-/// Once there is room, two pushes succeed.
-pub fn two_more<A: Array>(v: &mut TinyVec<A>, x: A::Item, y: A::Item) -> Result<(), AllocError>
-    ensures items { OnOk result (tiny_items_of A.Slots v.new ≡ (tiny_items_of A.Slots v.old ++ x ∷ []) ++ y ∷ []) }
-    ensures kept { OnErr result (Unchanged (tiny_view_of A.Slots v.old) (tiny_view_of A.Slots v.new)) }
-{
-    v.reserve(2)?;
-    let _first = v.push(x);
-    let _second = v.push(y);
-    Ok(())
-}
-
 /// Pushes `x`, and writes `y` to it, in any vector.
 pub fn push_then_write<A: Array>(
     v: &mut TinyVec<A>,
@@ -53,16 +32,6 @@ pub fn push_then_write<A: Array>(
     ensures kept { OnErr result (Unchanged (tiny_view_of A.Slots v.old) (tiny_view_of A.Slots v.new)) }
 {
     *v.push_mut(x)? = y;
-    Ok(())
-}
-
-/// Inserts `x` in front, and writes `y` to it. A list that has room in its array stays there.
-pub fn insert_then_write(v: &mut TinyVec<[u8; 4]>, x: u8, y: u8) -> Result<(), NoMemory<u8>>
-    requires { tiny_len v.old < 4 }
-    ensures items { OnOk result (tiny_items v.new ≡ y ∷ tiny_items v.old) }
-    ensures place { IsInline v.old → IsOk result × IsInline v.new }
-{
-    *v.insert_mut(0, x)? = y;
     Ok(())
 }
 
@@ -128,22 +97,6 @@ pub fn middle_drained(alloc: Global) -> TinyVec<[i32; 4]>
     v
 }
 
-/// Keeps the even numbers, in order.
-pub fn keep_even(v: &mut TinyVec<[u32; 16]>)
-    ensures { tiny_items v.new ≡ filter (λ x. x % 2 == 0) (tiny_items v.old) }
-{
-    v.retain(|x| *x % 2 == 0);
-}
-
-/// The list cut in two and joined again is the same list.
-pub fn cut_and_joined(v: &mut TinyVec<[u32; 4]>, at: usize) -> Result<(), AllocError>
-    requires { at ≤ tiny_len v.old }
-    ensures { OnOk result (tiny_items v.new ≡ tiny_items v.old) }
-{
-    let mut tail = v.split_off(at)?;
-    v.append(&mut tail)
-}
-
 /// Moves all items to an empty vector. If memory is refused for one, that item and the others are returned.
 pub fn moved_by_iterator<A: Array>(
     from: TinyVec<A>,
@@ -153,4 +106,31 @@ pub fn moved_by_iterator<A: Array>(
     ensures { OnOk result (tiny_items_of A.Slots to.new ≡ tiny_items_of A.Slots from) }
 {
     to.extend(from)
+}
+
+/// Appends an item if there is room, which allocates nothing.
+pub fn push_if_room<A: Array>(v: &mut TinyVec<A>, x: A::Item)
+    ensures room { tiny_len_of A.Slots v.old < tiny_capacity_of A.Slots v.old → tiny_items_of A.Slots v.new ≡ tiny_items_of A.Slots v.old ++ x ∷ [] }
+    ensures place { is_inline v.new ≡ is_inline v.old }
+{
+    if v.len() < v.capacity() {
+        v.push_reserved(x);
+    }
+}
+
+/// An emptied list is inline again, where the array has the room that is to be kept.
+pub fn emptied_inline(v: &mut TinyVec<[u8; 16]>)
+    ensures items { tiny_items v.new ≡ [] }
+    ensures place { IsInline v.new }
+{
+    v.clear();
+    v.shrink_to(16);
+}
+
+/// The list, taken out. What is left is empty and inline.
+pub fn taken<A: Array>(v: &mut TinyVec<A>) -> Result<TinyVec<A>, AllocError>
+    ensures taken { IfOk result (λ out. out ≡ v.old) }
+    ensures left { OnOk result ((tiny_items_of A.Slots v.new ≡ []) × IsInline v.new) }
+{
+    mem::try_take(v)
 }

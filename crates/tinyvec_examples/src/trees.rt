@@ -19,11 +19,3 @@ impl Default for Term {
         Term::Leaf(0)
     }
 }
-
-/// How many terms `term` is the sum of.
-pub fn summed(term: &Term) -> usize {
-    match term {
-        Term::Leaf(_) => 0,
-        Term::Sum(all) => all.as_slice().len(),
-    }
-}

@@ -1,9 +1,7 @@
 -- A text cut at its first blank, and at the first byte of any value.
-use Rattle.std.proofs.Common.{◌≡◌, ◌≢◌, ℕ, List, [], ◌∷◌, ◌++◌, false, nat_eq, refl, sym, ap, ◌∙◌, arith}
+use Rattle.std.proofs.Common.{◌≡◌, ◌≢◌, ℕ, List, [], ◌∷◌, ◌++◌, refl, sym, ◌∙◌}
 use Rattle.std.specs.List.{All, AllByRecursion}
-use Rattle.std.proofs.lemmas.Bool.Decides.{nat_tests}
 use Rattle.tinyvec_script.specs.Words.{StartsBlank}
-use Rattle.tinyvec_script.specs.Reason.{word_of, words_after}
 use Rattle.std.proofs.lemmas.List.Elements.{recursion_from_All}
 
 module _ (mark : ℕ) where
@@ -35,21 +33,6 @@ split_once [] (z ∷ b) (y ∷ c) d p q s t e = absurd (q.0 (let same : z ≡ y 
 split_once (x ∷ a) b [] [] p q s t e = absurd (let no : x ∷ (a ++ b) ≡ [] = e in cc)
 split_once (x ∷ a) b [] (z ∷ d) p q s t e = absurd (p.0 (let same : x ≡ z = cc in same ∙ t))
 split_once (x ∷ a) b (y ∷ c) d p q s t e = let rest = split_once a b c d p.1 q.1 s t (cc) in (cc, rest.1)
-
--- the first word of a text, and what follows it
-pub first_word : (a b : List ℕ) → Lacks 32 a → (word_of (a ++ 32 ∷ b) ≡ a) × (words_after (a ++ 32 ∷ b) ≡ b)
-first_word [] b h = (refl, refl)
-first_word (x ∷ a) b h =
-    let other : nat_eq x 32 ≡ false = grind (arith, nat_tests, h.0) in
-    let rest = first_word a b h.1 in
-    rw other (ap (λ l. x ∷ l) rest.0, rest.1)
-
-pub only_word : (a : List ℕ) → Lacks 32 a → (word_of a ≡ a) × (words_after a ≡ [])
-only_word [] h = (refl, refl)
-only_word (x ∷ a) h =
-    let other : nat_eq x 32 ≡ false = grind (arith, nat_tests, h.0) in
-    let rest = only_word a h.1 in
-    rw other (ap (λ l. x ∷ l) rest.0, rest.1)
 
 -- a text is parted where its first blank is, or at its end, in one way
 pub one_split : (text a b c d : List ℕ) → text ≡ a ++ b → All (λ byte. byte ≢ 32) a → StartsBlank b → text ≡ c ++ d → All (λ byte. byte ≢ 32) c → StartsBlank d → (a ≡ c) × (b ≡ d)

@@ -5,10 +5,10 @@ use Rattle.tinyvec_script.specs.declared.script.RunError.TheVariants.{Read, Writ
 
 -- the reader failed
 abbrev pub is_read : RunError → Bool
-is_read (Read error) = true
+is_read Read = true
 is_read error = false
 
 -- the writer failed
 abbrev pub is_write : RunError → Bool
-is_write (Write error) = true
+is_write Write = true
 is_write error = false

@@ -11,4 +11,3 @@ pub mod Spelled
 pub mod State
 pub mod TinyCalls
 pub mod TextCalls
-pub mod Reason

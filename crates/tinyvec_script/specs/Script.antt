@@ -13,7 +13,6 @@ use Rattle.tinyvec_script.specs.TinyCalls.{TinyStep}
 use Rattle.tinyvec_script.specs.TextCalls.{TextCall, IsTextCommand, TextStep}
 use Rattle.tinyvec_script.specs.Command.{IsCommand}
 use Rattle.tinyvec_script.specs.Spelled.{NeedsMemory}
-use Rattle.tinyvec_script.specs.Reason.{reason}
 use Rattle.tinyvec_script.specs.Text.{answer_text, vector_text, tiny_text, inline_text_text}
 
 -- the vectors of a script: `A` in an array, `S` in a lent slice, `T` in an array or on the heap, and `X`, a text there
@@ -57,8 +56,8 @@ abbrev pub TextSteps : State → TextCall → Answer ℤ → State → Type 0
 TextSteps old call answer new = TextStep old.x call answer new.x × (new.a ≡ old.a) × (new.s ≡ old.s) × (new.t ≡ old.t)
 
 -- What is answered to one line, and the vectors that it leaves. A line that spells a call is answered by a step of its vector
--- or of the text. One for whose letters or numbers memory was refused is `memory`, and any other is `bad`, for a reason; both
--- change nothing.
+-- or of the text. One for whose letters or numbers memory was refused is `memory`, and any other is `bad`; both change
+-- nothing.
 pub data Answered : State → List ℕ → List ℕ → State → Type 0 where
   done : {old new : State} {line text : List ℕ} (name : Name) (call : Call ℤ) (answer : Answer ℤ) → IsCommand line name call
       → Steps name old call answer new
@@ -70,7 +69,7 @@ pub data Answered : State → List ℕ → List ℕ → State → Type 0 where
       → text ≡ answer_text answer ++ codes " " ++ inline_text_text new.x → Answered old line text new
   bad : {old new : State} {line text : List ℕ} → ((name : Name) (call : Call ℤ) → IsCommand line name call → ⊥)
       → ((call : TextCall) → IsTextCommand line call → ⊥)
-      → text ≡ codes "bad: " ++ reason line → new ≡ old → Answered old line text new
+      → text ≡ codes "bad" → new ≡ old → Answered old line text new
 
 -- the answer lines to lines, one after another
 abbrev pub Answers : State → List (List ℕ) → List ℕ → State → Type 0

@@ -46,11 +46,7 @@ module _ {T : Type 0} (D : T → Type 0) where
   -- no other answer is given
   ArrayStep capacity old call answer new = ⊥
 
-  -- the same of a vector whose capacity is the number of its slots
-  abbrev pub SlotsStep : Slots T → Call T → Answer T → Slots T → Type 0
-  SlotsStep old = ArrayStep (length (all_slots old)) old
-
-  -- the same of the vector in a lent slice of a script, which has no splice
+  -- the same of a vector in a lent slice, whose capacity is the number of its slots, and which has no splice
   abbrev pub SliceStep : Slots T → Call T → Answer T → Slots T → Type 0
   SliceStep old (Splice start end word replacement) answers.Unfit new = new ≡ old
   SliceStep old (Splice start end word replacement) answer new = ⊥

@@ -1,14 +1,12 @@
 //! The text of answers and of vectors, written in pieces. It allocates nothing.
-ghost use Rattle.std.specs.Prelude.{◌≡◌, ◌+◌, ◌*◌, ◌<◌, ◌≤◌, ◌/◌, ◌%◌, ◌++◌, ◌∷◌, [], codes};
+ghost use Rattle.std.specs.Prelude.{◌≡◌, ◌+◌, ◌*◌, ◌<◌, ◌≤◌, ◌/◌, ◌%◌, ◌++◌, codes};
 ghost use Rattle.std.specs.List.{flat_map};
 ghost use Rattle.std.specs.Fmt.{decimal, signed_decimal};
 ghost use Rattle.tinyvec_script.specs.Writes.{Gathers};
-ghost use Rattle.tinyvec_script.specs.Reason.{short_reason};
 ghost use Rattle.tinyvec_script.specs.Text.{digit_pair, list_text, answer_text, state_text, place_text, place_state_text, text_state_text};
 
 use crate::Answer;
 use crate::gathered::Gathered;
-use crate::reason::reason;
 use std::io::Write;
 use tinyvec_io::Counted;
 
@@ -41,18 +39,6 @@ pub(crate) fn write_answer<W: Write>(
         Answer::Memory => gathered.put(writer, b"memory"),
         Answer::Unfit => gathered.put(writer, b"unfit"),
     }
-}
-
-// Writes the answer to a line of at most 128 bytes that is no command.
-pub(crate) fn write_reason<W: Write>(gathered: &mut Gathered, writer: &mut Counted<W>, line: &[u8])
-    ensures { Gathers W.contents writer.old gathered.old writer.new gathered.new
-        (codes "bad: " ++ short_reason line.now ++ 10 ∷ []) }
-{
-    let (subject, reason) = reason(line);
-    gathered.put(writer, b"bad: ");
-    gathered.put(writer, subject);
-    gathered.put(writer, reason);
-    gathered.put(writer, b"\n");
 }
 
 // Writes the list, a blank and the spare slots.

@@ -3,8 +3,12 @@ ghost use Rattle.std.specs.Prelude.{◌≡◌, ◌+◌, ◌<◌, ◌≤◌, ◌�
 ghost use Rattle.std.specs.Iterator.Adapters.{fuse_steps};
 ghost use Rattle.std.specs.Vec.Iter.{into_iter_items, into_iter_steps, into_iter_steps_back};
 ghost use Rattle.tinyvec_slots.specs.Ends.{RunsWord, given_items};
+ghost use Rattle.tinyvec_array.specs.ArrayVec.{view_of, items_of, slots_of, len_of};
+ghost use Rattle.tinyvec_slots.specs.Slots.{items_in, SlotRule};
 ghost use Rattle.tinyvec_slots.specs.Fused.{fused_rest};
 ghost use Rattle.tinyvec_slots.specs.Splice.{splice_left, SpliceCanStep, SpliceSteps, SpliceStepsBack};
+ghost use Rattle.tinyvec.specs.TinyVec.{tiny_view_of, tiny_items_of, tiny_len_of, tiny_capacity_of};
+ghost use Rattle.tinyvec.specs.Room.{GrowsByPushes};
 ghost use Rattle.tinyvec_script.specs.Driving.{word_of, TakesAt, refused_items, DrivenSplices, SpliceComputes};
 ghost use Rattle.tinyvec_script.specs.declared.call.Answer.TheVariants as answers;
 
@@ -12,6 +16,7 @@ use crate::{Answer, End};
 use std::alloc::{AllocError, Global};
 use std::iter::Fuse;
 use std::vec::IntoIter;
+use tinyvec::{Array, ArrayVec, TinyVec};
 use tinyvec_slots::authors::{CanSplice, splice_over};
 use tinyvec_slots::{NoMemory, NoRoom, Splice};
 
@@ -23,8 +28,7 @@ pub struct Driven<T> {
 }
 
 /// Replaces the items from `start` up to `end`. Before that it takes an item from each end that the word names. Allocates
-/// both result lists first; if that fails, returns the replacement and changes nothing. In a `TinyVec` items find no room
-/// only if the allocator refuses to grow it.
+/// both result lists first; if that fails, returns the replacement and changes nothing.
 pub fn drive_splice<V: CanSplice>(
     alloc: Global,
     vec: &mut V,
@@ -49,6 +53,51 @@ pub fn drive_splice<V: CanSplice>(
     take_word(&mut splice, word, &mut driven.yields);
     keep_refused(&mut driven.rest, splice.finish());
     Ok(driven)
+}
+
+/// Replaces the items from `start` up to `end`, as `drive_splice` does.
+pub fn drive_array_splice<A: Array>(
+    alloc: Global,
+    vec: &mut ArrayVec<A>,
+    start: usize,
+    end: usize,
+    replacement: Vec<A::Item>,
+    word: &[End],
+) -> Result<Driven<A::Item>, NoMemory<Vec<A::Item>>>
+    requires start_le_end { start ≤ end }
+    requires in_bounds { end ≤ len_of A.Slots vec.old }
+    ensures splices { IfOk result (λ driven. DrivenSplices items_in (SlotRule A.Item.is_default)
+        (length (slots_of A.Slots vec.old)) (view_of A.Slots vec.old) start end word.now replacement.items
+        driven.yields.items driven.rest.items (view_of A.Slots vec.new)) }
+    ensures computed { IfOk result (λ driven. SpliceComputes (length (slots_of A.Slots vec.old)) (items_of A.Slots vec.old)
+        start end word.now replacement.items driven.yields.items driven.rest.items (items_of A.Slots vec.new)) }
+    ensures refused { IfErr result (λ refused. (refused.0 ≡ replacement) × (vec.new ≡ vec.old)
+        × (start < end + vec_len replacement)) }
+{
+    drive_splice(alloc, vec, start, end, replacement, word)
+}
+
+/// Replaces the items from `start` up to `end`, as `drive_splice` does. Items find no room only if the allocator refuses to
+/// grow the vector.
+pub fn drive_tiny_splice<A: Array>(
+    alloc: Global,
+    vec: &mut TinyVec<A>,
+    start: usize,
+    end: usize,
+    replacement: Vec<A::Item>,
+    word: &[End],
+) -> Result<Driven<A::Item>, NoMemory<Vec<A::Item>>>
+    requires start_le_end { start ≤ end }
+    requires in_bounds { end ≤ tiny_len_of A.Slots vec.old }
+    ensures splices { IfOk result (λ driven. DrivenSplices (λ v. v.items) (GrowsByPushes A.Item.is_default)
+        (tiny_capacity_of A.Slots vec.new) (tiny_view_of A.Slots vec.old) start end word.now replacement.items
+        driven.yields.items driven.rest.items (tiny_view_of A.Slots vec.new)) }
+    ensures computed { IfOk result (λ driven. SpliceComputes (tiny_capacity_of A.Slots vec.new) (tiny_items_of A.Slots vec.old)
+        start end word.now replacement.items driven.yields.items driven.rest.items (tiny_items_of A.Slots vec.new)) }
+    ensures refused { IfErr result (λ refused. (refused.0 ≡ replacement) × (vec.new ≡ vec.old)
+        × (start < end + vec_len replacement)) }
+{
+    drive_splice(alloc, vec, start, end, replacement, word)
 }
 
 // The answer to a splice: the items taken, and those that found no room if there are any.

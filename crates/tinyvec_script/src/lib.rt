@@ -8,7 +8,6 @@ mod driving;
 mod gathered;
 mod line;
 mod number;
-mod reason;
 mod runs;
 mod script;
 mod slots_step;
@@ -20,6 +19,6 @@ mod vectors;
 
 pub use call::{Answer, Call, End};
 pub use command::Name;
-pub use driving::{Driven, drive_splice};
-pub use runs::{run_array, run_array as run_slice, run_tiny};
+pub use driving::{Driven, drive_array_splice, drive_splice, drive_tiny_splice};
+pub use runs::{run_array, run_slice, run_tiny};
 pub use script::{RunError, run};

@@ -1,7 +1,6 @@
 //! A script, read and answered.
 ghost use Rattle.std.specs.Prelude.{◌≡◌, ◌⊎◌, ◌≤◌, ◌^◌, ◌-◌, ◌++◌, ◌∷◌, List, ℕ, [], Some, OnOk, IsErrOf, length};
 ghost use Rattle.std.specs.Io.KnownBytes.{Appends, Consumes, IsAtEnd};
-ghost use Rattle.std.specs.declared.io.Error.{Error as IoError};
 ghost use Rattle.tinyvec_io.specs.Counted.{AppendsFront, CountsEnds, Reported};
 ghost use Rattle.tinyvec_script.specs.Failed.{is_read, is_write};
 ghost use Rattle.tinyvec_script.specs.Writes.{Gathers, Writes};
@@ -10,7 +9,6 @@ ghost use Rattle.tinyvec_script.specs.Script.{Answered, Script, CompleteLines};
 ghost use Rattle.tinyvec_script.specs.History.{kept, Feeds, Ends};
 
 use crate::Answer;
-use crate::answers::write_reason;
 use crate::command::{Command, parse_line, split_at_byte};
 use crate::gathered::Gathered;
 use crate::line::Line;
@@ -27,16 +25,16 @@ use tinyvec_text::InlineText;
 const CHUNK: usize = 4096;
 
 /// Why a script ended before its input.
-#[derive(Debug, Error, Drop)]
+#[derive(Debug, Clone, Copy, PartialEq, Eq, Error)]
 pub enum RunError {
     /// The reader failed.
-    #[error("cannot read input: {0}")]
-    Read(io::Error),
+    #[error("cannot read input")]
+    Read,
     /// The writer failed.
-    #[error("cannot write output: {0}")]
-    Write(io::Error),
+    #[error("cannot write output")]
+    Write,
     /// `u64::MAX` bytes were read, and the input goes on.
-    #[error("cannot read input: input too long")]
+    #[error("input too long")]
     TooLong,
 }
 
@@ -57,19 +55,19 @@ pub fn run<R: Read, W: Write>(
     ensures failed { CountsEnds is_read is_write reader.old reader.new writer.old writer.new result }
 
     // The complete lines before the fault were answered.
-    ensures read { (error : IoError) → IsErrOf result (RunError.Read error) → (input output : List ℕ)
+    ensures read { IsErrOf result RunError.Read → (input output : List ℕ)
         × Consumes (R.remaining reader.old.inner) (R.remaining reader.new.inner) input
         × Appends (W.contents writer.old.inner) (W.contents writer.new.inner) output
         × CompleteLines input output }
-    ensures read_fault { (error : IoError) → IsErrOf result (RunError.Read error)
+    ensures read_fault { IsErrOf result RunError.Read
         → Reported reader.old.faults reader.new.faults }
 
     // What was written is a front of the output.
-    ensures write { (error : IoError) → IsErrOf result (RunError.Write error) → (input output : List ℕ)
+    ensures write { IsErrOf result RunError.Write → (input output : List ℕ)
         × Consumes (R.remaining reader.old.inner) (R.remaining reader.new.inner) input
         × AppendsFront (W.contents writer.old.inner) (W.contents writer.new.inner) output
         × (CompleteLines input output ⊎ Script input output) }
-    ensures write_fault { (error : IoError) → IsErrOf result (RunError.Write error)
+    ensures write_fault { IsErrOf result RunError.Write
         → Reported writer.old.faults writer.new.faults }
 
     // An input of this length is not read to its end.
@@ -92,12 +90,12 @@ pub fn run<R: Read, W: Write>(
     for _piece in 0..u64::MAX {
         let count = match reader.read_some(&mut chunk) {
             Ok(count) => count,
-            Err(error) => return Err(RunError::Read(error)),
+            Err(_) => return Err(RunError::Read),
         };
         if count == 0 {
             match finish(alloc, &mut vectors, &line, &mut gathered, writer) {
                 Ok(()) => return Ok(()),
-                Err(error) => return Err(RunError::Write(error)),
+                Err(_) => return Err(RunError::Write),
             }
         }
         match answer_chunk(
@@ -109,7 +107,7 @@ pub fn run<R: Read, W: Write>(
             &chunk[..count],
         ) {
             Ok(()) => {}
-            Err(error) => return Err(RunError::Write(error)),
+            Err(_) => return Err(RunError::Write),
         }
     }
     Err(RunError::TooLong)
@@ -204,7 +202,7 @@ fn answer_line<W: Write, B: Slots<Item = i32>>(
         → Answered (state_of B.Slots vectors.old) rest text (state_of B.Slots vectors.new)) }
 {
     let Some(text) = line.as_slice() else {
-        gathered.put(writer, b"bad: a line has at most 128 bytes\n");
+        gathered.put(writer, b"bad\n");
         return;
     };
     match parse_line(alloc, text) {
@@ -216,7 +214,7 @@ fn answer_line<W: Write, B: Slots<Item = i32>>(
             let answered = vectors.answer_text(call);
             vectors.write_text_line(gathered, writer, &answered);
         }
-        Command::Bad => write_reason(gathered, writer, text),
+        Command::Bad => gathered.put(writer, b"bad\n"),
         Command::Memory(name) => vectors.write_line(gathered, writer, &Answer::Memory, name),
     }
 }

@@ -1,6 +1,7 @@
 //! One call of a vector whose slots are all there from the start, answered.
-ghost use Rattle.tinyvec_array.specs.ArrayVec.{view_of, SameLender};
-ghost use Rattle.tinyvec_script.specs.Step.{SlotsStep, SliceStep};
+ghost use Rattle.std.specs.Prelude.{length};
+ghost use Rattle.tinyvec_array.specs.ArrayVec.{view_of, slots_of, SameLender};
+ghost use Rattle.tinyvec_script.specs.Step.{ArrayStep, SliceStep};
 
 use crate::driving::answer_driven;
 use crate::{Answer, Call, drive_splice};
@@ -14,7 +15,8 @@ pub(crate) fn answer_array<S: Slots>(
 ) -> Answer<S::Item>
 where
     S::Item: Default,
-    ensures step { SlotsStep S.Item.is_default (view_of S.Slots vec.old) call result (view_of S.Slots vec.new) }
+    ensures step { ArrayStep S.Item.is_default (length (slots_of S.Slots vec.old)) (view_of S.Slots vec.old) call result
+        (view_of S.Slots vec.new) }
     ensures lender { SameLender S.Slots vec.old vec.new }
 {
     match call {

@@ -3,11 +3,11 @@ use Rattle.std.proofs.Common.{◌≡◌, ℕ, suc, ◌+◌, ◌-◌, min, List, 
 use Rattle.std.proofs.lemmas.List.{drop_at, length_push}
 use Rattle.std.specs.Option.{option_to_list}
 use Rattle.std.specs.Iterator.{YieldsFirst, YieldsLast}
-use Rattle.tinyvec_slots.specs.Ends.{End, front, back, TakesFromEnds, RunsWord}
+use Rattle.tinyvec_slots.specs.Ends.{End, front, back, fronts, backs, TakesFromEnds, RunsWord}
 use Rattle.tinyvec_slots.proofs.EndsLemmas.{RunsWord-takes}
 use Rattle.tinyvec_slots.specs.Fused.{HasTwoEnds}
 use Rattle.tinyvec_slots.specs.AnySplice.{SpliceView, Splices, SplicesBack}
-use Rattle.tinyvec_slots.specs.SplicedByWord.{fronts, backs, placed_front, placed_back, IsSpliceRefused, SplicedByWord}
+use Rattle.tinyvec_slots.specs.SplicedByWord.{placed_front, placed_back, IsSpliceRefused, SplicedByWord}
 
 -- the letters that place an item, where n are to be taken and m to be placed
 abbrev placing : List End → ℕ → ℕ → List End

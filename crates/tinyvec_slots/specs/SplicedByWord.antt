@@ -1,19 +1,7 @@
 -- What a splice makes of a list, by the word of ends that items were taken from before `finish`.
-use Rattle.std.specs.Prelude.{◌≡◌, ℕ, ◌+◌, ◌-◌, ◌<◌, ◌≤◌, min, List, [], ◌∷◌, ◌++◌, length, take, drop, slice_range}
-use Rattle.tinyvec_slots.specs.Ends.{End, front, back}
+use Rattle.std.specs.Prelude.{◌≡◌, ℕ, ◌+◌, ◌-◌, ◌<◌, ◌≤◌, min, List, ◌++◌, length, take, drop, slice_range}
+use Rattle.tinyvec_slots.specs.Ends.{End, fronts, backs}
 use Rattle.tinyvec_slots.specs.AnySplice.{SpliceView}
-
--- how many letters of a word are `front`
-abbrev pub fronts : List End → ℕ
-fronts [] = 0
-fronts (front ∷ word) = fronts word + 1
-fronts (back ∷ word) = fronts word
-
--- how many letters of a word are `back`
-abbrev pub backs : List End → ℕ
-backs [] = 0
-backs (front ∷ word) = backs word
-backs (back ∷ word) = backs word + 1
 
 -- If a range of n items is replaced by m items, how many of them a word places from the front: a letter places an item as
 -- long as there is one to take and one to place.

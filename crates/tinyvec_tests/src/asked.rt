@@ -1,15 +1,11 @@
-//! A hint that is read, an iterator that is asked after it ended, a bound of a range that is read twice, and a writer that is
-//! asked after it failed would pass the check.
-ghost use Rattle.std.specs.Prelude.{◌≡◌, ⊤};
+//! A hint that is read, an iterator that is asked after it ended, and a writer that is asked after it failed would pass the check.
 ghost use Rattle.std.specs.Iterator.{at_most};
-ghost use Rattle.std.specs.declared.ops.Bound.TheVariants.{Included, Excluded};
 
-use crate::steps::{all_right, all_steps, counted, first, granted};
+use crate::steps::{all_right, first, granted};
 use std::alloc::Global;
 use std::cell::Cell;
 use std::fmt;
 use std::fmt::{Display, Write};
-use std::ops::{Bound, RangeBounds};
 use std::test::Fail;
 use tinyvec::{ArrayVec, SliceVec, TinyVec};
 use tinyvec_text::InlineText;
@@ -143,101 +139,6 @@ fn extends_text(text: &mut InlineText<8>, asked: &Cell<usize>) -> Option<bool> {
         return None;
     }
     Some(text.as_str() == "éééyyyaaa")
-}
-
-/// A closure of a text that is called once more would pass the check too: no clause counts calls.
-#[test]
-fn closure_of_a_text(rt: HostRuntime) -> Result<(), Fail> {
-    let count = Cell::new(0);
-    let mut text = InlineText::<4>::new(rt.alloc());
-    let is_pushed = text.push_str("héy").is_ok();
-    text.retain(|_| counted(&count) == 2);
-    all_steps(&[is_pushed, count.get() == 3, text.as_str() == "é"])
-}
-
-// How often each bound of a range was asked for.
-#[derive(Default, Drop)]
-struct Bounds {
-    start: Cell<usize>,
-    end: Cell<usize>,
-}
-
-impl Bounds {
-    // Whether each was asked for once. It counts anew then.
-    fn are_asked_once(&self) -> bool {
-        let asked = (self.start.get(), self.end.get());
-        self.start.set(0);
-        self.end.set(0);
-        asked == (1, 1)
-    }
-}
-
-// The range `1..2`.
-#[derive(Drop)]
-struct Second<'a> {
-    start: usize,
-    end: usize,
-    bounds: &'a Bounds,
-}
-
-impl<'a> Second<'a> {
-    fn of(bounds: &'a Bounds) -> Self
-        ensures start { result.start ≡ 1 }
-        ensures end { result.end ≡ 2 }
-    {
-        Second {
-            start: 1,
-            end: 2,
-            bounds,
-        }
-    }
-}
-
-impl<'a> RangeBounds<usize> for Second<'a> {
-    ghost has_bounds = { λ _. ⊤ };
-
-    ghost start_bound = { λ s. Included s.start };
-
-    ghost end_bound = { λ s. Excluded s.end };
-
-    fn start_bound(&self) -> Bound<&usize> {
-        count(&self.bounds.start);
-        Bound::Included(&self.start)
-    }
-
-    fn end_bound(&self) -> Bound<&usize> {
-        count(&self.bounds.end);
-        Bound::Excluded(&self.end)
-    }
-}
-
-#[test]
-fn bounds_of_an_array(rt: HostRuntime) -> Result<(), Fail> {
-    let asked = Bounds::default();
-    let mut v = ArrayVec::from_array([1, 2, 3]);
-    let drains = (v.drain(Second::of(&asked)).next() == Some(2)) & asked.are_asked_once();
-    let mut v = ArrayVec::from_array([1, 2, 3]);
-    let replaces = v.replace_range(Second::of(&asked), &[8]).is_ok() & asked.are_asked_once();
-    all_steps(&[drains, replaces])
-}
-
-#[test]
-fn bounds_of_lent_slots(rt: HostRuntime) -> Result<(), Fail> {
-    let asked = Bounds::default();
-    let mut slots = [1, 2, 3];
-    let mut lent = SliceVec::from_slice(&mut slots);
-    lent.drain_each(Second::of(&asked), &mut |_| {});
-    all_steps(&[asked.are_asked_once()])
-}
-
-#[test]
-fn bounds_of_a_tiny_vec(rt: HostRuntime) -> Result<(), Fail> {
-    let asked = Bounds::default();
-    let mut v = TinyVec::from_array(rt.alloc(), [1, 2, 3]);
-    let drains = (v.drain(Second::of(&asked)).next() == Some(2)) & asked.are_asked_once();
-    let mut v = TinyVec::from_array(rt.alloc(), [1, 2, 3]);
-    let replaces = v.replace_range(Second::of(&asked), &[8]).is_ok() & asked.are_asked_once();
-    all_steps(&[drains, replaces])
 }
 
 // An item whose text is one piece.

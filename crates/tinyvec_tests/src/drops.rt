@@ -1,5 +1,5 @@
-//! A call that drops an item twice, never, or in another order than a `Vec`'s would pass the check: the logic has no drops.
-use crate::steps::{all_steps, granted_steps};
+//! A call that drops an item twice, never, or in another order than the list's would pass the check: the logic has no drops.
+use crate::steps::all_steps;
 use std::alloc::Global;
 use std::cell::Cell;
 use std::test::Fail;
@@ -62,49 +62,25 @@ fn by_an_array(rt: HostRuntime) -> Result<(), Fail> {
     )])
 }
 
-fn inline(alloc: Global, order: &Cell<u32>) -> TinyVec<Eight<'_>> {
-    TinyVec::from_array(alloc, eight(order))
-}
-
-#[test]
-fn by_a_list_inline(rt: HostRuntime) -> Result<(), Fail> {
-    let (order, alloc) = (Cell::new(0), rt.alloc());
-    all_steps(&[drop_in_order!(
-        order,
-        inline(alloc, &order),
-        inline(alloc, &order),
-        inline(alloc, &order)
-    )])
-}
-
-fn heap(alloc: Global, order: &Cell<u32>) -> TinyVec<Eight<'_>> {
-    let mut v = inline(alloc, order);
-    let _granted = v.move_to_the_heap().is_ok();
+fn tiny(alloc: Global, order: &Cell<u32>, inline: bool) -> TinyVec<Eight<'_>> {
+    let mut v = TinyVec::from_array(alloc, eight(order));
+    let _granted = inline || v.move_to_the_heap().is_ok();
     v
 }
 
 #[test]
-fn by_a_list_on_the_heap(rt: HostRuntime) -> Result<(), Fail> {
+fn by_a_tiny_vec(rt: HostRuntime) -> Result<(), Fail> {
     let (order, alloc) = (Cell::new(0), rt.alloc());
-    all_steps(&[drop_in_order!(
-        order,
-        heap(alloc, &order),
-        heap(alloc, &order),
-        heap(alloc, &order)
-    )])
-}
-
-#[test]
-fn by_a_vec(rt: HostRuntime) -> Result<(), Fail> {
-    let order = Cell::new(0);
-    let (Ok(cut), Ok(taken), Ok(ended)) = (
-        Vec::from_array(rt.alloc(), eight(&order)),
-        Vec::from_array(rt.alloc(), eight(&order)),
-        Vec::from_array(rt.alloc(), eight(&order)),
-    ) else {
-        return granted_steps(true, &[]);
-    };
-    all_steps(&[drop_in_order!(order, cut, taken, ended)])
+    let mut is_right = true;
+    for inline in [true, false] {
+        is_right &= drop_in_order!(
+            order,
+            tiny(alloc, &order, inline),
+            tiny(alloc, &order, inline),
+            tiny(alloc, &order, inline)
+        );
+    }
+    all_steps(&[is_right])
 }
 
 #[test]

@@ -1,24 +1,17 @@
-//! The tests of what neither a contract nor a row of `tests/cases` can say.
+//! The tests of what neither a contract nor a row of `tests/cases` can say: drops and their order, sizes, what crosses threads,
+//! the stack, endless iterators, hints that lie, forgotten drains, blocks that are lost, and what the owner of lent slots sees.
 #![tactic(auto)]
 
 #[cfg(test)]
-mod aliases;
-#[cfg(test)]
 mod asked;
-#[cfg(test)]
-mod clones;
 #[cfg(test)]
 mod drops;
 #[cfg(test)]
 mod endless;
 #[cfg(test)]
-mod errors;
-#[cfg(test)]
 mod fields;
 #[cfg(test)]
 mod forgotten;
-#[cfg(test)]
-mod greatest;
 #[cfg(test)]
 mod lent;
 #[cfg(test)]
@@ -31,8 +24,6 @@ mod macros;
 mod many;
 #[cfg(test)]
 mod no_memory;
-#[cfg(test)]
-mod ordered;
 #[cfg(test)]
 mod pages;
 #[cfg(test)]

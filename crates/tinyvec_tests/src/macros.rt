@@ -14,14 +14,12 @@ fn of_an_array(rt: HostRuntime) -> Result<(), Fail> {
     let none: ArrayVec<[i32; 2]> = array_vec!();
     all_steps(&[
         holds(&array_vec!([i32; 4] => 1, 2), &[1, 2], &[0, 0]),
-        holds(&array_vec!([i32; 2] => 1, 2,), &[1, 2], &[]),
         holds(&array_vec!([i32; 2] =>), &[], &[0, 0]),
         holds(&array_vec!([i32; 2]), &[], &[0, 0]),
         holds(&inferred, &[1, 2], &[0, 0]),
         holds(&comma, &[1, 2], &[0]),
         holds(&none, &[], &[0, 0]),
         holds(&array_vec!(5; 3), &[5, 5, 5], &[]),
-        holds(&array_vec!(5u8; 0), &[], &[]),
     ])
 }
 
@@ -51,10 +49,14 @@ where
     }
 }
 
+type OfTwo = Result<TinyVec<[i32; 2]>, AllocError>;
+
 #[test]
-fn of_a_tiny_vec_whose_array_is_named(rt: HostRuntime) -> Result<(), Fail> {
+fn of_a_tiny_vec(rt: HostRuntime) -> Result<(), Fail> {
     let alloc = rt.alloc();
     let three = tiny_vec!(alloc; [i32; 2] => 1, 2, 3);
+    let two: OfTwo = tiny_vec!(alloc; 1, 2,);
+    let empty: OfTwo = tiny_vec!(alloc;);
     granted_steps(
         three.is_err(),
         &[
@@ -63,27 +65,27 @@ fn of_a_tiny_vec_whose_array_is_named(rt: HostRuntime) -> Result<(), Fail> {
             makes_on_the_heap(three, &[1, 2, 3]),
             makes(tiny_vec!(alloc; [i32; 2] =>), &[], &[0, 0]),
             makes(tiny_vec!(alloc; [i32; 2]), &[], &[0, 0]),
-        ],
-    )
-}
-
-type OfTwo = Result<TinyVec<[i32; 2]>, AllocError>;
-
-#[test]
-fn of_a_tiny_vec_whose_array_is_inferred(rt: HostRuntime) -> Result<(), Fail> {
-    let alloc = rt.alloc();
-    let two: OfTwo = tiny_vec!(alloc; 1, 2);
-    let three: OfTwo = tiny_vec!(alloc; 1, 2, 3,);
-    let empty: OfTwo = tiny_vec!(alloc;);
-    granted_steps(
-        three.is_err(),
-        &[
             makes(two, &[1, 2], &[]),
-            makes_on_the_heap(three, &[1, 2, 3]),
             makes(empty, &[], &[0, 0]),
             makes(tiny_vec!(alloc; 5; 3), &[5, 5, 5], &[]),
         ],
     )
+}
+
+// An item that is not `Copy`.
+#[derive(Default, Drop, PartialEq)]
+struct Own(u8);
+
+#[test]
+fn of_an_item_that_is_moved(rt: HostRuntime) -> Result<(), Fail> {
+    let (x, y) = (Own(7), Own(8));
+    let array = array_vec!([Own; 10] => x);
+    let tiny = tiny_vec!(rt.alloc(); [Own; 10] => y);
+    let is_moved = match tiny {
+        Ok(v) => lies(&v, &[Own(8)], true),
+        Err(_) => false,
+    };
+    all_steps(&[array.as_slice() == [Own(7)].as_slice(), is_moved])
 }
 
 /// An item that is evaluated twice, or out of turn, would pass the check.

@@ -1,10 +1,9 @@
 //! A call whose stack or time grows with its slots, and an index that the compiler cuts short, would pass the check: it bounds
 //! neither. Calls that go through all slots go through 65536.
-use crate::steps::{all_right, all_steps, granted, granted_steps};
+use crate::steps::{all_steps, granted_steps};
 use std::iter;
 use std::test::Fail;
-use tinyvec::{ArrayVec, SliceVec, TinyVec};
-use tinyvec_text::InlineText;
+use tinyvec::{ArrayVec, TinyVec};
 
 const SLOTS: usize = 65536;
 
@@ -67,16 +66,6 @@ fn an_array_is_filtered_and_drained(rt: HostRuntime) -> Result<(), Fail> {
     all_steps(&[is_halved, is_put & is_there, is_drained & is_vacated])
 }
 
-#[test]
-fn lent_slots_are_filled_and_drained(rt: HostRuntime) -> Result<(), Fail> {
-    let mut slots = [0; SLOTS];
-    let mut v = SliceVec::from_slice_len(&mut slots, 0);
-    let is_full = v.extend(iter::repeat(7)).is_err() & are(v.as_slice(), SLOTS, 7);
-    let last = v.drain(1..).last();
-    let is_one = are(v.as_slice(), 1, 7) & are(v.grab_spare_slice(), SLOTS - 1, 0);
-    all_steps(&[is_full, (last == Some(7)) & is_one])
-}
-
 type Tiny = TinyVec<[u8; SLOTS]>;
 
 // Whether the list is there, and has as many items, all of them this one.
@@ -99,45 +88,28 @@ fn a_tiny_vec_is_filled(rt: HostRuntime) -> Result<(), Fail> {
     )
 }
 
-// Clones, of a slice and of a list on the heap, and what is split off.
+// Room for as many items as there are slots.
 #[test]
-fn a_tiny_vec_is_copied(rt: HostRuntime) -> Result<(), Fail> {
-    let copied = match Tiny::from_slice(rt.alloc(), &[7; SLOTS]) {
-        Ok(mut v) => copied(&mut v),
-        Err(_) => None,
+fn a_tiny_vec_has_room(rt: HostRuntime) -> Result<(), Fail> {
+    let is_inline = match Tiny::with_capacity(rt.alloc(), SLOTS) {
+        Ok(v) => v.is_inline() & (v.capacity() == SLOTS),
+        Err(_) => false,
     };
-    all_right(granted(0, 1, copied))
+    all_steps(&[is_inline])
 }
 
-fn copied(v: &mut Tiny) -> Option<bool> {
-    let is_inline = is(v, SLOTS, 7, true);
-    if v.move_to_the_heap().is_err() {
-        return None;
-    }
-    let is_cloned = match v.clone() {
-        Ok(copy) => copy == *v,
-        Err(_) => return None,
-    };
-    match v.split_off(0) {
-        Ok(cut) => Some(is_inline & is_cloned & is(&cut, SLOTS, 7, false) & v.is_empty()),
-        Err(_) => None,
-    }
-}
-
+/// A splice that touches the slots after its range once for each item of it would pass the check where no caller counts.
 #[test]
-fn a_text(rt: HostRuntime) -> Result<(), Fail> {
-    let mut t = InlineText::<SLOTS>::new(rt.alloc());
-    let mut is_granted = true;
-    for _ in 0..SLOTS {
-        is_granted &= t.push('a').is_ok();
-    }
-    let is_inline = t.is_inline();
-    is_granted &= t.push_str("b").is_ok();
-    granted_steps(
-        !is_granted,
-        &[
-            is_inline & !t.is_inline(),
-            (t.pop() == Some('b')) & are(t.as_bytes(), SLOTS, b'a'),
-        ],
-    )
+fn a_half_is_cut(rt: HostRuntime) -> Result<(), Fail> {
+    let mut v = ArrayVec::<[u16; 1000]>::new();
+    let is_filled = v.extend(0..1000).is_ok();
+    let (_none_refused, touches) = v.splice(..v.len().min(500), None).finish_counted();
+    let are_left = v.iter().copied().eq(500..1000);
+    let are_zeros = v.grab_spare_slice().iter().all(|x| *x == 0);
+    all_steps(&[
+        is_filled,
+        touches <= 1500,
+        are_left,
+        are_zeros & (v.len() == 500),
+    ])
 }

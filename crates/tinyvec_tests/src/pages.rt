@@ -1,8 +1,8 @@
 //! A move of a large item that the compiler builds wrong, or that needs too much of the stack, would pass the check: these are
 //! larger than a page of memory.
-use crate::steps::{all_right, first, granted_steps};
+use crate::steps::{all_right, first};
 use std::test::Fail;
-use tinyvec::{ArrayVec, TinyVec};
+use tinyvec::ArrayVec;
 
 // 8192 bytes.
 type Page = [u64; 1024];
@@ -35,28 +35,4 @@ fn in_an_array(rt: HostRuntime) -> Result<(), Fail> {
     wrong = first(wrong, 7, hold(v.as_slice(), &[5]));
     wrong = first(wrong, 8, hold(v.grab_spare_slice(), &[0, 0, 0]));
     all_right(wrong)
-}
-
-#[test]
-fn in_a_tiny_vec(rt: HostRuntime) -> Result<(), Fail> {
-    let mut v = TinyVec::from_array(rt.alloc(), [page(1), page(2)]);
-    let is_refused = v.push(page(3)).is_err();
-    let copy = v.clone();
-    let is_popped = v.pop() == Some(page(3));
-    v.shrink_to_fit();
-    granted_steps(
-        is_refused | copy.is_err(),
-        &[
-            is_popped,
-            is_copied(copy),
-            v.is_inline() & hold(v.as_slice(), &[1, 2]),
-        ],
-    )
-}
-
-fn is_copied<E: Drop>(copy: Result<TinyVec<[Page; 2]>, E>) -> bool {
-    match copy {
-        Ok(heap) => heap.is_heap() & hold(heap.as_slice(), &[1, 2, 3]),
-        Err(_) => false,
-    }
 }

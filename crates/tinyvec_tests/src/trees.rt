@@ -133,8 +133,6 @@ impl Maker {
     }
 }
 
-const DEPTHS: [u8; 4] = [0, 1, 2, 3];
-
 #[test]
 fn lists_that_are_cut(rt: HostRuntime) -> Result<(), Fail> {
     let mut maker = Maker::new(rt.alloc());
@@ -164,42 +162,6 @@ fn lists_that_lose_an_item(rt: HostRuntime) -> Result<(), Fail> {
     maker.all_steps(&[is_drained, is_left, is_emptied, left.next_back().is_some()])
 }
 
-#[test]
-fn a_list_that_is_written_over(rt: HostRuntime) -> Result<(), Fail> {
-    let mut maker = Maker::new(rt.alloc());
-    let mut node = maker.nested(3, 2);
-    let mut is_written = false;
-    if let Node::List(items) = &mut node {
-        for item in items.iter_mut() {
-            *item = maker.nested(1, 1);
-        }
-        **items = maker.three(0);
-        is_written = items.len() == 3;
-    }
-    maker.all_steps(&[is_written])
-}
-
-#[test]
-fn squares_that_are_cut(rt: HostRuntime) -> Result<(), Fail> {
-    let mut maker = Maker::new(rt.alloc());
-    let mut parts = maker.four(DEPTHS);
-    let is_popped = matches!(parts.pop(), Some(Some(_)));
-    parts.truncate(1);
-    maker.all_steps(&[is_popped, parts.len() == 1])
-}
-
-#[test]
-fn squares_that_are_drained(rt: HostRuntime) -> Result<(), Fail> {
-    let mut maker = Maker::new(rt.alloc());
-    let mut parts = maker.four(DEPTHS);
-    let is_drained = parts.drain(..).next_back().is_some();
-    let is_left = parts.is_empty();
-    let mut left = maker.four(DEPTHS).into_iter();
-    let parts = maker.four(DEPTHS);
-    let square = maker.boxed(parts);
-    maker.all_steps(&[is_drained, is_left, left.next().is_some(), square.is_some()])
-}
-
 // A drain that loses what precedes its range or follows it, or drops twice what was taken, would pass the check.
 #[test]
 fn lists_that_lose_their_middle(rt: HostRuntime) -> Result<(), Fail> {
@@ -211,40 +173,6 @@ fn lists_that_lose_their_middle(rt: HostRuntime) -> Result<(), Fail> {
         is_taken,
         !heap.is_inline(),
         is_debugged(&heap, "[List([Number(7)]), List([Number(7), Number(0)])]"),
-    ])
-}
-
-#[test]
-fn an_inline_list_that_loses_its_middle(rt: HostRuntime) -> Result<(), Fail> {
-    let mut maker = Maker::new(rt.alloc());
-    let nodes = [
-        maker.nested(2, 0),
-        maker.nested(1, 2),
-        maker.nested(3, 1),
-        Node::Number(5),
-    ];
-    let mut items = TinyVec::from_array(rt.alloc(), nodes);
-    let is_taken = items.len() == 4 && matches!(items.drain(1..3).next_back(), Some(Node::List(_)));
-    maker.all_steps(&[
-        is_taken,
-        items.is_inline(),
-        is_debugged(&items, "[List([List([Number(7)])]), Number(5)]"),
-    ])
-}
-
-// So would a drain that leaves an item in its range alive.
-#[test]
-fn lists_that_lose_their_first(rt: HostRuntime) -> Result<(), Fail> {
-    let mut maker = Maker::new(rt.alloc());
-    let mut items: Nodes = TinyVec::from_array(
-        rt.alloc(),
-        [maker.nested(2, 1), maker.nested(1, 0)],
-    );
-    let is_counted = items.len() == 2 && items.drain(..1).len() == 1;
-    maker.all_steps(&[
-        is_counted,
-        items.is_inline(),
-        is_debugged(&items, "[List([Number(7)])]"),
     ])
 }
 

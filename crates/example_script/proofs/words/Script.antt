@@ -2,10 +2,10 @@
 use Rattle.std.proofs.Common.{◌≡◌, ℕ, true, false, List, [], ◌∷◌, ◌++◌, length, refl, rules, arith}
 use Rattle.tinyvec_slots.specs.Slots.{Slots, items_in, split_at, SlotRule}
 use Rattle.tinyvec.specs.View.{TinyView, in_array}
-use Rattle.tinyvec_script.specs.declared.call.Call.TheVariants.{Push, Pop}
+use Rattle.tinyvec_script.specs.declared.call.Call.TheVariants.{Push, Pop, Splice}
 use Rattle.tinyvec_script.specs.declared.call.Answer.TheVariants as answers
 use Rattle.tinyvec_script.specs.declared.call.End.TheVariants.{Front}
-use Rattle.tinyvec_script.specs.Step.{ArrayStep, SlotsStep, Run}
+use Rattle.tinyvec_script.specs.Step.{ArrayStep, SliceStep, Run}
 use Rattle.tinyvec_script.specs.TinyCalls.{TinyStep}
 use Rattle.tinyvec_script.specs.Driving.{DrivenSplices, SpliceComputes}
 use Rattle.tinyvec_script.specs.Failed.{is_read, is_write}
@@ -27,8 +27,8 @@ inline xs ys = record { items = xs; spare = ys; place = in_array 4 }
 pub example-ArrayStep : ArrayStep D 4 (over (1 ∷ []) (0 ∷ 0 ∷ 0 ∷ [])) (Push 2) answers.Done (over (1 ∷ 2 ∷ []) (0 ∷ 0 ∷ []))
 example-ArrayStep = search rules
 
-pub example-SlotsStep : SlotsStep D (over [] (0 ∷ 0 ∷ [])) Pop answers.None (over [] (0 ∷ 0 ∷ []))
-example-SlotsStep = search rules
+pub example-SliceStep : (word : _) (numbers : _) → SliceStep D (over [] (0 ∷ 0 ∷ [])) (Splice 0 0 word numbers) answers.Unfit (over [] (0 ∷ 0 ∷ []))
+example-SliceStep word numbers = refl
 
 pub example-TinyStep : TinyStep D 4 (inline [] (0 ∷ 0 ∷ 0 ∷ 0 ∷ [])) Pop answers.None (inline [] (0 ∷ 0 ∷ 0 ∷ 0 ∷ []))
 example-TinyStep = search rules
@@ -51,6 +51,5 @@ example-CompleteLines = search rules
 pub example-is_read : is_read TooLong ≡ false
 example-is_read = refl
 
--- a write that failed by this error
-pub example-is_write : (error : _) → is_write (Write error) ≡ true
-example-is_write error = refl
+pub example-is_write : is_write Write ≡ true
+example-is_write = refl

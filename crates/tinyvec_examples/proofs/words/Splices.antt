@@ -25,7 +25,7 @@ pub example-SpliceBegins : SpliceBegins (1 ∷ []) (2 ∷ 3 ∷ []) (4 ∷ []) (
 example-SpliceBegins = search rules
 
 -- one item is placed and one slot closed, over which the last item moves
-pub example-FinishTouches : FinishTouches (s (7 ∷ [])) 4 0 (1 ∷ 7 ∷ 4 ∷ []) 4
+pub example-FinishTouches : FinishTouches (s (7 ∷ [])) 4 (1 ∷ 7 ∷ 4 ∷ []) 4
 example-FinishTouches = search rules
 
 pub example-Finishes : Finishes GivesFirst 8 (s (7 ∷ [])) done (1 ∷ 7 ∷ 4 ∷ [])

@@ -1,6 +1,6 @@
 //! Callers of a drain. One that is generic over what is lent knows what is left, and so does who calls it with a slice.
 //! One that names `SliceVec` knows it by `drain_each` and `drain_into`.
-ghost use Rattle.std.specs.Prelude.{◌≡◌, ◌≤◌, ◌-◌, ◌+◌, ◌++◌, ◌∷◌, pos, length, take, drop, slice_get, vec_len, vec_capacity};
+ghost use Rattle.std.specs.Prelude.{◌≡◌, ◌≤◌, ◌-◌, ◌+◌, ◌++◌, ◌∷◌, pos, length, drop, slice_get};
 ghost use Rattle.std.specs.List.{remove_range};
 ghost use Rattle.tinyvec_array.specs.Slots.{Vacates, SlotRule};
 ghost use Rattle.tinyvec_array.specs.Ranges.{IsRangeOf, before, after};
@@ -46,15 +46,4 @@ pub fn drop_two(v: &mut SliceVec<'_, i32>)
     ensures spare { slice_spare v.new ≡ pos 0 ∷ pos 0 ∷ slice_spare v.old }
 {
     v.drain_each(1..3, &mut |_x| {});
-}
-
-/// A caller by name: the items from the second on move after those of `out`.
-pub fn move_tail(v: &mut SliceVec<'_, i32>, out: &mut Vec<i32>)
-    requires list { 1 ≤ length (slice_items v.old) }
-    requires room { vec_len out.old + length (slice_items v.old) ≤ vec_capacity out.old }
-    ensures same_reference { slice_name v.new ≡ slice_name v.old }
-    ensures items { slice_items v.new ≡ take 1 (slice_items v.old) }
-    ensures moved { out.new.items ≡ out.old.items ++ drop 1 (slice_items v.old) }
-{
-    v.drain_into(1.., out);
 }

@@ -40,12 +40,3 @@ pub fn edited() -> [i32; 5]
     }
     array
 }
-
-/// If only the border moves, the owner sees no change.
-pub fn border_moved(slots: &mut [u8], n: usize)
-    requires { n ≤ length slots.old }
-    ensures { slots.new ≡ slots.old }
-{
-    let mut v = SliceVec::from_slice_len(slots, 0);
-    v.set_len(n);
-}

@@ -1,25 +1,7 @@
 //! Writes through what the vector lends. The owner sees each of them.
-ghost use Rattle.std.specs.Prelude.{◌≡◌, ◌≤◌, ◌++◌, length, take, drop, insert, slice_set};
+ghost use Rattle.std.specs.Prelude.{◌≡◌, ◌≤◌, length, slice_set};
 
 use tinyvec_array::SliceVec;
-
-/// The item that was pushed.
-pub fn pushed_written(xs: &mut [u8])
-    requires { 3 ≤ length xs.old }
-    ensures { xs.new ≡ slice_set xs.old 2 8 }
-{
-    let mut v = SliceVec::from_slice_len(xs, 2);
-    *v.push_mut(7) = 8;
-}
-
-/// The item that was inserted.
-pub fn inserted_written(xs: &mut [u8])
-    requires { 3 ≤ length xs.old }
-    ensures { xs.new ≡ insert (take 2 xs.old) 1 8 ++ drop 3 xs.old }
-{
-    let mut v = SliceVec::from_slice_len(xs, 2);
-    *v.insert_mut(1, 7) = 8;
-}
 
 /// The owner, after an item, a spare slot and any slot were written.
 pub fn three_written(xs: &mut [u8])

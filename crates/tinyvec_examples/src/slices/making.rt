@@ -1,24 +1,7 @@
 //! Vectors made over a slice.
-ghost use Rattle.std.specs.Prelude.{◌≡◌, ◌<◌, ◌≤◌, ◌∷◌, [], length, pos, slice_set, true};
+ghost use Rattle.std.specs.Prelude.{◌≡◌, ◌<◌, ◌≤◌, length, slice_set};
 
 use tinyvec_array::SliceVec;
-
-/// If there are fewer slots, no vector is made.
-pub fn refused(slots: &mut [i32]) -> bool
-    ensures { result ≡ true → length slots.old < 3 }
-{
-    SliceVec::try_from_slice_len(slots, 3).is_none()
-}
-
-/// The owner of an array sees what a vector over all of it did.
-pub fn array_written() -> [i32; 3]
-    ensures { result ≡ pos 1 ∷ pos 5 ∷ pos 3 ∷ [] }
-{
-    let mut array = [1, 2, 3];
-    let mut v = SliceVec::from_slice(&mut array);
-    v[1] = 5;
-    array
-}
 
 /// If there are fewer slots, the owner knows that none was written.
 pub fn written_if_there(slots: &mut [u8])

@@ -1,24 +1,10 @@
 //! Text written into a vector of bytes, and what the owner of the bytes sees.
-ghost use Rattle.std.specs.Prelude.{◌≡◌, ◌≤◌, ◌↔◌, ◌++◌, length, drop, codes, OnOk, IsTrue};
+ghost use Rattle.std.specs.Prelude.{◌≡◌, ◌≤◌, ◌↔◌, ◌++◌, length, drop, IsTrue};
 ghost use Rattle.std.specs.Bool.{OnTrue, OnFalse};
-ghost use Rattle.std.specs.Fmt.{decimal};
 ghost use Rattle.tinyvec_array.specs.ArrayVec.{items_of, spare_of, name_of};
 
-use std::fmt;
 use std::fmt::Write;
 use tinyvec_array::{ArrayVec, TakesClones};
-
-/// Two numbers and text between them, after the list of any vector of bytes. If not all of it fits, the caller of
-/// `write!` knows nothing of the vector.
-pub fn write_pair<B: TakesClones<Item = u8>>(v: &mut ArrayVec<B>, x: u32, y: u32) -> fmt::Result
-    ensures same_reference { OnOk result (name_of B.Slots v.new ≡ name_of B.Slots v.old) }
-    ensures items { OnOk result
-        (items_of B.Slots v.new ≡ items_of B.Slots v.old ++ (decimal x ++ (codes ", " ++ decimal y))) }
-    ensures spare { OnOk result (spare_of B.Slots v.new
-        ≡ drop (length (decimal x ++ (codes ", " ++ decimal y))) (spare_of B.Slots v.old)) }
-{
-    write!(v, "{x}, {y}")
-}
 
 /// Any text after the list of any vector of bytes. It is written as a whole or not at all.
 pub fn write_text<B: TakesClones<Item = u8>>(v: &mut ArrayVec<B>, s: &str) -> bool

@@ -1,4 +1,4 @@
-use Rattle.std.proofs.Common.{◌≡◌, ◌+◌, ◌-◌, ◌≤◌, [], ◌∷◌, length, max, subst, ap, ◌∙◌, arith, rules}
+use Rattle.std.proofs.Common.{◌≡◌, ◌+◌, ◌-◌, ◌≤◌, [], ◌∷◌, length, max, subst, refl, ap, ◌∙◌, arith, rules}
 use Rattle.std.proofs.lemmas.List.{length-take-le, length-drop}
 use Rattle.std.specs.Iterator.Adapters.{fuse_steps}
 use Rattle.tinyvec_array.specs.ArrayVec.{items_of, len_of}
@@ -48,7 +48,7 @@ returns-clause-at_least g c =
     let same = (counts g c).kept.same_reference in
     let lender = c.splice-splice.ensures.same_reference in
     let v = c.finish_counted-finished.new.self.0 in
-    let least = touched_at_least c.splice-splice.result c.one_from_each_end-first.new.splice _ (items_of g.A.Slots v) (counts g c) c.splice-splice.ensures.begins.touches (within g c) c.finish_counted-finished.result.1 _ c.finish_counted-finished.ensures.touches in
+    let least = touched_at_least c.splice-splice.result c.one_from_each_end-first.new.splice _ (items_of g.A.Slots v) (counts g c) c.splice-splice.ensures.begins.touches (within g c) c.finish_counted-finished.result.1 _ (c.finish_counted-finished.ensures.touches refl) in
     let given = length (given_items (c.one_from_each_end-first.result.0 ∷ c.one_from_each_end-first.result.1 ∷ [])) in
     let fact : given + (len_of g.A.Slots v - (len_of g.A.Slots c.args.vec.now - (c.args.end - c.args.start))) ≤ c.finish_counted-finished.result.1 =
     subst (λ n. given + (len_of g.A.Slots v - n) ≤ c.finish_counted-finished.result.1) (around g c) least in
@@ -61,7 +61,7 @@ returns-clause-at_most g c =
     let v = c.finish_counted-finished.new.self.0 in
     let old = c.args.vec.now in
     let touches = c.finish_counted-finished.result.1 in
-    let most = touched_at_most c.splice-splice.result c.one_from_each_end-first.new.splice _ (items_of g.A.Slots v) (counts g c) c.splice-splice.ensures.begins.touches (within g c) touches _ c.finish_counted-finished.ensures.touches in
+    let most = touched_at_most c.splice-splice.result c.one_from_each_end-first.new.splice _ (items_of g.A.Slots v) (counts g c) c.splice-splice.ensures.begins.touches (within g c) touches _ (c.finish_counted-finished.ensures.touches refl) in
     let is = around g c in
     let all = inside g c in
     let slots = (counts g c).kept.kept.1.1 ∙ ap (len_of g.A.Slots) c.splice-splice.ensures.slots in

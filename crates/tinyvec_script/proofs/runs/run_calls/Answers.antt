@@ -5,7 +5,7 @@ use Rattle.tinyvec_script.proofs.runs.run_calls.Goals as goal
 
 pub loop-call-preserved : goal.loop-call-preserved
 loop-call-preserved g c = record {
-  run = rw c.push_reserved.ensures.items (Run-more g.V.AnswersCalls.step c.args.vec.now c.loop-call.vec c.answer-answered.new.self
+  run = rw c.push_reserved.ensures.items (Run-more g.K.Answers.step c.args.vec.now c.loop-call.vec c.answer-answered.new.vec
       c.loop-call.yielded c.loop-call.answers.items c.in-Some.call c.answer-answered.result c.loop-call.invariant.run c.answer-answered.ensures);
   count = c.push_reserved.ensures.len ∙ ap (λ n. n + 1) c.loop-call.invariant.count ∙ sym (length_push c.loop-call.yielded c.in-Some.call);
   room = rw c.push_reserved.ensures.capacity c.loop-call.invariant.room;

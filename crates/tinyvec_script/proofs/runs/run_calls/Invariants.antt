@@ -4,7 +4,7 @@ use Rattle.tinyvec_script.proofs.runs.run_calls.Given as goal
 
 abbrev pub invariant-loop-call : goal.invariant-loop-call
 invariant-loop-call g l = record {
-  run : Run g.V.AnswersCalls.step l.fn.vec l.yielded l.answers.items l.vec;
+  run : Run g.K.Answers.step l.fn.vec l.yielded l.answers.items l.vec;
   count : vec_len l.answers ≡ length l.yielded;
   room : length l.fn.calls.items ≤ vec_capacity l.answers;
 }

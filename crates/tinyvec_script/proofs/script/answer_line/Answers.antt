@@ -1,7 +1,5 @@
-use Rattle.std.proofs.Common.{◌≡◌, ℕ, ◌<◌, ◌≤◌, List, ◌++◌, length, true, false, nat_lt, codes, Some, refl, sym, ap, ◌∙◌, subst, arith}
-use Rattle.std.proofs.lemmas.Bool.Decides.{nat_tests}
+use Rattle.std.proofs.Common.{◌≡◌, ℕ, List, codes, Some, refl, sym, ◌∙◌, subst, arith}
 use Rattle.tinyvec_script.specs.Spelled.{Spells}
-use Rattle.tinyvec_script.specs.Reason.{reason, short_reason}
 use Rattle.tinyvec_script.specs.Script.Answered.{done, memory, text_done, bad}
 use Rattle.tinyvec_script.specs.TextCalls.{call_of}
 use Rattle.tinyvec_script.specs.declared.command.Command.{Command}
@@ -9,22 +7,12 @@ use Rattle.tinyvec_script.specs.History.{kept}
 use Rattle.tinyvec_script.proofs.HistoryLemmas.{kept_is, too_long_kept}
 use Rattle.tinyvec_script.proofs.script.answer_line.Goals as goal
 
-long_reason : (line : List ℕ) → 128 < length line → codes "a line has at most 128 bytes" ≡ reason line
-long_reason line long =
-    let is : nat_lt 128 (length line) ≡ true = grind (arith, nat_tests) in
-    rw is refl
-
-reason_of_short : (line : List ℕ) → length line ≤ 128 → short_reason line ≡ reason line
-reason_of_short line short =
-    let is : nat_lt 128 (length line) ≡ false = grind (arith, nat_tests) in
-    rw is refl
-
 pub returns-in_default : goal.returns-in_default
 returns-in_default g c = (
-  codes "bad: a line has at most 128 bytes",
+  codes "bad",
   c.put.ensures,
   λ rest k. let long = too_long_kept rest (sym c.in_default.ensures ∙ k) in
-      bad (λ name call h. omega (arith, long, h.short)) (λ call h. omega (arith, long, h.short)) (ap (λ r. codes "bad: " ++ r) (long_reason rest long)) refl,
+      bad (λ name call h. omega (arith, long, h.short)) (λ call h. omega (arith, long, h.short)) refl refl,
 )
 
 -- what the line spells that is kept
@@ -49,12 +37,9 @@ returns-in-Text g c = (
 
 pub returns-in-Bad : goal.returns-in-Bad
 returns-in-Bad g c = (
-  _,
-  c.write_reason.ensures,
-  λ rest k.
-      let is = kept_is rest c.in-Some.text.now (sym c.in-Some.ensures ∙ k) in
-      let none = spells _ _ _ c.in-Bad.is c.parse_line.ensures rest (sym c.in-Some.ensures ∙ k) in
-      bad none.0 none.1 (ap (λ r. codes "bad: " ++ r) (ap short_reason is.0 ∙ reason_of_short rest is.1)) refl,
+  codes "bad",
+  c.put-in-Bad.ensures,
+  λ rest k. let none = spells _ _ _ c.in-Bad.is c.parse_line.ensures rest (sym c.in-Some.ensures ∙ k) in bad none.0 none.1 refl refl,
 )
 
 pub returns-in-Memory : goal.returns-in-Memory

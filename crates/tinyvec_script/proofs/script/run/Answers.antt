@@ -41,13 +41,13 @@ loop-piece-init g c =
 pub returns-in-Err-clause-read : goal.returns-in-Err-clause-read
 returns-in-Err-clause-read g c =
     let s = c.loop-piece.invariant.so_far in
-    λ _ _. (s.0, s.1, Consumes-kept _ _ _ s.0 s.2 c.in-Err.ensures.err, s.3, complete_lines s.4)
+    λ _. (s.0, s.1, Consumes-kept _ _ _ s.0 s.2 c.in-Err.ensures.err, s.3, complete_lines s.4)
 
 pub returns-in-Err-clause-read_fault : goal.returns-in-Err-clause-read_fault
-returns-in-Err-clause-read_fault g c = λ _ _. reported_since _ _ _ c.loop-piece.invariant.read_grows c.in-Err.ensures.faults.fault
+returns-in-Err-clause-read_fault g c = λ _. reported_since _ _ _ c.loop-piece.invariant.read_grows c.in-Err.ensures.faults.fault
 
 pub returns-in-Err-finish-clause-write_fault : goal.returns-in-Err-finish-clause-write_fault
-returns-in-Err-finish-clause-write_fault g c = λ _ _. reported_since _ _ _ c.loop-piece.invariant.write_grows c.in-Err-finish.ensures.1.fault
+returns-in-Err-finish-clause-write_fault g c = λ _. reported_since _ _ _ c.loop-piece.invariant.write_grows c.in-Err-finish.ensures.1.fault
 
 pub returns-in-Err-finish-clause-write : goal.returns-in-Err-finish-clause-write
 returns-in-Err-finish-clause-write g c =
@@ -55,17 +55,17 @@ returns-in-Err-finish-clause-write g c =
     let f = c.in-Err-finish.ensures in
     let none : c.in-Ok.count ≡ 0 = c.if-count-eq0.true in
     let last = rw none at c.in-Ok.ensures.bytes in
-    λ _ _. (s.0, s.1 ++ f.0, rw append-nil at (Consumes-trans _ _ _ s.0 [] s.2 last), AppendsFront-then _ _ _ s.1 f.0 s.3 f.1.err, inr (whole_script s.4 f.2))
+    λ _. (s.0, s.1 ++ f.0, rw append-nil at (Consumes-trans _ _ _ s.0 [] s.2 last), AppendsFront-then _ _ _ s.1 f.0 s.3 f.1.err, inr (whole_script s.4 f.2))
 
 pub returns-in-Err-answer_chunk-clause-write : goal.returns-in-Err-answer_chunk-clause-write
 returns-in-Err-answer_chunk-clause-write g c =
     let s = c.loop-piece.invariant.so_far in
     let f = c.in-Err-answer_chunk.ensures.writes in
     let bytes : List ℕ = take c.in-Ok.count c.read_some.new.buf in
-    λ _ _. (s.0 ++ bytes, s.1 ++ f.0, Consumes-trans _ _ _ s.0 bytes s.2 c.in-Ok.ensures.bytes, AppendsFront-then _ _ _ s.1 f.0 s.3 f.1.err, inl (complete_lines (feeds_then s.4 f.2)))
+    λ _. (s.0 ++ bytes, s.1 ++ f.0, Consumes-trans _ _ _ s.0 bytes s.2 c.in-Ok.ensures.bytes, AppendsFront-then _ _ _ s.1 f.0 s.3 f.1.err, inl (complete_lines (feeds_then s.4 f.2)))
 
 pub returns-in-Err-answer_chunk-clause-write_fault : goal.returns-in-Err-answer_chunk-clause-write_fault
-returns-in-Err-answer_chunk-clause-write_fault g c = λ _ _. reported_since _ _ _ c.loop-piece.invariant.write_grows c.in-Err-answer_chunk.ensures.writes.1.fault
+returns-in-Err-answer_chunk-clause-write_fault g c = λ _. reported_since _ _ _ c.loop-piece.invariant.write_grows c.in-Err-answer_chunk.ensures.writes.1.fault
 
 pub returns-in-Ok-finish-clause-ok : goal.returns-in-Ok-finish-clause-ok
 returns-in-Ok-finish-clause-ok g c =
