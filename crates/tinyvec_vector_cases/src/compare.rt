@@ -39,16 +39,17 @@ fn hash_of<T: Hash>(x: &T) -> u64 {
     state.finish()
 }
 
-/// Writes a text by `{}`, `{:?}` or `{:#?}`, in quotes.
+/// Writes a text by `{:?}`, or in quotes by `{}` or `{:#?}`.
 pub fn say_plain<V: fmt::Display + fmt::Debug>(v: &V, form: Name, out: &mut Out) {
-    out.put("\"");
-    let mut text = Quoted(&mut *out);
-    let _ = match form {
-        Name::Debug => write!(text, "{v:?}"),
-        Name::Pretty => write!(text, "{v:#?}"),
-        _ => write!(text, "{v}"),
-    };
-    out.say_word("\"");
+    match form {
+        Name::Debug => out.say(v),
+        Name::Pretty => out.say_pretty(v),
+        _ => {
+            out.put("\"");
+            let _ = write!(Quoted(&mut *out), "{v}");
+            out.say_word("\"");
+        }
+    }
 }
 
 /// A vector that can be shown in each base.
