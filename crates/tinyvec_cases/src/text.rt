@@ -230,13 +230,12 @@ fn retain(t: &mut Text, c: char, out: &mut Out) {
 }
 
 fn edit_range(t: &mut Text, call: &Call<u8>, out: &mut Out) {
-    match (cut(t, call.range), call.name) {
-        (Some((start, end)), Name::ReplaceRange) => {
-            out.done(t.replace_range(start..end, call.text()));
-        }
-        (Some((start, end)), Name::ExtendFromWithin) => {
-            out.done(t.extend_from_within(start..end));
-        }
+    let Some((start, end)) = cut(t, call.range) else {
+        return out.fail(Wrong::Place);
+    };
+    match call.name {
+        Name::ReplaceRange => out.done(t.replace_range(start..end, call.text())),
+        Name::ExtendFromWithin => out.done(t.extend_from_within(start..end)),
         _ => out.fail(Wrong::Place),
     }
 }
