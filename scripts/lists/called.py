@@ -23,7 +23,7 @@ SHOWN = {
 
 BENCH = exports.TOP / "bench/calls.txt"
 SHARED = {
-    *("tinyvec_slots", "CanCut", "CanDrain", "CanSplice", "Gap", "OwnsItems", "ItemText", "Plain", "Array", "Slots", "TakesClones", "[T]"),
+    *("tinyvec_slots", "CanCut", "CanDrain", "CanSplice", "Gap", "Touches", "OwnsItems", "ItemText", "Plain", "Array", "Slots", "TakesClones", "[T]"),
     *("[T; N]", "InBinary", "InOctal", "InHex", "InUpperHex", "AllocError", "Error", "AllocFailed", "NoMemory"),
 }
 # By type the beginnings that the names of its rows have at 64, and at 16,384.

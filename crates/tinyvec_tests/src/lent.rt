@@ -20,13 +20,16 @@ fn of_all_slots(rt: HostRuntime) -> Result<(), Fail> {
     let is_array = slots == [21, 22, 23];
     write(SliceVec::try_from_slice_len(&mut slots, 2).unwrap_or_default());
     let is_front = slots == [31, 32, 23];
+    SliceVec::from_slice_len(&mut slots, 1).as_mut_inner()[2] = 33;
+    let is_inner = slots == [31, 32, 33];
     let is_refused = SliceVec::try_from_slice_len(&mut slots[..2], 3).is_none();
     all_steps(&[
         is_slice,
         is_array,
         is_front,
+        is_inner,
         is_refused,
-        slots == [31, 32, 23],
+        slots == [31, 32, 33],
     ])
 }
 
