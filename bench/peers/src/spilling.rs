@@ -12,14 +12,11 @@ pub fn push<V: Growing<u64, N>, const N: usize>(count: u64, x: u64) -> u64 {
     look_at(vec.as_slice(), x)
 }
 
-/// Puts a number in at `i`, where the array is full.
+/// Inserts a number in front, where the array is full.
 #[inline(never)]
-pub fn insert<V: Growing<u64, N>, const N: usize>(source: &[u64; N], i: usize, x: u64) -> u64 {
+pub fn insert_front<V: Growing<u64, N>, const N: usize>(source: &[u64; N], x: u64) -> u64 {
     let mut vec = filled::<V, N>(source);
-    if i > vec.as_slice().len() {
-        return 0;
-    }
-    vec.insert(i, x);
+    vec.insert(0, x);
     look_at(vec.as_slice(), x)
 }
 
@@ -81,15 +78,6 @@ pub fn append<V: Growing<u64, N>, const N: usize>(other: &mut V, source: &[u64; 
 pub fn resize<V: Growing<u64, N>, const N: usize>(source: &[u64; N], len: usize, x: u64) -> u64 {
     let mut vec = filled::<V, N>(source);
     vec.resize(len, x);
-    look_at(vec.as_slice(), x)
-}
-
-/// Puts `count` numbers in the place of the second quarter of a full list.
-#[inline(never)]
-pub fn splice_more<V: Growing<u64, N>, const N: usize>(source: &[u64; N], count: u64, x: u64) -> u64 {
-    let mut vec = filled::<V, N>(source);
-    let quarter = vec.as_slice().len() / 4;
-    vec.splice(quarter..2 * quarter, 0..count);
     look_at(vec.as_slice(), x)
 }
 
