@@ -39,14 +39,6 @@ fn push_all<T: Number, V: Vector<T, N>, const N: usize>(vec: &mut V, x: u64) -> 
     push_until_full(vec, x)
 }
 
-/// Pushes until the vector is full, and clears it.
-#[inline(never)]
-pub fn push_and_clear<T: Number, V: Vector<T, N>, const N: usize>(vec: &mut V, x: u64) -> u64 {
-    let next = push_until_full(vec, x);
-    vec.clear();
-    next
-}
-
 /// Clears the list, and makes it the items of `source`.
 #[inline(never)]
 pub fn refill<T: Number + Copy, V: Vector<T, N>, const N: usize>(vec: &mut V, source: &[T], x: u64) -> u64 {

@@ -94,8 +94,6 @@ fn edits_of_words<V: Vector<u64, N>, const N: usize>(report: &Report, make: fn([
     let source = scattered::<u64, N>();
     let mut vec = make(source);
     report.row("fill_and_empty", N, |x| fill_and_empty(&mut vec, x));
-    report.row("push_and_clear", N, |x| push_and_clear(&mut vec, x));
-    report.row("refill", N, |x| refill(&mut vec, &source, x));
     vec = make(source);
     moves(report, N, &mut vec);
     report.row("truncate_and_refill", N, |x| truncate_and_refill(&mut vec, x));
@@ -106,6 +104,7 @@ fn cuts_of_words<V: Vector<u64, N>, const N: usize>(report: &Report, make: fn([u
     let runs = pairs::<N>();
     let count = N as u64;
     let mut vec = make(source);
+    report.row("refill", N, |x| refill(&mut vec, &source, x));
     report.row("extend_from_slice", N, |x| extend_from_slice(&mut vec, &source, x));
     report.row("extend_from_range", N, |x| extend_from_range(&mut vec, x));
     report.row("drain_taken", N, |x| drain_taken(&mut vec, &source, x));

@@ -22,7 +22,6 @@ pub enum Edit {
     /// To a new vector at this place.
     TwoPushes(Place),
     FillAndEmpty,
-    PushAndClear,
     Refill,
     InsertFront,
     RemoveFront,
@@ -40,7 +39,6 @@ impl<V: Vector<u64, N>, const N: usize> Bench<Edit> for ListBench<'_, u64, V, N>
         match benchmark {
             Edit::TwoPushes(place) => self.vec.last_of_two_pushes(self.alloc, place, x),
             Edit::FillAndEmpty => fill_and_empty(self.vec, x),
-            Edit::PushAndClear => push_and_clear(self.vec, x),
             Edit::Refill => refill(self.vec, source, x),
             Edit::InsertFront => insert_front(self.vec, x),
             Edit::RemoveFront => remove_front(self.vec, x),
@@ -83,14 +81,6 @@ pub fn fill_and_empty<T: Item, V: Vector<T, N>, const N: usize>(vec: &mut V, x: 
 pub fn push_all<T: Item, V: Vector<T, N>, const N: usize>(vec: &mut V, x: u64) -> u64 {
     vec.empty();
     push_until_full(vec, x)
-}
-
-/// Pushes until there are `N` items, and clears the list, which does not show where it is.
-#[inline(never)]
-pub fn push_and_clear<T: Item, V: Vector<T, N>, const N: usize>(vec: &mut V, x: u64) -> u64 {
-    let next = push_until_full(vec, x);
-    vec.clear();
-    next
 }
 
 /// Clears the list, and makes it the items of `source`.

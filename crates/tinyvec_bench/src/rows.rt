@@ -89,11 +89,12 @@ fn edits<R: Report, S: Bench<Cut> + Bench<Edit> + Bench<Share>>(
     n: usize,
     list: &mut S,
 ) {
-    fills(report, n, list);
+    run(report, "fill_and_empty", n, Edit::FillAndEmpty, list);
     list.round(Edit::ExtendFromSlice, 0);
     moves(report, n, list);
     rows!(report, n, list:
         "truncate_and_refill" Edit::TruncateAndRefill,
+        "refill" Edit::Refill,
         "extend_from_slice" Edit::ExtendFromSlice,
         "extend_from_range" Cut::ExtendFromRange,
     );
@@ -102,16 +103,6 @@ fn edits<R: Report, S: Bench<Cut> + Bench<Edit> + Bench<Share>>(
     run(report, "clone", n, Edit::Clone, list);
     cuts(report, n, list);
     splices(report, n, list);
-}
-
-/// Lists that are filled by pushes and emptied, or filled again.
-fn fills<R: Report, S: Bench<Edit>>(report: &mut R, n: usize, list: &mut S) {
-    run(report, "fill_and_empty", n, Edit::FillAndEmpty, list);
-    list.round(Edit::PushAndClear, 0);
-    rows!(report, n, list:
-        "push_and_clear" Edit::PushAndClear,
-        "refill" Edit::Refill,
-    );
 }
 
 /// An item in or out of a full list, which stays so.
