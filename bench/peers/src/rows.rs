@@ -180,11 +180,8 @@ pub fn of_heap<W: Growing<u64, N>, B: Growing<u8, N>, const N: usize>(report: &R
 /// The benchmarks of a vector that moves to the heap in each round.
 pub fn of_spilling<V: Growing<u64, N>, const N: usize>(report: &Report) {
     let source = scattered::<u64, N>();
-    let mut other = V::empty();
     grown::<V, N>(report, N, 2 * N);
     report.row("extend_from_slice", N, |x| spilling::extend_from_slice::<V, N>(&source, x));
-    report.row("append", N, |x| spilling::append(&mut other, &source, x));
-    report.row("insert_front", N, |x| spilling::insert_front::<V, N>(&source, x));
     report.row("resize", N, |x| spilling::resize::<V, N>(&source, 2 * N, x));
 }
 
@@ -213,10 +210,10 @@ where
     let mut bytes = ArrayVec::from(scattered::<u8, N>());
     let mut numbers = ArrayVec::from(scattered::<u32, N>());
     let mut form = Vec::new();
-    report.row("borsh_write_bytes", N, |x| borsh_write(&mut bytes, &mut form, x));
-    report.row("borsh_read_bytes", N, |x| borsh_read(&mut bytes, &mut form, x));
-    report.row("borsh_write_u32", N, |x| borsh_write(&mut numbers, &mut form, x));
-    report.row("borsh_read_u32", N, |x| borsh_read(&mut numbers, &mut form, x));
+    report.row("borsh_write_bytes", N, |x| borsh_write(&bytes, &mut form, x));
+    report.row("borsh_read_bytes", N, |x| borsh_read(&mut bytes, &form, x));
+    report.row("borsh_write_u32", N, |x| borsh_write(&numbers, &mut form, x));
+    report.row("borsh_read_u32", N, |x| borsh_read(&mut numbers, &form, x));
 }
 
 /// The first bytes of a text. A `String` has no array, so the rows are the same in pairs.

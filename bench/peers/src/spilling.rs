@@ -12,14 +12,6 @@ pub fn push<V: Growing<u64, N>, const N: usize>(count: u64, x: u64) -> u64 {
     look_at(vec.as_slice(), x)
 }
 
-/// Inserts a number in front, where the array is full.
-#[inline(never)]
-pub fn insert_front<V: Growing<u64, N>, const N: usize>(source: &[u64; N], x: u64) -> u64 {
-    let mut vec = filled::<V, N>(source);
-    vec.insert(0, x);
-    look_at(vec.as_slice(), x)
-}
-
 /// Adds `source` twice, each time by one copy.
 #[inline(never)]
 pub fn extend_from_slice<V: Growing<u64, N>, const N: usize>(source: &[u64; N], x: u64) -> u64 {
@@ -61,15 +53,6 @@ pub fn extend_exact_size<V: Growing<u64, N>, const N: usize>(count: usize, x: u6
 pub fn collect<V: Growing<u64, N>, const N: usize>(count: u64, x: u64) -> u64 {
     let start = x % 65536;
     let vec = V::collected(start..start.saturating_add(count));
-    look_at(vec.as_slice(), x)
-}
-
-/// Moves a list of as many items behind a full one.
-#[inline(never)]
-pub fn append<V: Growing<u64, N>, const N: usize>(other: &mut V, source: &[u64; N], x: u64) -> u64 {
-    let mut vec = filled::<V, N>(source);
-    other.extend_from_slice(source);
-    vec.append(other);
     look_at(vec.as_slice(), x)
 }
 

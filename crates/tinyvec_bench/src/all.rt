@@ -2,7 +2,7 @@
 ghost use Rattle.std.specs.Prelude.{◌*◌, ◌^◌, ◌<◌};
 
 use crate::dates::of_dates;
-use crate::form::{of_forms, of_text_forms, of_tiny_forms};
+use crate::form::{of_forms, of_heap_forms};
 use crate::long::of_long_lists;
 use crate::nodes::{Node, of_nodes};
 use crate::report::Report;
@@ -37,10 +37,8 @@ pub fn all_rows<R: Report>(report: &mut R, alloc: Global) {
     of_calls(report, alloc);
     report.set_prefix("");
     at_capacities!(report, alloc, of_forms: 64 16384);
-    of_tiny_forms(report, alloc, 64);
-    of_text_forms(report, alloc, 64);
-    of_tiny_forms(report, alloc, 16384);
-    of_text_forms(report, alloc, 16384);
+    of_heap_forms(report, alloc, 64);
+    of_heap_forms(report, alloc, 16384);
     in_texts(report, alloc);
 }
 

@@ -17,8 +17,6 @@ pub enum Spill {
     ExtendExactSize,
     FromIter,
     Clone,
-    Append,
-    InsertFront,
     Resize,
 }
 
@@ -53,8 +51,6 @@ impl<const N: usize> Bench<Spill> for SpillBench<N> {
                 &self.other,
                 x,
             ),
-            Spill::Append => append(self.alloc, &mut self.other, &self.source, x),
-            Spill::InsertFront => insert_front(self.alloc, &self.other, &self.source, x),
             Spill::Resize => resize(self.alloc, &self.other, &self.source, count, x),
         }
     }
@@ -78,8 +74,6 @@ pub fn of_spilling<R: Report, const N: usize>(report: &mut R, alloc: Global)
 fn spilled<R: Report, S: Bench<Spill>>(report: &mut R, n: usize, list: &mut S) {
     rows!(report, n, list:
         "extend_from_slice" Spill::ExtendFromSlice,
-        "append" Spill::Append,
-        "insert_front" Spill::InsertFront,
         "resize" Spill::Resize,
     );
 }
@@ -119,25 +113,8 @@ fn push<const N: usize>(alloc: Global, _like: &TinyVec<[u64; N]>, count: u64, x:
     look_at(vec.as_slice(), x)
 }
 
-// Inserts a number in front, where the array is full. By `_like`, here and below, the proof of the same row over another
-// vector knows that such a list fits in memory.
-#[inline(never)]
-fn insert_front<const N: usize>(
-    alloc: Global,
-    _like: &TinyVec<[u64; N]>,
-    source: &[u64; N],
-    x: u64,
-) -> u64 {
-    let Ok(mut vec) = filled(alloc, source) else {
-        return 0;
-    };
-    if vec.insert(0, x).is_err() {
-        return 0;
-    }
-    look_at(vec.as_slice(), x)
-}
-
-// Adds `source` twice, each time by one copy.
+// Adds `source` twice, each time by one copy. By `_like`, here and below, the proof of the same row over another vector
+// knows that such a list fits in memory.
 #[inline(never)]
 fn extend_from_slice<const N: usize>(
     alloc: Global,
@@ -213,23 +190,6 @@ fn from_iter<const N: usize>(alloc: Global, _like: &TinyVec<[u64; N]>, count: u6
         Ok(vec) => look_at(vec.as_slice(), x),
         Err(_) => 0,
     }
-}
-
-// Moves a list of as many items after a full one.
-#[inline(never)]
-fn append<const N: usize>(
-    alloc: Global,
-    other: &mut TinyVec<[u64; N]>,
-    source: &[u64; N],
-    x: u64,
-) -> u64 {
-    let Ok(mut vec) = filled(alloc, source) else {
-        return 0;
-    };
-    if other.extend_from_slice(source).is_err() || vec.append(other).is_err() {
-        return 0;
-    }
-    look_at(vec.as_slice(), x)
 }
 
 // Makes a full list as long as `len`.
