@@ -284,19 +284,18 @@ fn last_of_new<V: std::ops::Deref<Target = [u64]>>(source: &[u64], make: impl Fn
 /// A loop of pushes, and new lists with room for all numbers.
 fn with_capacity<V: Vector<u64, N>, const N: usize>(report: &Report, n: usize, make: fn(usize) -> V) {
     let mut vec = make(n);
-    report.row("push_and_clear", n, |x| push_and_clear(&mut vec, n as u64, x));
+    report.row("clear_and_push", n, |x| clear_and_push(&mut vec, n as u64, x));
     let source = runs_of(n);
     report.row("with_capacity", n, |x| len_of_new(source.as_slice(), make, x));
 }
 
 #[inline(never)]
-fn push_and_clear<V: Vector<u64, N>, const N: usize>(vec: &mut V, count: u64, x: u64) -> u64 {
+fn clear_and_push<V: Vector<u64, N>, const N: usize>(vec: &mut V, count: u64, x: u64) -> u64 {
+    vec.clear();
     for k in 0..count {
         vec.push(x.wrapping_add(k));
     }
-    let len = vec.as_slice().len() as u64;
-    vec.clear();
-    x.wrapping_add(len)
+    x.wrapping_add(vec.as_slice().len() as u64)
 }
 
 #[inline(never)]

@@ -55,7 +55,7 @@ pub enum Own {
     ReserveAndShrink,
     ToVecAndBack,
     WithCapacity,
-    PushAndClear,
+    ClearAndPush,
 }
 
 /// The vector, one that is joined or compared to it, runs of numbers that both are filled with, and room for some.
@@ -141,7 +141,7 @@ pub fn of_tiny_alone<R: Report, S: Bench<Own>>(report: &mut R, n: usize, list: &
         "reserve_and_shrink" Own::ReserveAndShrink,
         "to_vec_and_back" Own::ToVecAndBack,
         "with_capacity" Own::WithCapacity,
-        "push_and_clear" Own::PushAndClear,
+        "clear_and_push" Own::ClearAndPush,
     );
 }
 

@@ -76,9 +76,9 @@ pub fn fill_and_empty<T: Item, V: Vector<T, N>, const N: usize>(vec: &mut V, x: 
     pop_all(vec)
 }
 
-/// Pushes from none until there are `N` items.
+// Pushes from none until there are `N` items.
 #[inline(never)]
-pub fn push_all<T: Item, V: Vector<T, N>, const N: usize>(vec: &mut V, x: u64) -> u64 {
+fn push_all<T: Item, V: Vector<T, N>, const N: usize>(vec: &mut V, x: u64) -> u64 {
     vec.empty();
     push_until_full(vec, x)
 }

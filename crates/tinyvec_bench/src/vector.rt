@@ -59,7 +59,7 @@ pub trait Vector<T: Item, const N: usize>: AsSlice<T> + Drop {
 
     fn truncate(&mut self, n: usize);
 
-    /// Empties the list, and leaves defaults in its slots.
+    /// Empties the list by the vector's own call.
     fn clear(&mut self)
         ensures { length (Self.items self.new) ≡ 0 };
 
