@@ -73,7 +73,3 @@ module _ {T X E : Type 0} where
     -- an empty list allocates nothing, and a failure changes nothing
     pub succeeds_empty : view_len old + n ≡ 0 → IsOk result
     pub refused : OnErr result (Unchanged old new)
-
--- the number of items that moved to the heap: only a full array moves
-abbrev pub items_moved : ℕ → Bool → Bool → ℕ
-items_moved slots was_inline is_inline = if was_inline then (if is_inline then 0 else slots) else 0

@@ -1,11 +1,10 @@
 -- The laws of a splice of a `TinyVec`: what its calls leave of spare slots, place and room.
-use Rattle.std.proofs.Common.{◌≡◌, ℕ, ◌≤◌, List, length, refl, sym, ap, ◌∙◌, arith}
-use Rattle.std.specs.Prelude.{Bool, true, false, IsTrue}
+use Rattle.std.proofs.Common.{◌≡◌, ◌≤◌, List, length, sym, ◌∙◌, arith}
 use Rattle.tinyvec_array.specs.declared.slots.Slots as Storage
-use Rattle.tinyvec.specs.View.{TinyView, view_len, view_inline, view_capacity, Becomes, StaysInPlace, SameFrame}
+use Rattle.tinyvec.specs.View.{TinyView, view_len, view_capacity, Becomes, StaysInPlace, SameFrame}
 use Rattle.tinyvec.specs.TinyVec.{tiny_view_of, tiny_items_of, tiny_len_of}
 use Rattle.tinyvec.specs.Lends.{tiny_with_items}
-use Rattle.tinyvec.specs.Room.{GrowsByPushes, items_moved}
+use Rattle.tinyvec.specs.Room.{GrowsByPushes}
 use Rattle.tinyvec.specs.FrameLaws.{FrameOf, SameFrame-refl, SameFrame-then, tiny_items-with, tiny_framed-with, tiny_slots_framed, tiny_slots_then_framed, place_kept}
 use Rattle.tinyvec.specs.declared.tiny_vec.TinyVec.{TinyVec}
 
@@ -20,17 +19,7 @@ module _ {A T L : Type 0} (g : Storage.Ghosts A T L) where
   pub frame_then : (u v w : TinyVec A T L) → FrameOf g u v → FrameOf g v w → FrameOf g u w
   frame_then u v w = SameFrame-then (tiny_view_of g u) (tiny_view_of g v) (tiny_view_of g w)
 
--- a list that stayed inline did not move
-stays_in : (slots : ℕ) (b c : Bool) → (IsTrue b → IsTrue c) → items_moved slots b c ≡ 0
-stays_in slots true true h = refl
-stays_in slots true false h = absurd (let no = h refl in cc)
-stays_in slots false c h = refl
-
 module _ {T : Type 0} where
-  pub frame_moved : (slots : ℕ) (u v w x : TinyView T) → SameFrame u v → SameFrame w x
-      → items_moved slots (view_inline v) (view_inline w) ≡ items_moved slots (view_inline u) (view_inline x)
-  frame_moved slots u v w x k j = ap (λ b. items_moved slots b (view_inline w)) k.place ∙ ap (items_moved slots (view_inline u)) (sym j.place)
-
   module _ (D : T → Type 0) where
     pub frame_becomes : (u v w : TinyView T) (xs : List T) → SameFrame u v → Becomes D v w xs → Becomes D u w xs
     frame_becomes u v w xs k h = record {
@@ -60,7 +49,3 @@ module _ {T : Type 0} where
       keeps = record { capacity = let c = h.capacity in omega arith; same_room = λ _. h.capacity; fits = fits };
       grown = λ more. absurd (let c = h.capacity in omega (arith, c, more));
     }
-
-    pub stays : (slots : ℕ) (v w : TinyView T) → GrowsByPushes D v w → view_len w ≤ view_capacity v
-        → items_moved slots (view_inline v) (view_inline w) ≡ 0
-    stays slots v w h fits = stays_in slots (view_inline v) (view_inline w) (λ was. h.place.1 (was, fits))

@@ -12,10 +12,9 @@ pub use drain::TinyVecDrain;
 pub use into_iter::TinyVecIterator;
 pub use splice::TinyVecSplice;
 pub use tiny_vec::TinyVec;
+// All of `tinyvec_array`, and so of `tinyvec_slice`.
 pub use tinyvec_array::{
-    Array, ArrayVec, ArrayVecDrain, ArrayVecIterator, ArrayVecSplice, SliceVec, SliceVecDrain,
-    Slots, TakesClones, TryFromSliceError, array_vec,
-};
-pub use tinyvec_slots::{
-    CapacityError, ExtractIf, FromIterRest, NoMemory, NoRoom, Splice, SpliceRest,
+    Array, ArrayVec, ArrayVecDrain, ArrayVecIterator, ArrayVecSplice, CapacityError, ExtractIf,
+    FromIterRest, NoMemory, NoRoom, SliceVec, SliceVecDrain, Slots, Splice, SpliceRest,
+    TakesClones, TryFromSliceError, UpTo, array_vec,
 };

@@ -11,14 +11,13 @@ ghost use Rattle.tinyvec_slots.specs.Filling.{IntoIterYields, ShowsItems};
 ghost use Rattle.tinyvec_slots.specs.Replacing.{PutsBetween};
 ghost use Rattle.tinyvec_slots.specs.AnySplice.{SpliceBegins};
 ghost use Rattle.tinyvec.specs.Room.{KeepsRoom, GetsRoom, GrowsByPushes};
-ghost use Rattle.tinyvec.specs.Room.{items_moved};
 
 use crate::TinyVec;
 use std::alloc::AllocError;
 use std::iter::Fuse;
 use std::ops::{Range, RangeBounds};
 use tinyvec_array::Array;
-use tinyvec_slots::authors::{CanCut, CanSplice, resolve_range, splice_over};
+use tinyvec_slots::authors::{CanCut, CanSplice, Touches, resolve_range, splice_over};
 use tinyvec_slots::{NoRoom, Splice};
 
 /// Yields the items of a range of a `TinyVec`, and puts those of `replacement` in their place.
@@ -159,9 +158,10 @@ impl<A: Array> TinyVec<A> {
 }
 
 impl<A: Array> CanSplice for TinyVec<A> {
-    ghost use Rattle.tinyvec.specs.SpliceLaws.{frame_refl, frame_then, frame_grows, frame_moved, stays_grows, stays};
+    ghost use Rattle.tinyvec.specs.SpliceLaws.{frame_refl, frame_then, frame_grows, stays_grows};
 
-    ghost moved = { λ v w. items_moved A.CAPACITY (is_inline v) (is_inline w) };
+    // No number of touches is promised.
+    ghost counted = { false };
 
     ghost must_end = { true };
 
@@ -173,18 +173,27 @@ impl<A: Array> CanSplice for TinyVec<A> {
         "TinyVecSplice"
     }
 
+    #[inline(always)]
+    fn is_counted() -> bool {
+        false
+    }
+
     #[inline]
     fn len(&self) -> usize {
         self.len()
     }
 
-    fn extend_counted<I: Iterator<Item = A::Item>>(
+    fn append_counted<I: Iterator<Item = A::Item>>(
         &mut self,
         iter: I,
-    ) -> (Result<(), NoRoom<A::Item, I>>, usize) {
-        let was_inline = self.is_inline();
-        let appended = self.extend(iter);
-        (appended, count_move::<A>(was_inline, self.is_inline()))
+        _touches: &mut Touches,
+    ) -> Result<(), NoRoom<A::Item, I>> {
+        self.extend(iter)
+    }
+
+    #[inline]
+    fn cut_emptied(&mut self, n: usize) {
+        self.truncate(n);
     }
 
     ghost kept_same = { frame_refl A.Slots };
@@ -198,27 +207,9 @@ impl<A: Array> CanSplice for TinyVec<A> {
     ghost kept_grown = { λ u v w x. frame_grows A.Item.is_default (tiny_view_of A.Slots u)
         (tiny_view_of A.Slots v) (tiny_view_of A.Slots w) (tiny_view_of A.Slots x) };
 
-    ghost kept_moved = { λ u v w x. frame_moved A.CAPACITY (tiny_view_of A.Slots u) (tiny_view_of A.Slots v)
-        (tiny_view_of A.Slots w) (tiny_view_of A.Slots x) };
-
     ghost cut_grown = { λ v w. stays_grows A.Item.is_default (tiny_view_of A.Slots v) (tiny_view_of A.Slots w) };
 
     ghost grown_room = { λ v w h. h.keeps.capacity };
-
-    ghost grown_in_place = { λ v w. stays A.Item.is_default A.CAPACITY (tiny_view_of A.Slots v)
-        (tiny_view_of A.Slots w) };
-}
-
-// The number of items that moved to the heap.
-#[inline]
-fn count_move<A: Array>(was_inline: bool, is_inline: bool) -> usize
-    ensures { result ≡ items_moved A.CAPACITY was_inline is_inline }
-{
-    if was_inline && !is_inline {
-        A::CAPACITY
-    } else {
-        0
-    }
 }
 
 impl<A: Array> CanCut for TinyVec<A> {

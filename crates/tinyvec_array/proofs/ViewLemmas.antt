@@ -1,5 +1,5 @@
 -- Lemmas on the list and the spare slots of a vector.
-use Rattle.std.proofs.Common.{◌≡◌, ℕ, ◌+◌, ◌-◌, ◌<◌, ◌≤◌, List, ◌++◌, length, take, drop, set, slice_range, refl, sym, ap, ◌∙◌, arith, rules, length-append, length-take, length-drop, take-append-drop}
+use Rattle.std.proofs.Common.{◌≡◌, ℕ, ◌-◌, ◌<◌, ◌≤◌, List, ◌++◌, length, take, drop, set, slice_range, refl, sym, ap, ◌∙◌, arith, rules, length-append, length-take, length-drop, take-append-drop}
 use Rattle.std.proofs.Math.Seq.{take-set-lt}
 use Rattle.std.proofs.lemmas.List.{same_lists, places}
 use Rattle.std.specs.Borrow.{MutBor}

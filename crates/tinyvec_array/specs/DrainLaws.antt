@@ -1,12 +1,22 @@
 -- The laws of `CanDrain` of a vector over slots, whose drain takes the items of its range out of the first spare slots.
 use Rattle.std.specs.Prelude.{codes}
-use Rattle.std.proofs.Common.{◌≡◌, ℕ, ◌+◌, ◌≤◌, List, ◌++◌, length, drop, refl, ap, ◌∙◌, arith}
+use Rattle.std.proofs.Common.{◌≡◌, ℕ, ◌+◌, ◌≤◌, List, ◌++◌, length, take, drop, refl, sym, ap, ◌∙◌, arith, take_at, drop_at, length-take-le}
 use Rattle.std.specs.List.{remove_range}
 use Rattle.tinyvec_slots.specs.Slots.{AreDefaults}
 use Rattle.tinyvec_slots.specs.declared.can_drain.CanDrain as CanDrain
 use Rattle.tinyvec_array.specs.ArrayVec.{items_of, spare_of, SameLender}
 use Rattle.tinyvec_array.specs.declared.slots.Slots as Storage
 use Rattle.tinyvec_array.specs.declared.array_vec.ArrayVec.{ArrayVec}
+
+-- lists of one length that are the same without a range are the same before and after it
+same_around : {T : Type 0} (xs ys : List T) (i j : ℕ) → length xs ≡ length ys → i ≤ length ys → remove_range xs i j ≡ remove_range ys i j
+    → (take i xs ≡ take i ys) × (drop j xs ≡ drop j ys)
+same_around xs ys i j long le same =
+    let front = length-take-le i xs (omega (arith, long, le)) in
+    let behind = length-take-le i ys le in (
+      sym (take_at (take i xs) (drop j xs) i front) ∙ ap (take i) same ∙ take_at (take i ys) (drop j ys) i behind,
+      sym (drop_at (take i xs) (drop j xs) i front) ∙ ap (drop i) same ∙ drop_at (take i ys) (drop j ys) i behind,
+    )
 
 module _ {S T L : Type 0} (g : Storage.Ghosts S T L) where
   -- the same slots are lent, and the list is the same
@@ -23,10 +33,10 @@ module _ {S T L : Type 0} (g : Storage.Ghosts S T L) where
   )
 
   module _ (D : T → Type 0) where
-    -- the slots of the range, if they are the first spare ones, hold defaults before the others
+    -- the spare slots of the range hold defaults, and the others are the same
     abbrev pub DrainEnded : ℕ → ℕ → ArrayVec S L → ArrayVec S L → Type 0
-    DrainEnded start gap old new = DrainKept old new × (start ≡ 0 → gap ≤ length (spare_of g old)
-        → (ds : List T) × AreDefaults D gap ds × (spare_of g new ≡ ds ++ drop gap (spare_of g old)))
+    DrainEnded start gap old new = DrainKept old new × (start + gap ≤ length (spare_of g old) → (ds : List T) × AreDefaults D gap ds
+        × (spare_of g new ≡ take start (spare_of g old) ++ ds ++ drop (start + gap) (spare_of g old)))
 
     -- what `CanDrain` says of the vector
     abbrev pub drain_of : CanDrain.Ghosts (ArrayVec S L) T
@@ -37,9 +47,12 @@ module _ {S T L : Type 0} (g : Storage.Ghosts S T L) where
         → DrainEnded start gap v w → DrainEnded start gap u w
     drain_kept_ended start gap u v w kept long others ended = (
       drain_kept_then u v w kept ended.0,
-      λ first fits.
-          let left = ended.1 first (omega (arith, long, fits)) in
-          let all : 0 + gap ≡ gap = omega arith in
-          let behind : drop gap (spare_of g v) ≡ drop gap (spare_of g u) = rw (first, all) at others in
-          (left.0, left.1, left.2 ∙ ap (λ xs. left.0 ++ xs) behind),
+      λ fits.
+          let left = ended.1 (omega (arith, long, fits)) in
+          let parts = same_around (spare_of g v) (spare_of g u) start (start + gap) long (omega (arith, fits)) others in (
+            left.0,
+            left.1,
+            left.2 ∙ ap (λ xs. xs ++ left.0 ++ drop (start + gap) (spare_of g v)) parts.0
+                ∙ ap (λ xs. take start (spare_of g u) ++ left.0 ++ xs) parts.1,
+          ),
     )

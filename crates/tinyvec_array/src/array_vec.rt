@@ -1,5 +1,5 @@
 //! `ArrayVec` and `SliceVec`.
-ghost use Rattle.std.specs.Prelude.{◌≡◌, ◌<◌, ◌≤◌, ◌==◌, ◌+◌, ◌^◌, length, drop, slice_range, slice_index_or, slice_set, List, ◌++◌, ⊤};
+ghost use Rattle.std.specs.Prelude.{◌≡◌, ◌<◌, ◌≤◌, ◌==◌, ◌+◌, ◌^◌, length, take, drop, slice_range, slice_index_or, slice_set, List, ◌++◌, ⊤};
 ghost use Rattle.std.specs.List.{remove_range};
 ghost use Rattle.tinyvec_slots.specs.Slots.{AreDefaults, split_at};
 ghost use Rattle.tinyvec_slots.specs.Ranges.{Within};
@@ -166,17 +166,6 @@ impl<S: Slots> ArrayVec<S> {
         self.slots.as_slice_mut()
     }
 
-    ghost use Rattle.tinyvec_array.specs.Lends.{lends_array_of};
-
-    /// The array, or the lent slice, spare slots too, for writing. The owner of a lent slice learns more from
-    /// `as_mut_slots`.
-    pub fn as_mut_inner(&mut self) -> &mut S
-        ensures* writes_back { sem 𝓛 (lends_array_of S.row S.Len.row self.entry result) }
-        ensures slots { S.Slots.slots result.now ≡ slots_of S.Slots self.old }
-    {
-        &mut self.slots
-    }
-
     ghost use Rattle.tinyvec_array.specs.IterMut.{lends_iter};
     ghost use Rattle.tinyvec_array.specs.Lends.{with_items_of};
 
@@ -220,18 +209,22 @@ where
         mem::take(&mut self.slots.as_slice_mut()[at])
     }
 
-    // Writes defaults into the first `n` spare slots, or none if there are fewer.
-    pub(crate) fn fill_spare_default(&mut self, n: usize)
+    // Writes defaults into the `n` spare slots from `start` on, or none if there are fewer.
+    pub(crate) fn fill_spare_default(&mut self, start: usize, n: usize)
         ensures lender { SameLender S.Slots self.old self.new }
         ensures items { items_of S.Slots self.new ≡ items_of S.Slots self.old }
-        ensures spare { n ≤ length (spare_of S.Slots self.old) → (ds : List S.Item) × AreDefaults S.Item.is_default n ds
-            × (spare_of S.Slots self.new ≡ ds ++ drop n (spare_of S.Slots self.old)) }
-        ensures none { length (spare_of S.Slots self.old) < n → self.new ≡ self.old }
+        ensures spare { start + n ≤ length (spare_of S.Slots self.old) → (ds : List S.Item)
+            × AreDefaults S.Item.is_default n ds
+            × (spare_of S.Slots self.new
+            ≡ take start (spare_of S.Slots self.old) ++ ds ++ drop (start + n) (spare_of S.Slots self.old)) }
+        ensures none { length (spare_of S.Slots self.old) < start + n → self.new ≡ self.old }
     {
         let len = self.len();
-        if n <= self.capacity() - len {
+        let spare = self.capacity() - len;
+        if start <= spare && n <= spare - start {
             let most = self.slots.most();
-            fill_default(self.slots.as_slice_mut(), len, len + n, most);
+            let from = len + start;
+            fill_default(self.slots.as_slice_mut(), from, from + n, most);
         }
     }
 }

@@ -1,9 +1,9 @@
 //! `CanSplice`, which `replace_range` needs.
-ghost use Rattle.std.specs.Prelude.{codes, false, refl};
+ghost use Rattle.std.specs.Prelude.{codes, false, true};
 
 use crate::{ArrayVec, Slots};
 use tinyvec_slots::NoRoom;
-use tinyvec_slots::authors::CanSplice;
+use tinyvec_slots::authors::{CanSplice, Touches};
 
 impl<S: Slots> CanSplice for ArrayVec<S>
 where
@@ -12,7 +12,7 @@ where
     ghost use Rattle.tinyvec_array.specs.ArrayVec.{Changes};
     ghost use Rattle.tinyvec_array.specs.SpliceLaws.{kept_refl, kept_then, kept_count, changed_around, cut_changes, not_fewer};
 
-    ghost moved = { λ _ _. 0 };
+    ghost counted = { true };
 
     ghost must_end = { false };
 
@@ -24,17 +24,38 @@ where
         "ArrayVecSplice"
     }
 
+    #[inline(always)]
+    fn is_counted() -> bool {
+        true
+    }
+
     #[inline]
     fn len(&self) -> usize {
         self.len()
     }
 
     #[inline]
-    fn extend_counted<I: Iterator<Item = S::Item>>(
+    fn append_counted<I: Iterator<Item = S::Item>>(
         &mut self,
         iter: I,
-    ) -> (Result<(), NoRoom<S::Item, I>>, usize) {
-        (self.extend(iter), 0)
+        touches: &mut Touches,
+    ) -> Result<(), NoRoom<S::Item, I>> {
+        let mut rest = iter;
+        let len = self.len();
+        let end = touches.append(self.as_mut_slots(), len, &mut rest);
+        self.set_len(end);
+        if end < self.capacity() {
+            return Ok(());
+        }
+        match rest.next() {
+            Some(item) => Err(NoRoom { item, rest }),
+            None => Ok(()),
+        }
+    }
+
+    #[inline]
+    fn cut_emptied(&mut self, n: usize) {
+        self.set_len(n);
     }
 
     ghost kept_same = { kept_refl S.Slots };
@@ -47,11 +68,7 @@ where
 
     ghost kept_grown = { changed_around S.Slots S.Item.is_default };
 
-    ghost kept_moved = { λ u v w x h k. refl };
-
     ghost cut_grown = { λ v w h fits. cut_changes S.Slots S.Item.is_default v w h };
 
     ghost grown_room = { not_fewer S.Slots S.Item.is_default };
-
-    ghost grown_in_place = { λ v w h fits. refl };
 }

@@ -102,8 +102,8 @@ where
     }
 
     #[inline]
-    fn end_drain(&mut self, _start: usize, gap: usize) {
-        self.fill_spare_default(gap);
+    fn end_drain(&mut self, start: usize, gap: usize) {
+        self.fill_spare_default(start, gap);
     }
 
     ghost kept_same = { drain_kept_same S.Slots };

@@ -48,9 +48,10 @@ module _ {X : Type 0} (k : ℕ) (xs : List X) (n : ℕ) (is : n ≡ length (take
   pub drop-taken : (i : ℕ) (d : X) → i < n → drop (n - 1) (remove (take n xs) i ++ d ∷ drop n xs) ≡ d ∷ drop k xs
   drop-taken i d lt = drop-removed xs i n d lt within ∙ ap (λ l. d ∷ l) spare_from
 
-  -- the first m spare slots were written
-  pub spare-put : (ds : List X) (m : ℕ) → length ds ≡ m → m ≤ length (drop k xs) → drop k (take n xs ++ ds ++ drop (n + m) xs) ≡ ds ++ drop m (drop k xs)
-  spare-put ds m long le = same_lists _ _ (search (rules, places, is, long)) (λ i d h. grind (arith, places, is, long))
+  -- the m spare slots from i on were written
+  pub spare-put : (ds : List X) (i m : ℕ) → length ds ≡ m → i + m ≤ length (drop k xs)
+      → drop k (take (n + i) xs ++ ds ++ drop (n + i + m) xs) ≡ take i (drop k xs) ++ ds ++ drop (i + m) (drop k xs)
+  spare-put ds i m long le = same_lists _ _ (search (rules, places, is, long)) (λ j d h. grind (arith, places, is, long))
 
   -- a spare slot was written
   pub spare-set : (i : ℕ) (x : X) → i < length (drop k xs) → drop k (set xs (n + i) x) ≡ set (drop k xs) i x

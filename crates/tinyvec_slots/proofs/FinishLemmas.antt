@@ -78,11 +78,11 @@ module _ {I T : Type 0} (gives : I → Option T → I → Type 0) (capacity : �
   }
 
 -- How many touches `finish` needed of s, whose list was in `slots` slots, with the gap from `front` up to `back`.
-module _ {I T : Type 0} (s : SpliceView I T) (slots moved : ℕ) (list : List T) (front back : ℕ)
+module _ {I T : Type 0} (s : SpliceView I T) (slots : ℕ) (list : List T) (front back : ℕ)
     (front_len : length s.front ≡ min front slots) (back_len : length s.back ≡ slots - back) (within : back ≤ slots) where
   -- the replacement ended at `at`, and the gap was closed
   pub touches_closed : (at : ℕ) → front ≤ at → at < back → slots ≡ length list + (back - at)
-      → FinishTouches s slots moved list (s.touches + 2 * (at - front) + (slots - at))
+      → FinishTouches s slots list (s.touches + 2 * (at - front) + (slots - at))
   touches_closed at least most shorter = record {
     filled = λ e. absurd (omega arith);
     closed = λ _. omega arith;
@@ -92,8 +92,8 @@ module _ {I T : Type 0} (s : SpliceView I T) (slots moved : ℕ) (list : List T)
 
   -- the gap was filled, and more was appended with n touches
   pub touches_appended : {n filled : ℕ} → front ≤ back → slots ≤ length list → filled ≡ s.touches + 2 * (back - front)
-      → (length list ≡ slots → n ≡ filled) → filled + (length list - slots) ≤ n → n ≤ filled + (length list - slots) + (length list - back) + moved
-      → FinishTouches s slots moved list n
+      → (length list ≡ slots → n ≡ filled) → filled + (length list - slots) ≤ n → n ≤ filled + (length list - slots) + (length list - back)
+      → FinishTouches s slots list n
   touches_appended order longer is none least most = record {
     filled = λ e. omega (arith, none e);
     closed = λ lt. absurd (omega arith);

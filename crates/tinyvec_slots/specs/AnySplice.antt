@@ -66,15 +66,15 @@ module _ {I T : Type 0} where
   abbrev pub finish_bound : SpliceView I T → ℕ → List T → ℕ
   finish_bound s slots list = length s.left + finish_placed s list + max slots (length list)
 
-  -- `finish` of s, whose list was in `slots` slots, left `list`, and n touches since `splice`. `moved` items moved elsewhere.
-  -- If the list got no longer, n is exact: two touches for each item placed in a filled gap, and in a closed one a further
-  -- touch for each slot after those. Else it is at least one for each item placed, and at most one more for each removed item
-  -- that was left, for each slot of the longer list, and for each item moved.
-  pub record FinishTouches (s : SpliceView I T) (slots moved : ℕ) (list : List T) (n : ℕ) : Type 0 where
+  -- `finish` of s, whose list was in `slots` slots, left `list`, and n touches since `splice`. If the list got no longer, n is
+  -- exact: two touches for each item placed in a filled gap, and in a closed one a further touch for each slot after those. Else
+  -- it is at least one for each item placed, and at most one more for each removed item that was left, and for each slot of the
+  -- longer list.
+  pub record FinishTouches (s : SpliceView I T) (slots : ℕ) (list : List T) (n : ℕ) : Type 0 where
     pub filled : length list ≡ slots → n ≡ s.touches + 2 * finish_placed s list
     pub closed : length list < slots → n ≡ s.touches + finish_placed s list + (slots - length s.front)
     pub at_least : s.touches + finish_placed s list ≤ n
-    pub at_most : n ≤ s.touches + finish_bound s slots list + moved
+    pub at_most : n ≤ s.touches + finish_bound s slots list
 
 module _ {I T : Type 0} (gives : I → Option T → I → Type 0) (capacity : ℕ) where
   -- `finish` of s returned the result. It placed what the replacement still yielded, as far as there was room, between the

@@ -13,6 +13,7 @@ pub use crate::printing::{
 };
 pub use crate::range::{resolve_range, subslice};
 pub use crate::splice::splice_over;
+pub use crate::touches::Touches;
 pub use crate::tuned::cloning::{clone_each, clone_over, clone_over_from};
 pub use crate::tuned::comparing::{cmp_slices, eq_slices, hash_items, partial_cmp_slices};
 pub use crate::tuned::moving::{close_gap, move_to_end};

@@ -21,7 +21,8 @@ pub struct Gap {
     next: usize,
     end: usize,
     back: usize,
-    touches: Touches,
+    // What the vector of the splice is handed for what it appends.
+    pub(crate) touches: Touches,
 }
 
 impl Gap {

@@ -1,5 +1,5 @@
 //! The splice of each vector, over `CanSplice`: what replaces a range of items by those of an iterator.
-ghost use Rattle.std.specs.Prelude.{◌≡◌, ◌+◌, ◌-◌, ◌≤◌, ◌++◌, length, take, drop, false, Some, IfSome, IfErr, ⊤};
+ghost use Rattle.std.specs.Prelude.{◌≡◌, ◌+◌, ◌-◌, ◌≤◌, ◌++◌, length, take, drop, false, true, Some, IfSome, IfErr, ⊤};
 ghost use Rattle.std.specs.Bool.{MatchBool};
 ghost use Rattle.std.specs.Fmt.{debug_list, debug_variant};
 ghost use Rattle.std.specs.Iterator.{UpTo, MakesProgress, at_most, IsFinite};
@@ -149,7 +149,7 @@ impl<'a, V: CanSplice, I: Iterator<Item = V::Item>> Splice<'a, V, Fuse<I>> {
     ghost use Rattle.tinyvec_slots.specs.Splice.{splice_view, splice_front, splice_back, splice_replacement, splice_vec, splice_touches, SpliceCanStep, SpliceCanNext, SpliceEnds};
 
     /// The number of touches since `splice`. A touch takes the item of one slot, which may leave a default there, places
-    /// one item, or swaps two slots. An item that moves elsewhere is a touch too.
+    /// one item, or swaps two slots.
     pub fn touches(&self) -> u128
         ensures { result ≡ splice_touches V.items self.now }
     {
@@ -168,13 +168,13 @@ impl<'a, V: CanSplice, I: Iterator<Item = V::Item>> Splice<'a, V, Fuse<I>> {
         finished
     }
 
-    /// `finish`, and the number of touches since `splice`.
+    /// `finish`, and the number of touches since `splice`. Of a `TinyVec` no number is promised.
     #[inline(always)]
     pub fn finish_counted(self) -> (Result<(), NoRoom<V::Item, Fuse<I>>>, u128)
         requires can { SpliceCanNext V.items I.can_next self }
         requires finite { MatchBool V.must_end (FusedFinite I.remaining (splice_replacement self)) ⊤ }
-        ensures touches { FinishTouches (splice_view V.items self.entry) (length (V.items (splice_vec self.entry)))
-            (V.moved (splice_vec self.entry) self.exit.0.now) (V.items self.exit.0.now) result.1 }
+        ensures touches { V.counted ≡ true → FinishTouches (splice_view V.items self.entry)
+            (length (V.items (splice_vec self.entry))) (V.items self.exit.0.now) result.1 }
         ensures finish { SpliceEnds V.items V.room V.Grown I.Iterator self.entry result.0 self.exit.0.now }
     {
         let Splice {
@@ -216,15 +216,16 @@ impl<'a, V: CanSplice, I: Iterator<Item = V::Item>> Splice<'a, V, Fuse<I>> {
 #[inline(always)]
 fn splice_stop<V: CanSplice>(vec: &mut V, gap: &mut Gap)
     requires in_bounds { Within (gap_front gap.old) (gap_back gap.old) (length (V.items vec.old)) }
-    requires few { FitsBits 80 (gap_touches gap.old) }
+    requires few { FitsBits 70 (gap_touches gap.old) }
     ensures items { V.items vec.new
         ≡ take (gap_front gap.old) (V.items vec.old) ++ drop (gap_back gap.old) (V.items vec.old) }
     ensures len { length (V.items vec.old) ≡ length (V.items vec.new) + (gap_back gap.old - gap_front gap.old) }
     ensures shorter { Shortened V.items V.room V.Truncated vec.old vec.new }
-    ensures touches { gap_touches gap.new ≡ gap_touches gap.old + (length (V.items vec.old) - gap_front gap.old) }
+    ensures touches { V.counted ≡ true
+        → gap_touches gap.new ≡ gap_touches gap.old + (length (V.items vec.old) - gap_front gap.old) }
 {
-    let keep = gap.close(vec.as_mut_slice());
-    vec.truncate(keep);
+    let keep = gap.close(vec.as_mut_slice(), V::is_counted());
+    vec.cut_emptied(keep);
 }
 
 // Appends what `replacement` yields, and moves it to where the gap was.
@@ -236,21 +237,22 @@ fn append_in<V: CanSplice, I: Iterator<Item = V::Item>>(
 ) -> Result<(), NoRoom<V::Item, I>>
     requires filled { gap_front gap.old ≡ gap_back gap.old }
     requires in_bounds { gap_front gap.old ≤ length (V.items vec.old) }
-    requires few { FitsBits 80 (gap_touches gap.old) }
+    requires few { FitsBits 70 (gap_touches gap.old) }
     requires can { I.can_next replacement }
     requires finite { MatchBool V.must_end (IsFinite (I.remaining replacement)) ⊤ }
     ensures finished { Finishes I.next_gives (V.room vec.new) (gap_view gap.old replacement (V.items vec.old))
         result (V.items vec.new) }
     ensures grown { V.Grown vec.old vec.new }
     ensures goes_on { IfErr result (λ refused. I.can_next refused.rest) }
-    ensures none { length (V.items vec.new) ≡ length (V.items vec.old) → gap_touches gap.new ≡ gap_touches gap.old }
-    ensures at_least { gap_touches gap.old + (length (V.items vec.new) - length (V.items vec.old)) ≤ gap_touches gap.new }
-    ensures at_most { gap_touches gap.new ≤ gap_touches gap.old + (length (V.items vec.new) - length (V.items vec.old))
-        + (length (V.items vec.new) - gap_front gap.old) + V.moved vec.old vec.new }
+    ensures none { V.counted ≡ true → length (V.items vec.new) ≡ length (V.items vec.old)
+        → gap_touches gap.new ≡ gap_touches gap.old }
+    ensures at_least { V.counted ≡ true
+        → gap_touches gap.old + (length (V.items vec.new) - length (V.items vec.old)) ≤ gap_touches gap.new }
+    ensures at_most { V.counted ≡ true → gap_touches gap.new ≤ gap_touches gap.old
+        + (length (V.items vec.new) - length (V.items vec.old)) + (length (V.items vec.new) - gap_front gap.old) }
 {
     let end = vec.len();
-    let (appended, moved) = vec.extend_counted(replacement);
+    let appended = vec.append_counted(replacement, &mut gap.touches);
     gap.rotate_in(vec.as_mut_slice(), end);
-    gap.count_moved(moved);
     appended
 }

@@ -1,15 +1,18 @@
 //! The slots that a splice reaches, each touch counted.
-ghost use Rattle.std.specs.Prelude.{◌≡◌, ◌≢◌, ◌+◌, ◌-◌, ◌<◌, ◌≤◌, ◌++◌, length, take, drop, slice_index_or, slice_set, slice_range};
+ghost use Rattle.std.specs.Prelude.{◌≡◌, ◌≢◌, ◌+◌, ◌-◌, ◌<◌, ◌≤◌, ◌++◌, List, Some, None, length, take, drop, slice_index_or, slice_set, slice_range};
+ghost use Rattle.std.specs.Bool.{MatchBool};
 ghost use Rattle.std.specs.List.{SwappedAt};
+ghost use Rattle.tinyvec_slots.specs.Slots.{AreDefaults};
+ghost use Rattle.std.specs.Iterator.{Drains, Yields};
 ghost use Rattle.tinyvec_slots.specs.Ranges.{Within};
 ghost use Rattle.tinyvec_slots.specs.Touches.{touch_count, FitsBits};
 
 use std::mem;
 
-// Reaches slots, and counts how often: a touch is one slot read out with the default that it may leave, one item placed
-// in a slot, or two slots swapped.
+/// Reaches slots, and counts how often: a touch is one slot read out with the default that it may leave, one item placed
+/// in a slot, or two slots swapped.
 #[derive(Debug, Drop)]
-pub(crate) struct Touches {
+pub struct Touches {
     count: u128,
 }
 
@@ -25,14 +28,6 @@ impl Touches {
         ensures { result ≡ touch_count self.now }
     {
         self.count
-    }
-
-    // Counts `n` touches that a vector made of its own slots.
-    pub(crate) fn add(&mut self, n: usize)
-        requires few { FitsBits 120 (touch_count self.old) }
-        ensures { touch_count self.new ≡ touch_count self.old + n }
-    {
-        self.count += n as u128;
     }
 
     // Places `x` in the slot at `i`, and takes out what was there.
@@ -57,6 +52,79 @@ impl Touches {
     {
         self.count += 1;
         mem::take(&mut slots[i])
+    }
+
+    // Places `x` in the slot at `i`, and drops what was there.
+    fn place<T: Drop>(&mut self, slots: &mut [T], i: usize, x: T)
+        requires in_bounds { i < length slots.old }
+        requires few { FitsBits 120 (touch_count self.old) }
+        ensures after { slots.new ≡ slice_set slots.old i x }
+        ensures count { touch_count self.new ≡ touch_count self.old + 1 }
+    {
+        self.count += 1;
+        slots[i] = x;
+    }
+
+    /// Places what `iter` yields in the slots from `at` on, and returns where that ends: before the end of the slots only if
+    /// `iter` is exhausted.
+    #[inline(always)]
+    pub fn append<I: Iterator>(&mut self, slots: &mut [I::Item], at: usize, iter: &mut I) -> usize
+    where
+        I::Item: Drop,
+        requires in_bounds { at ≤ length slots.old }
+        requires few { FitsBits 80 (touch_count self.old) }
+        requires can { I.can_next iter.old }
+        ensures bounds { (at ≤ result) × (result ≤ length slots.old) }
+        ensures placed { (placed : List I.Item) × (take result slots.new ≡ take at slots.old ++ placed)
+            × (length placed ≡ result - at)
+            × (result ≡ length slots.old → Yields I.next_gives iter.old placed iter.new × I.can_next iter.new)
+            × (result < length slots.old → Drains I.next_gives iter.old placed) }
+        ensures behind { drop result slots.new ≡ drop result slots.old }
+        ensures count { touch_count self.new ≡ touch_count self.old + (result - at) }
+    {
+        let all = slots.len();
+        for i in at..all {
+            if !self.place_next(slots, i, iter) {
+                return i;
+            }
+        }
+        all
+    }
+
+    // Places the next item of `iter` at `at`, and returns whether there was one.
+    #[inline(always)]
+    fn place_next<I: Iterator>(&mut self, slots: &mut [I::Item], at: usize, iter: &mut I) -> bool
+    where
+        I::Item: Drop,
+        requires in_bounds { at < length slots.old }
+        requires few { FitsBits 120 (touch_count self.old) }
+        requires can { I.can_next iter.old }
+        ensures placed { MatchBool result ((new : I.Item) × I.next_gives iter.old (Some new) iter.new
+            × I.can_next iter.new
+            × (slots.new ≡ slice_set slots.old at new)
+            × (touch_count self.new ≡ touch_count self.old + 1))
+            (I.next_gives iter.old None iter.new × (slots.new ≡ slots.old) × (self.new ≡ self.old)) }
+    {
+        match iter.next() {
+            Some(x) => {
+                self.place(slots, at, x);
+                true
+            }
+            None => false,
+        }
+    }
+
+    // Empties the slots from `at` on, each by a touch.
+    pub(crate) fn empty<T: Default + Drop>(&mut self, slots: &mut [T], at: usize)
+        requires in_bounds { at ≤ length slots.old }
+        requires few { FitsBits 80 (touch_count self.old) }
+        ensures emptied { (ds : List T) × AreDefaults T.is_default (length slots.old - at) ds
+            × (slots.new ≡ take at slots.old ++ ds) }
+        ensures count { touch_count self.new ≡ touch_count self.old + (length slots.old - at) }
+    {
+        for i in at..slots.len() {
+            let _taken = self.take(slots, i);
+        }
     }
 
     // Swaps two slots.

@@ -238,12 +238,11 @@ impl<A: Array> TinyVec<A> {
         }
     }
 
-    /// Converts to a boxed slice. If the allocator refuses, the vector is returned.
-    pub fn into_boxed_slice(self) -> Result<BoxedSlice<A::Item>, NoMemory<Self>>
+    /// Converts to a boxed slice. If the allocator refuses, the items are dropped; `into_vec` returns them.
+    pub fn into_boxed_slice(self) -> Result<BoxedSlice<A::Item>, AllocError>
         ensures items { IfOk result (λ b. boxed_slice_items b ≡ tiny_items_of A.Slots self) }
         ensures succeeds { is_inline self ≡ false → IsOk result }
         ensures succeeds_empty { tiny_len_of A.Slots self ≡ 0 → IsOk result }
-        ensures value_returned { IfErr result (λ refused. refused.0 ≡ self) }
     {
         Ok(self.into_vec()?.into_boxed_slice())
     }

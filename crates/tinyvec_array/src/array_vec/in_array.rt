@@ -1,5 +1,6 @@
 //! What only a vector in an array has.
 ghost use Rattle.std.specs.Prelude.{◌≡◌, ◌-◌, ◌<◌, ◌≤◌, ◌↔◌, ℕ, All, length, [], take, drop, min, ⊤, Err, IsOk, IsErr, IfOk, IfErr, OnOk, OnErr};
+ghost use Rattle.std.specs.Borrow.{sem};
 ghost use Rattle.std.specs.List.{AllZip, AppendsResults};
 ghost use Rattle.tinyvec_slots.specs.Slots.{AreDefaults, SlotRule, split_at};
 ghost use Rattle.tinyvec_slots.specs.Clones.{RefusedAt, ClonesAreEqual, AreClones, ClonesInPart, ResizesByClones};
@@ -20,6 +21,16 @@ impl<A: Array> ArrayVec<A> {
         ensures slots { A.Slots.slots result.now ≡ slots_of A.Slots self.now }
     {
         &self.slots
+    }
+
+    ghost use Rattle.tinyvec_array.specs.Lends.{lends_array_of};
+
+    /// The array, spare slots too, for writing.
+    pub fn as_mut_inner(&mut self) -> &mut A
+        ensures* writes_back { sem 𝓛 (lends_array_of A.row A.Len.row self.entry result) }
+        ensures slots { A.Slots.slots result.now ≡ slots_of A.Slots self.old }
+    {
+        &mut self.slots
     }
 
     /// The array, spare slots too.

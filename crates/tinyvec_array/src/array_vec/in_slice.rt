@@ -65,6 +65,14 @@ impl<'s, T: Drop> ArrayVec<&'s mut [T]> {
         self.slots.as_slice()
     }
 
+    /// The slots, spare slots too, for writing. Limitation: the owner's proof does not learn what is written; use
+    /// `as_mut_slots`.
+    pub fn as_mut_inner(&mut self) -> &mut [T]
+        ensures value { result.now ≡ slice_slots self.old }
+    {
+        self.as_mut_slots()
+    }
+
     /// Splits the slots at `at`. The vector keeps the slots before `at`, all in its list; the result has the later
     /// items and all spare slots. No slot is written. Limitation: the owner's proof does not learn which part is where;
     /// split `as_mut_slots()` by `split_at_mut` and make a vector over each part instead.

@@ -331,7 +331,7 @@ pub fn as_vec<A: Array>(v: TinyVec<A>) -> Result<Vec<A::Item>, AllocError>
 pub fn boxed<A: Array>(v: TinyVec<A>) -> Result<BoxedSlice<A::Item>, AllocError>
     ensures { IfOk result (λ out. boxed_slice_items out ≡ tiny_items_of A.Slots v) }
 {
-    Ok(v.into_boxed_slice()?)
+    v.into_boxed_slice()
 }
 
 /// A splice that has only begun has touched nothing.

@@ -1,6 +1,6 @@
 //! Finishing a splice: fill the gap, then close what is left of it, or rotate the surplus in. All of it is inlined, since
 //! calls would cost a short splice as much as its moves.
-ghost use Rattle.std.specs.Prelude.{◌≡◌, ◌+◌, ◌*◌, ◌-◌, ◌<◌, ◌≤◌, ◌++◌, List, Some, None, length, take, drop, slice_range, slice_set};
+ghost use Rattle.std.specs.Prelude.{◌≡◌, ◌+◌, ◌*◌, ◌-◌, ◌<◌, ◌≤◌, ◌++◌, List, Some, None, length, take, drop, slice_range, slice_set, true, All};
 ghost use Rattle.std.specs.Bool.{MatchBool};
 ghost use Rattle.std.specs.Iterator.{Drains, Yields, IsFinite};
 ghost use Rattle.tinyvec_slots.specs.Ranges.{Within};
@@ -36,23 +36,27 @@ impl Gap {
         self.front == self.back
     }
 
-    // Moves the items after the gap down over it, and returns the length of the list then. The caller empties the other slots,
-    // each a touch.
+    // Moves the items after the gap down over it, and returns the length of the list then. It empties the other slots, each by a
+    // touch, if `counted` says so.
     #[inline(always)]
-    pub(crate) fn close<T>(&mut self, slots: &mut [T]) -> usize
+    pub(crate) fn close<T: Default + Drop>(&mut self, slots: &mut [T], counted: bool) -> usize
         requires in_bounds { Within (gap_front self.old) (gap_back self.old) (length slots.old) }
-        requires few { FitsBits 80 (gap_touches self.old) }
+        requires few { FitsBits 70 (gap_touches self.old) }
         ensures len { result ≡ length slots.old - (gap_back self.old - gap_front self.old) }
         ensures kept { take result slots.new ≡ take (gap_front self.old) slots.old ++ drop (gap_back self.old) slots.old }
-        ensures touches { gap_touches self.new ≡ gap_touches self.old + (length slots.old - gap_front self.old) }
+        ensures emptied { counted ≡ true → All T.is_default (drop result slots.new) }
+        ensures touches { counted ≡ true
+            → gap_touches self.new ≡ gap_touches self.old + (length slots.old - gap_front self.old) }
     {
-        let gap = self.back - self.front;
+        let keep = slots.len() - (self.back - self.front);
         self.touches.close(slots, self.front, self.back);
-        self.touches.add(gap);
-        slots.len() - gap
+        if counted {
+            self.touches.empty(slots, keep);
+        }
+        keep
     }
 
-    // Moves the items from `end` on, which the caller appended, each with a touch, to where the gap was.
+    // Moves the items from `end` on, which were appended, to where the gap was.
     #[inline(always)]
     pub(crate) fn rotate_in<T>(&mut self, slots: &mut [T], end: usize)
         requires in_bounds { Within (gap_front self.old) end (length slots.old) }
@@ -60,23 +64,12 @@ impl Gap {
         ensures brought { slots.new ≡ take (gap_front self.old) slots.old ++ drop end slots.old
             ++ slice_range slots.old (gap_front self.old) end }
         ensures none { end ≡ length slots.old → gap_touches self.new ≡ gap_touches self.old }
-        ensures at_least { gap_touches self.old + (length slots.old - end) ≤ gap_touches self.new }
-        ensures at_most { gap_touches self.new
-            ≤ gap_touches self.old + (length slots.old - end) + (length slots.old - gap_front self.old) }
+        ensures at_least { gap_touches self.old ≤ gap_touches self.new }
+        ensures at_most { gap_touches self.new ≤ gap_touches self.old + (length slots.old - gap_front self.old) }
     {
-        let appended = slots.len() - end;
-        if appended > 0 {
+        if slots.len() > end {
             self.touches.rotate(slots, self.front, end);
         }
-        self.touches.add(appended);
-    }
-
-    // Counts `n` items that were moved to other slots.
-    pub(crate) fn count_moved(&mut self, n: usize)
-        requires few { FitsBits 120 (gap_touches self.old) }
-        ensures { gap_touches self.new ≡ gap_touches self.old + n }
-    {
-        self.touches.add(n);
     }
 }
 

@@ -1,4 +1,4 @@
-use Rattle.std.proofs.Common.{◌≡◌, ◌-◌, ◌≤◌, ◌++◌, length, take, drop, refl, sym, ap, ◌∙◌, zero-le, arith, length-append, take_at, drop_at}
+use Rattle.std.proofs.Common.{◌≡◌, ◌+◌, ◌-◌, ◌≤◌, ◌++◌, length, take, drop, refl, sym, ap, ◌∙◌, zero-le, arith, length-append, take_at, drop_at}
 use Rattle.tinyvec_slots.specs.Ranges.{removed}
 use Rattle.tinyvec_slots.proofs.DrainLemmas.{begins_as}
 use Rattle.tinyvec_array.specs.ArrayVec.{items_of, spare_of}
@@ -24,10 +24,11 @@ returns-clause-begins g c =
     let rest : drop n spare ≡ S = ap (drop n) cut.ensures.spare ∙ drop_at M S n cut.ensures.count in
     begins_as (drain_of g.S.Slots g.S.Item.Default.is_default) _ c.args.self _ _ _ _ _ _ c.drain_held.result c.drain_held.ensures.begins refl taken rest
     (λ u ended.
-    let left = ended.1 refl within in record {
+    let none_before : 0 + (n - 0) ≡ n = omega arith in
+    let left = ended.1 (omega (arith, within)) in record {
       lender = SameLender-then g.S.Slots c.args.self.now cut.new.self u cut.ensures.lender ended.0.0;
       items = ended.0.1 ∙ cut.ensures.items;
-      spare = (left.0, (left.1.0 ∙ none ∙ sym cut.ensures.count, left.1.1), left.2 ∙ ap (λ m. left.0 ++ drop m spare) none ∙ ap (λ xs. left.0 ++ xs) rest);
+      spare = (left.0, (left.1.0 ∙ none ∙ sym cut.ensures.count, left.1.1), left.2 ∙ ap (λ m. left.0 ++ drop m spare) none_before ∙ ap (λ xs. left.0 ++ xs) rest);
     })
 
 pub returns-clause-lender : goal.returns-clause-lender

@@ -24,7 +24,7 @@ lies_there : (gap : Gap) (ended : Bool) (len : ℕ) → GapCanStep gap ended len
 lies_there gap ended len can = (omega (arith, can.front_le_next, can.next_le_end, can.end_le_back), can.back_le_len, omega (arith, can.few))
 
 still_few : {T : Type 0} (gap : Gap) (ended : Bool) (xs : List T) → GapCanStep gap ended (length xs) → (slots : List T) (new : Gap) → length slots < 2 ^ 64 → slots ≡ xs
-    → gap_touches new ≡ gap_touches gap + 2 * (gap_front new - gap_front gap) → gap_front new ≤ gap_back gap → FitsBits 80 (gap_touches new)
+    → gap_touches new ≡ gap_touches gap + 2 * (gap_front new - gap_front gap) → gap_front new ≤ gap_back gap → FitsBits 70 (gap_touches new)
 still_few gap ended xs can slots new short shown touches order =
     let long = ap length shown in
     omega (arith, can.few, can.back_le_len)
@@ -70,11 +70,11 @@ module _ (g : _) (c : goal.After-drop-rest g) where
       tt (g.V.CanCut.items c.splice_stop.new.vec) (rw c.if-not-fill.true at c.fill.ensures.placed.3) c.splice_stop.ensures.items c.splice_stop.ensures.shorter.fits
 
 pub returns-then-not-fill-clause-touches : goal.returns-then-not-fill-clause-touches
-returns-then-not-fill-clause-touches g c =
+returns-then-not-fill-clause-touches g c = λ is.
     let xs = g.V.CanCut.items c.args.self.vec.now in
     let same = same_len g (filled g c) in
-    rw (c.touches.ensures, c.splice_stop.ensures.touches, c.fill.ensures.touches, same) (
-    touches_closed (old g (filled g c)) (length xs) (g.V.CanSplice.moved c.args.self.vec.now c.splice_stop.new.vec) (g.V.CanCut.items c.splice_stop.new.vec) (gap_front c.args.self.gap) (gap_back c.args.self.gap)
+    rw (c.touches.ensures, c.splice_stop.ensures.touches is, c.fill.ensures.touches, same) (
+    touches_closed (old g (filled g c)) (length xs) (g.V.CanCut.items c.splice_stop.new.vec) (gap_front c.args.self.gap) (gap_back c.args.self.gap)
     (length-take (gap_front c.args.self.gap) xs) (length-drop (gap_back c.args.self.gap) xs) c.requires.can.0.back_le_len
     (gap_front c.fill.new.self) c.fill.ensures.in_order.0 (rw c.if-not-fill.true at c.fill.ensures.filled) (rw (same, c.fill.ensures.back) at c.splice_stop.ensures.len))
 
@@ -116,17 +116,16 @@ module _ (g : _) (c : goal.After-touches-2 g) where
       finishes_with (fuse_steps g.I.Iterator.next_gives) _ (old g filled-2) (g.V.CanCut.items c.append_in-finished.new.vec) (fused_rest rest) (fused_first g.I.Iterator.next_gives rest shows) c.append_in-finished.result appended
 
 pub returns-clause-touches : goal.returns-clause-touches
-returns-clause-touches g c =
+returns-clause-touches g c = λ is.
     let xs = g.V.CanCut.items c.args.self.vec.now in
     let vec = refilled g (filled-2 g c) in
     let same = same_len g (filled-2 g c) in
     let met = c.append_in-finished.ensures in
     let at = (rw c.if-not-fill.false at c.fill.ensures.filled).0 in
-    let moved = g.met.V.CanSplice.kept_moved c.args.self.vec.now vec c.append_in-finished.new.vec c.append_in-finished.new.vec (is_written g (filled-2 g c)).1 (g.met.V.CanSplice.kept_same c.append_in-finished.new.vec) in
-    rw (c.touches-2.ensures, ← moved) (
-    touches_appended (old g (filled-2 g c)) (length xs) _ (g.V.CanCut.items c.append_in-finished.new.vec) (gap_front c.args.self.gap) (gap_back c.args.self.gap)
+    rw c.touches-2.ensures (
+    touches_appended (old g (filled-2 g c)) (length xs) (g.V.CanCut.items c.append_in-finished.new.vec) (gap_front c.args.self.gap) (gap_back c.args.self.gap)
     (length-take (gap_front c.args.self.gap) xs) (length-drop (gap_back c.args.self.gap) xs) c.requires.can.0.back_le_len
-    (rw at at c.fill.ensures.in_order.0) (rw same at (longer g c)) (rw at at c.fill.ensures.touches) (rw same at met.none) (rw same at met.at_least) (rw (same, at) at met.at_most))
+    (rw at at c.fill.ensures.in_order.0) (rw same at (longer g c)) (rw at at c.fill.ensures.touches) ((rw same at met.none) is) ((rw same at met.at_least) is) ((rw (same, at) at met.at_most) is))
 
 pub returns-clause-finish : goal.returns-clause-finish
 returns-clause-finish g c =
