@@ -1,9 +1,9 @@
 """Whether calls that docs/reference/costs.txt says never allocate are shown to, and bench/calls.txt names each public call.
 
-A call of a type with an allocator that costs.txt says never allocates, and that does not only read, has a row of its name that
-wants `0 requests`, or a test in a module `no_memory`; `tests/answers` counts them. bench/calls.txt has the row of the benchmarks
-of each call at 64 and 16,384 items. What the vectors share, the crate of slots and the traits of slots and arrays, is measured
-by the vectors' calls.
+A call of a type with an allocator that costs.txt says never allocates, and that does not only read, has a row of its name
+that wants `0 requests`, which `tests/answers` counts, or a test in a module `no_memory`. bench/calls.txt has the row of the
+benchmarks of each call at 64 and 16,384 items. What the vectors share, the crate of slots and the traits of slots and arrays,
+is measured by the vectors' calls.
 """
 import re
 
@@ -25,19 +25,22 @@ PREFIXES = {
 
 
 def faults():
-    functions = [(it.holder(), one) for crate in exports.LIBRARIES for it in exports.Crate(crate).exports() for one in it.functions()]
-    yield from faults_of_requests({f"{holder}::{it.name}": it.signature() for holder, it in functions if holder in WITH_ALLOCATOR})
-    yield from faults_of_bench({f"{holder}::{it.name}" for holder, it in functions if holder not in SHARED})
+    found = [it for crate in exports.LIBRARIES for it in exports.Crate(crate).exports()]
+    functions = [(it.holder(), f"{it.holder()}::{one.name}", one.signature()) for it in found for one in it.functions()]
+    yield from faults_of_requests({call: signature for holder, call, signature in functions if holder in WITH_ALLOCATOR})
+    yield from faults_of_bench({call for holder, call, _ in functions if holder not in SHARED})
 
 
 def faults_of_requests(signatures):
     tests = "".join(it.read_text(encoding="utf-8") for it in (exports.TOP / "crates").glob("*_tests/src/**/no_memory.rt"))
     chains = [it for path in (exports.TOP / "tests/cases").glob("*.txt") for it in rows.read_file(path)]
-    asked = ((re.match(r"\w+", it.kind)[0], call) for it in chains for _, call, wanted in it.calls if wanted.endswith("; 0 requests"))
-    shown = {f"{kind}::{call.split(' ')[0]}" for kind, call in asked}
-    for call, signature in ((it, signatures[it]) for it, (_, how) in reference.costs() if how == "never" and it in signatures):
-        yield from [f"costs.txt: {call} never allocates, but may fail for memory"] * bool(re.search("AllocError|NoMemory", signature))
-        is_shown = call in shown or re.search(rf"\b{call.split('::')[1]}\(", tests) or re.search(r"\(&self\b", signature)
+    asked = ((it.kind, call) for it in chains for _, call, wanted in it.calls if wanted.endswith("; 0 requests"))
+    shown = {(re.match(r"\w+", kind)[0], call.split(" ")[0]) for kind, call in asked}
+    for call in (it for it, (_, how) in reference.costs() if how == "never" and it in signatures):
+        may_fail = re.search("AllocError|NoMemory", signatures[call])
+        yield from [f"costs.txt: {call} never allocates, but may fail for memory"] * bool(may_fail)
+        kind, name = call.split("::")
+        is_shown = (kind, name) in shown or re.search(rf"\b{name}\(", tests) or "(&self" in signatures[call]
         yield from [f"no row or test shows that {call} makes no request for memory"] * (not is_shown)
 
 

@@ -1,13 +1,13 @@
 """Writes tests/clauses.txt, the lock: what each public call states.
 
-A line `CALL: SUM NAMES` has the names of the call's clauses, each also with the relations that it cites, as `room.Grows`, and a sum
-of what they state: of the clauses and ghost items, and of the definitions in `specs/` that these cite, and those that those
-cite, without comments and white space. std's words count by their names. A line `CRATE.specs.FILE.WORD: NAMES` has the fields
-of a relation that one of these reaches.
+A line `CALL: SUM NAMES` has the names of the call's clauses, each also with the relations that it cites, as `room.Grows`, and
+a sum of what they state: of the clauses and ghost items, and of the definitions in `specs/` that these cite, and those that
+those cite, without comments and white space. std's words count by their names. A line `CRATE.specs.FILE.WORD: NAMES` has the
+fields of a relation that one of these reaches.
 
-`tests/docs` names what the lock lacks and each sum that differs, which this writes, and each name that the sources lack, unless a
-line of the first part of CHANGELOG.md has it and its call or relation in backticks (of one that is gone, that alone). This keeps
-the names of those.
+`tests/docs` names what the lock lacks and each sum that differs, which this writes, and each name that the sources lack,
+unless a line of the first part of CHANGELOG.md has it and its call or relation in backticks (of one that is gone, that
+alone). This keeps the names of those.
 """
 import functools
 import hashlib
@@ -78,7 +78,8 @@ def found():
         reached = scope.reached(texts)
         text = "\n".join([*map(squeezed, texts), *sorted({squeezed(word.whole) for word in reached})])
         sums |= {key: hashlib.sha256(text.encode()).hexdigest()[:8]} if text else {}
-        names |= {f"{path(home.file)}.{it.name}": [field for field, _ in it.fields] for it, home in reached.items() if it.fields}
+        relations = ((f"{path(home.file)}.{it.name}", it.fields) for it, home in reached.items() if it.fields)
+        names |= {name: [field for field, _ in fields] for name, fields in relations}
     return names, sums
 
 
