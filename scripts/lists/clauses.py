@@ -31,7 +31,7 @@ def write():
     for line, its in kept(names, current).items():
         current[line] = sorted({*current.get(line, ()), *its})
     sums |= stated
-    lines = {line: " ".join([*[sums[line]] * (line in sums), *its]) for line, its in current.items()}
+    lines = {line: " ".join([*([sums[line]] if line in sums else []), *its]) for line, its in current.items()}
     LOCK.write_text("".join(f"{line}: {text}\n" for line, text in sorted(lines.items()) if text), encoding="utf-8")
 
 

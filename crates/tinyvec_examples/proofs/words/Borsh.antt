@@ -1,5 +1,5 @@
 -- Examples of the Borsh form, of contents that are bytes: each spells itself, and an input without a byte is cut.
-use Rattle.std.proofs.Common.{◌≡◌, ℕ, ◌<◌, List, [], ◌∷◌, Option, Some, None, Ok, Err, inl, refl, ap, length, length-append, rules, arith}
+use Rattle.std.proofs.Common.{◌≡◌, ℕ, ◌<◌, List, [], ◌∷◌, Option, Some, None, false, Ok, Err, inl, refl, ap, length, length-append, rules, arith}
 use Rattle.std.specs.Prelude.{IsUtf8}
 use Rattle.tinyvec_borsh.specs.Failed.{CountsIo}
 use Rattle.tinyvec_borsh.specs.Items.{SpellsItems, SpellsList, ListFits, AfterItems, InItem, ListReason, CountsAbove}
@@ -89,7 +89,7 @@ example-ReadsSpelling = (7 ∷ [], refl, search rules)
 
 -- a reader with these bytes left, or a writer that has taken them, without a fault
 abbrev pub holding : List ℕ → CountedView (List ℕ)
-holding bytes = record { inner = bytes; faults = 0; failed = 0 }
+holding bytes = record { inner = bytes; faults = 0; last_fault = None; failed = 0; flushed = false }
 
 abbrev pub known : List ℕ → Option (List ℕ)
 known bytes = Some bytes
