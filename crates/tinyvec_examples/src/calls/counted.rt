@@ -1,9 +1,9 @@
 //! Callers of a `Counted`.
 ghost use Rattle.std.specs.Io.{StartsWith};
-ghost use Rattle.std.specs.Prelude.{◌≡◌, ◌++◌, ◌↔◌, take, IfOk, OnOk, IsTrue};
+ghost use Rattle.std.specs.Prelude.{◌≡◌, ◌++◌, ◌↔◌, take, IfOk, OnOk, IsTrue, Some};
 
 use std::io;
-use std::io::{Read, Write};
+use std::io::{ErrorKind, Read, Write};
 use tinyvec_io::Counted;
 
 /// Copies the first bytes of the text, as many as fit, and returns their number.
@@ -19,6 +19,13 @@ pub fn is_without_fault<R: Read>(reader: &Counted<R>) -> bool
     ensures { IsTrue result ↔ (reader.now.faults ≡ 0) }
 {
     reader.faults() == 0
+}
+
+/// Whether the last fault is that nobody reads what is written any more.
+pub fn is_closed_pipe<W: Write>(writer: &Counted<W>) -> bool
+    ensures { IsTrue result ↔ (writer.now.last_fault ≡ Some ErrorKind.BrokenPipe) }
+{
+    writer.last_fault() == Some(ErrorKind::BrokenPipe)
 }
 
 /// Appends bytes to what a writer in memory has.
