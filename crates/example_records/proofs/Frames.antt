@@ -5,7 +5,7 @@ use Rattle.tinyvec_borsh.specs.declared.borsh_error.BorshError.TheVariants.{Ende
 use Rattle.tinyvec_borsh.specs.Number.{SpellsNumber, TooFewBytes}
 use Rattle.tinyvec_borsh.specs.TwoParts.{rest-so}
 use Rattle.tinyvec_borsh.specs.Reading.{Fails, MayBe, ReadsSpelling}
-use Rattle.tinyvec_borsh.specs.Items.{CountsAbove}
+use Rattle.tinyvec_borsh.specs.Items.{MayAllocate}
 use Rattle.tinyvec_borsh.proofs.AtFaults.{length_is_other, utf8_is_other}
 use Rattle.tinyvec_borsh.proofs.Counts.{never-too-long}
 use Rattle.tinyvec_borsh.proofs.ItemByItem.{maybe-any, maybe-behind, maybe-so}
@@ -25,7 +25,7 @@ too-many input long = elim long [
       | inl many ↦ record { content = s.content; valid = s.valid; parts = rest-so s.parts many }
       | inr item ↦ absurd (length_is_other.0 item.left.0)
     ]
-    | inr t ↦ absurd (never-too-long (SpellsNumber 1) (λ n. n < 2 ^ 8) (TooFewBytes 1) (CountsAbove 16) (λ input none. length_is_other.0 none.0) t.rest t.is_rest)
+    | inr t ↦ absurd (never-too-long (SpellsNumber 1) (λ n. n < 2 ^ 8) (TooFewBytes 1) (MayAllocate (SpellsNumber 1) (λ n. n < 2 ^ 8) 16) (λ input none. length_is_other.0 none.0) t.rest t.is_rest)
   ]
 ]
 

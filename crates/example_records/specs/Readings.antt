@@ -9,7 +9,7 @@ use Rattle.tinyvec_borsh.specs.Code.{IsCode}
 use Rattle.tinyvec_borsh.specs.Apart.{AreApart}
 use Rattle.tinyvec_borsh.specs.Number.{SpellsNumber, TooFewBytes}
 use Rattle.tinyvec_borsh.specs.NumberLaws.{number_apart, number_code, number_spelled}
-use Rattle.tinyvec_borsh.specs.Items.{CountsAbove, ListFits, ListReason, SpellsList}
+use Rattle.tinyvec_borsh.specs.Items.{ListFits, ListReason, MayAllocate, SpellsList, TinyReason}
 use Rattle.tinyvec_borsh.specs.ItemsLaws.{list_apart, list_code, list_spelled}
 use Rattle.tinyvec_borsh.specs.Both.{SpellsBoth, BothFit, InEither}
 use Rattle.tinyvec_borsh.specs.BothLaws.{both_apart, both_code, both_spelled}
@@ -56,7 +56,7 @@ SamplesReason = ListReason (SpellsNumber 2) (λ n. n < 2 ^ 16) (TooFewBytes 2) (
 
 -- memory is needed for a note of more than sixteen bytes
 abbrev pub NoteReason : BorshError → List ℕ → Type 0
-NoteReason = ListReason (SpellsNumber 1) (λ n. n < 2 ^ 8) (TooFewBytes 1) (CountsAbove 16) (2 ^ 64 - 1)
+NoteReason = TinyReason (SpellsNumber 1) (λ n. n < 2 ^ 8) (TooFewBytes 1) 16
 
 abbrev pub ListsReason : BorshError → List ℕ → Type 0
 ListsReason = InEither SpellsSamples SamplesFit SamplesReason NoteReason
@@ -87,7 +87,7 @@ note_code : IsCode SpellsNote
 note_code = list_code (SpellsNumber 1) (number_code 1 (lit< tt))
 
 note_apart : AreApart SpellsNote NoteFits NoteReason
-note_apart = list_apart (SpellsNumber 1) (number_code 1 (lit< tt)) (λ n. n < 2 ^ 8) (TooFewBytes 1) (number_apart 1 (lit< tt) (λ n. n < 2 ^ 8)) (CountsAbove 16) (2 ^ 64 - 1)
+note_apart = list_apart (SpellsNumber 1) (number_code 1 (lit< tt)) (λ n. n < 2 ^ 8) (TooFewBytes 1) (number_apart 1 (lit< tt) (λ n. n < 2 ^ 8)) (MayAllocate (SpellsNumber 1) (λ n. n < 2 ^ 8) 16) (2 ^ 64 - 1)
 
 note_spelled : (c : List ℕ) → NoteFits c → (bytes : List ℕ) × SpellsNote c bytes
 note_spelled = list_spelled (SpellsNumber 1) (λ n. n < 2 ^ 8) (number_spelled 1) (2 ^ 64 - 1)

@@ -100,11 +100,11 @@ IsOfContent e = (e ≢ Ended) × IsOfInput e
 module _ {IsCut : List ℕ → Type 0} (old new : Option (List ℕ)) (bytes : List ℕ) (taken : Consumes old new bytes) (needed : (front back : List ℕ) → 0 < length back → bytes ≡ front ++ back → IsCut front) where
   -- these were taken, and the call fails for what they are
   pub some-all : (e : BorshError) → IsOfContent e → TakesSome IsCut old new e
-  some-all e other = record { bytes = bytes; taken = taken; end = λ is. absurd (other.0 is); needed = needed; short = λ no. absurd (no other.1) }
+  some-all e other = record { bytes = bytes; taken = taken; end = λ is. absurd (other.0 is); needed = needed; short = λ io. absurd (subst IsOfInput io other.1) }
 
   -- or for want of memory
-  pub some-cut : IsCut bytes → TakesSome IsCut old new Memory
-  some-cut cut = record { bytes = bytes; taken = taken; end = λ is. cc; needed = needed; short = λ _. cut }
+  pub some-refused : TakesSome IsCut old new Memory
+  some-refused = record { bytes = bytes; taken = taken; end = λ is. cc; needed = needed; short = λ io. cc }
 
 pub length_is_other : IsOfContent InvalidLength
 length_is_other = (λ e. cc, tt)

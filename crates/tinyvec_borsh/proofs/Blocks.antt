@@ -1,6 +1,6 @@
 -- Items that are read into slots, a block at a time.
-use Rattle.std.proofs.Common.{◌≡◌, ◌∙◌, ap, sym, subst, ℕ, ◌+◌, ◌-◌, ◌<◌, ◌≤◌, List, [], ◌∷◌, ◌++◌, length, length-append, arith, Option, Err, map, take, slice_set, length-take-le, take_at}
-use Rattle.std.proofs.lemmas.List.{length-map, map-append, take_all, take_more_set}
+use Rattle.std.proofs.Common.{◌≡◌, ◌∙◌, ap, sym, subst, ℕ, ◌+◌, ◌-◌, ◌<◌, ◌≤◌, List, [], ◌∷◌, ◌++◌, length, length-append, arith, Bool, Option, Err, map, take, drop, slice_set, length-take-le, take_at, drop-drop, take-append-drop}
+use Rattle.std.proofs.lemmas.List.{drop-set-lt, length-map, map-append, take_all, take_more_set}
 use Rattle.std.specs.List.{AllByRecursion}
 use Rattle.std.proofs.lemmas.Slice.{take-put_mid}
 use borrow.Rule.Slice.PartMut.{put_mid}
@@ -9,7 +9,7 @@ use Rattle.tinyvec_borsh.specs.declared.borsh_error.BorshError.TheVariants.{Ende
 use Rattle.tinyvec_borsh.specs.Fronts.{FrontsAreCut}
 use Rattle.tinyvec_borsh.specs.FrontsLaws.{cut-items}
 use Rattle.tinyvec_borsh.specs.Items.{SpellsItems, AfterItems}
-use Rattle.tinyvec_borsh.specs.Reading.{FailsFor, ReadsSpelling}
+use Rattle.tinyvec_borsh.specs.Reading.{FailsFor, LeavesSlots, ReadsSpelling}
 use Rattle.tinyvec_io.specs.Counted.{CountedView}
 use Rattle.tinyvec_borsh.proofs.ItemByItem.{fails-after, fit-join, one-item, takes-items, takes-so}
 
@@ -45,6 +45,31 @@ module _ {C : Type 0} (Spells : C → List ℕ → Type 0) (Fits : C → Type 0)
   -- what is wrong with the next items is wrong with all that are to come
   pub of-more : (Reason : BorshError → List ℕ → Type 0) (k n : ℕ) → k ≤ n → (e : BorshError) (input : List ℕ) → AfterItems Spells Fits Reason k e input → AfterItems Spells Fits Reason n e input
   of-more Reason k n fewer e input t = record { items = t.items; fewer = omega (arith, t.fewer, fewer); fit = t.fit; parts = t.parts }
+
+-- lists that are the same from one place on are so from a later one on
+pub further : {T : Type 0} (a b : ℕ) (xs ys : List T) → drop a xs ≡ drop a ys → drop (a + b) xs ≡ drop (a + b) ys
+further a b xs ys same = sym (drop-drop b a xs) ∙ ap (drop b) same ∙ drop-drop b a ys
+
+-- a slot was read
+pub left-slot : {T : Type 0} (i : ℕ) (xs old : List T) (x : T) → drop i xs ≡ drop i old → drop (i + 1) (slice_set xs i x) ≡ drop (i + 1) old
+left-slot i xs old x same = drop-set-lt (i + 1) xs i x (omega arith) ∙ further i 1 xs old same
+
+-- the first i slots were read, and then it failed
+pub left-at : {T C : Type 0} (content : T → C) (Spells : C → List ℕ → Type 0) (Fits : C → Type 0) (in_place : Bool) (i : ℕ) (old now : List T) (was mid is : Option (List ℕ))
+    → TookItems Spells Fits (map content (take i now)) was mid → ReadsSpelling (λ _. Unit {0}) mid is → length now ≡ length old → i < length old → drop i now ≡ drop i old
+    → LeavesSlots content Spells Fits in_place old now was is
+left-at content Spells Fits in_place i old now was mid is t more same less kept =
+    let long = length-take-le i now (omega (arith, same, less)) in
+    record {
+      read = take i now;
+      rest = drop i now;
+      slots = sym (take-append-drop i now);
+      same_len = same;
+      some_left = omega (arith, long, less);
+      kept = λ _. kept ∙ ap (λ n. drop n old) (sym long);
+      fit = t.fit;
+      taken = (mid, t.taken, more);
+    }
 
 -- a list was made longer, and what was added was written
 pub grown : {T : Type 0} (start end : ℕ) (old more mid ws xs : List T) → length old ≡ start → start ≤ end → mid ≡ take end old ++ more → length ws ≡ end → take end ws ≡ take start mid ++ xs → ws ≡ old ++ xs

@@ -1,12 +1,13 @@
 -- Lists that are written and read item after item.
-use Rattle.std.proofs.Common.{◌≡◌, ◌∙◌, ap, sym, subst, ℕ, Bool, false, ◌+◌, ◌<◌, ◌≤◌, ◌⊎◌, inl, inr, List, [], ◌∷◌, ◌++◌, length, refl, arith, append-nil, length-append, Option, None, Some, Result, Ok, Err, le_refl, map, take, get_or}
+use Rattle.std.proofs.Common.{◌≡◌, ◌∙◌, ap, sym, subst, ℕ, Bool, false, ◌+◌, ◌-◌, ◌^◌, max, ◌<◌, ◌≤◌, ◌⊎◌, inl, inr, List, [], ◌∷◌, ◌++◌, length, refl, arith, append-nil, length-append, Option, None, Some, Result, Ok, Err, le_refl, map, take, get_or}
 use Rattle.std.proofs.lemmas.List.{map-append, map_more}
 use Rattle.std.specs.Io.KnownBytes.{Appends, Consumes}
 use Rattle.std.proofs.KnownBytes.{Appends-trans, Consumes-trans}
 use Rattle.std.specs.List.{AllByRecursion}
 use Rattle.tinyvec_borsh.specs.declared.borsh_error.BorshError.{BorshError}
 use Rattle.tinyvec_borsh.specs.declared.borsh_error.BorshError.TheVariants.{Ended, InvalidLength, InvalidUtf8, Io, Memory}
-use Rattle.tinyvec_borsh.specs.Items.{AfterItems, IsCount, SpellsItems, SpellsList, HasItems, InItem, HasTooMany, CountsAbove, ListReason}
+use Rattle.tinyvec_borsh.specs.Items.{AfterItems, IsCount, SpellsItems, SpellsList, HasItems, InItem, HasTooMany, CountsAbove, ListReason, MayAllocate, TinyReason}
+use Rattle.tinyvec_borsh.specs.Both.{IsBehind}
 use Rattle.tinyvec_borsh.specs.Fronts.{FrontsAreCut}
 use Rattle.tinyvec_borsh.specs.FrontsLaws.{counted-fronts, cut-place}
 use Rattle.tinyvec_borsh.specs.Number.{TooFewBytes}
@@ -66,11 +67,11 @@ module _ {IsCut All : List ℕ → Type 0} where
       | inl f ↦ firsts front f.0 f.2 f.1
       | inr s ↦ subst All (sym s.1) (cut s.0 (t.needed s.0 back some s.2))
     ];
-    short = λ no. cut t.bytes (t.short no);
+    short = λ io. cut t.bytes (t.short io);
   }
 
   some-so : (old new : Option (List ℕ)) (e : BorshError) → ((bytes : List ℕ) → IsCut bytes → All bytes) → TakesSome IsCut old new e → TakesSome All old new e
-  some-so old new e cut t = record { bytes = t.bytes; taken = t.taken; end = t.end; needed = λ front back some is. cut front (t.needed front back some is); short = λ no. cut t.bytes (t.short no) }
+  some-so old new e cut t = record { bytes = t.bytes; taken = t.taken; end = t.end; needed = λ front back some is. cut front (t.needed front back some is); short = λ io. cut t.bytes (t.short io) }
 
 module _ {R T U : Type 0} {remaining : R → Option (List ℕ)} {Inner Outer : BorshError → List ℕ → Type 0} {old mid new : CountedView R} {e : BorshError} where
   -- a reading failed behind what was read
@@ -213,8 +214,23 @@ module _ {C : Type 0} (Spells : C → List ℕ → Type 0) where
         let q : HasParts (IsCount n) (HasParts (SpellsItems Spells cs) (λ _. Unit {0})) input = group-rest p in
         (n, above, rest-so q tt)
 
-    pub counts-above : (most n : ℕ) (cs : List C) (old new : Option (List ℕ)) → WasRead n cs old new → most < n → MayBe old (CountsAbove most)
-    counts-above most n cs old new w above = maybe-behind old new (λ _. Unit {0}) _ w.taken (above-count most n cs above) (maybe-any new)
+    -- room ahead is wanting
+    pub wants-ahead : (slots n : ℕ) (cs : List C) (old new : Option (List ℕ)) → WasRead n cs old new → slots < n → slots < 1024 → MayBe old (MayAllocate Spells Fits slots)
+    wants-ahead slots n cs old new w above few = maybe-behind old new (λ _. Unit {0}) _ w.taken (λ input p. inl (few, above-count slots n cs above input p)) (maybe-any new)
+
+    -- an item came that finds no room
+    outgrows : (slots n : ℕ) (cs : List C) → AllByRecursion Fits cs → max slots 1024 ≤ length cs → length cs < n → (input : List ℕ)
+        → HasParts (HasParts (IsCount n) (SpellsItems Spells cs)) (IsBehind Spells Fits (λ _. Unit {0})) input → MayAllocate Spells Fits slots input
+    outgrows slots n cs fit most more input p =
+        let next = p.is_rest in
+        let q : HasParts (HasParts (HasParts (IsCount n) (SpellsItems Spells cs)) (SpellsItems Spells (next.content ∷ []))) (λ _. Unit {0}) input =
+            group-first (rest-so p (first-so next.parts (one-item next.content next.first next.is_first))) in
+        let long = length-append cs (next.content ∷ []) in
+        inr (record {
+          has = has-items n (cs ++ next.content ∷ []) input (fit-more Fits cs next.content fit next.valid) (first-so q (list-join n cs (next.content ∷ []) q.first q.is_first));
+          over = omega (arith, long, most);
+          few = omega (arith, long, more);
+        })
 
     module _ (Reason : BorshError → List ℕ → Type 0) (Allocates : List ℕ → Type 0) (room : ℕ) {R T U : Type 0} {remaining : R → Option (List ℕ)} {e : BorshError} where
       -- the count was not read
@@ -235,15 +251,15 @@ module _ {C : Type 0} (Spells : C → List ℕ → Type 0) where
         fails-block k more few grows same failed =
             fails-after (HasParts (IsCount n) (SpellsItems Spells cs)) w.taken grows same (counted-fronts Spells Fits (Reason Ended) fronts room n cs (omega (arith, more)) (omega (arith, few)) w.fit) (λ f input p. inr (in-block Reason f room n k cs w.fit more few input p)) failed
 
-    module _ (Reason : BorshError → List ℕ → Type 0) (fronts : FrontsAreCut Spells Fits (Reason Ended)) (most room n k : ℕ) (cs : List C) (Wanting : Type 0) {R T U : Type 0} {remaining : R → Option (List ℕ)} {old mid new : CountedView R} {e : BorshError} where
-      -- a block was not read, or memory for it was wanting, since the count is above this
-      pub fails-wanting : WasRead n cs (remaining old.inner) (remaining mid.inner) → length cs + k ≤ n → length cs + k ≤ room + 1 → old.faults ≤ mid.faults → mid.failed ≡ old.failed → (Wanting → most < n)
-          → FailsFor {T = T} remaining (λ f input. AfterItems Spells Fits Reason k f input ⊎ ((f ≡ Memory) × Wanting)) mid new (Err e)
-          → FailsFor {T = U} remaining (ListReason Spells Fits Reason (CountsAbove most) room) old new (Err e)
-      fails-wanting w more few grows same above failed =
-          fails-after (HasParts (IsCount n) (SpellsItems Spells cs)) w.taken grows same (counted-fronts Spells Fits (Reason Ended) fronts room n cs (omega (arith, more)) (omega (arith, few)) w.fit) (λ f input p. elim p.is_rest [
-            | inl so ↦ inr (in-block Reason f room n k cs w.fit more few input (rest-so p so))
-            | inr wanting ↦ subst (λ f. ListReason Spells Fits Reason (CountsAbove most) room f input) (sym wanting.0) (inl (above-count most n cs (above wanting.1) input (rest-so p tt)))
+    module _ (Reason : BorshError → List ℕ → Type 0) (fronts : FrontsAreCut Spells Fits (Reason Ended)) (slots n k : ℕ) (cs : List C) (IsFull : Type 0) {R T U : Type 0} {remaining : R → Option (List ℕ)} {old mid new : CountedView R} {e : BorshError} where
+      -- an item was not read, or came and found no room
+      pub fails-wanting : WasRead n cs (remaining old.inner) (remaining mid.inner) → length cs + k ≤ n → length cs < n → n < 2 ^ 64 → old.faults ≤ mid.faults → mid.failed ≡ old.failed → (IsFull → max slots 1024 ≤ length cs)
+          → FailsFor {T = T} remaining (λ f input. AfterItems Spells Fits Reason k f input ⊎ ((f ≡ Memory) × IsFull × IsBehind Spells Fits (λ _. Unit {0}) input)) mid new (Err e)
+          → FailsFor {T = U} remaining (TinyReason Spells Fits Reason slots) old new (Err e)
+      fails-wanting w more less counted grows same full failed =
+          fails-after (HasParts (IsCount n) (SpellsItems Spells cs)) w.taken grows same (counted-fronts Spells Fits (Reason Ended) fronts (2 ^ 64 - 1) n cs (omega (arith, less)) (omega (arith, less, counted)) w.fit) (λ f input p. elim p.is_rest [
+            | inl so ↦ inr (in-block Reason f (2 ^ 64 - 1) n k cs w.fit more (omega (arith, more, counted)) input (rest-so p so))
+            | inr wanting ↦ subst (λ f. TinyReason Spells Fits Reason slots f input) (sym wanting.0) (inl (outgrows slots n cs w.fit (full wanting.1) less input (rest-so p wanting.2)))
           ]) failed
 
     module _ (room n : ℕ) (cs : List C) (old : Option (List ℕ)) where

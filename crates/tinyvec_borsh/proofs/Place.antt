@@ -1,5 +1,5 @@
 -- Where a vector lies that is read item after item.
-use Rattle.std.proofs.Common.{◌≡◌, ◌∙◌, ◌*◌, max, Bool, true, if◌then◌else◌, sym, subst, IsTrue, ◌<◌, ◌≤◌, ◌-◌, ◌++◌, [], drop, ◌↔◌, inl, inr, ℕ, arith, false, Result, Err, IsOk, is_ok, ap}
+use Rattle.std.proofs.Common.{◌≡◌, ◌∙◌, ◌*◌, max, min, Bool, true, if◌then◌else◌, sym, subst, IsTrue, ◌<◌, ◌≤◌, ◌-◌, ◌++◌, [], drop, ◌↔◌, inl, inr, ℕ, arith, false, Result, Err, IsOk, is_ok, ap}
 use Rattle.std.proofs.lemmas.List.{nil_from_length, length-drop}
 use Rattle.std.proofs.lemmas.List.Elements.{All-drop}
 use Rattle.tinyvec_slots.specs.Slots.{AreDefaults}
@@ -50,16 +50,9 @@ module _ {T : Type 0} where
     | inr room ↦ omega (arith, kept.same_room room)
   ]
 
-  -- room is wanting only where more items are to come than the array has room for
-  pub wanting-above : (slots n : ℕ) (v : TinyView T) → view_capacity v < n → (ViewInline v → view_capacity v ≡ slots) → IsPlaced slots n v → slots < n
-  wanting-above slots n v wanting inline place = elim (cases_lt slots n) [
-    | inl above ↦ above
-    | inr fits ↦ absurd (omega (arith, wanting, fits, inline (place.all_fit fits)))
-  ]
-
--- room ahead is refused only where more items are to come than the array has room for
-pub refused-above : {X E : Type 0} (slots n ahead : ℕ) (r : Result X E) (e : E) → r ≡ Err e → ahead ≤ n → (ahead ≤ slots → IsOk r) → slots < n
-refused-above slots n ahead r e is some succeeds = elim (cases_lt slots n) [
-  | inl above ↦ above
-  | inr fits ↦ absurd (both_ways (is_ok r) (ap is_ok is) (succeeds (omega (arith, some, fits))))
+-- room ahead, for at most 1024 items, is refused only where the array has not as many slots, and not for all items
+pub refused-ahead : {X E : Type 0} (slots n ahead : ℕ) (r : Result X E) (e : E) → r ≡ Err e → ahead ≡ min n 1024 → (ahead ≤ slots → IsOk r) → (slots < n) × (slots < 1024)
+refused-ahead slots n ahead r e is some succeeds = elim (cases_lt slots ahead) [
+  | inl above ↦ (omega (arith, some, above), omega (arith, some, above))
+  | inr fits ↦ absurd (both_ways (is_ok r) (ap is_ok is) (succeeds fits))
 ]

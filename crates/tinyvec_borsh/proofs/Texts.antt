@@ -3,7 +3,7 @@ use Rattle.std.proofs.Common.{◌≢◌, ℕ, ◌-◌, ◌^◌, ◌<◌, inl, in
 use Rattle.tinyvec_borsh.specs.declared.borsh_error.BorshError.{BorshError}
 use Rattle.tinyvec_borsh.specs.declared.borsh_error.BorshError.TheVariants.{Ended, InvalidLength, InvalidUtf8, Io, Memory}
 use Rattle.tinyvec_borsh.specs.Both.{IsBehind}
-use Rattle.tinyvec_borsh.specs.Items.{CountsAbove, ListReason}
+use Rattle.tinyvec_borsh.specs.Items.{TinyReason}
 use Rattle.tinyvec_borsh.specs.Number.{SpellsNumber, TooFewBytes}
 use Rattle.tinyvec_borsh.specs.Reading.{Fails, MayBe, ReadsSpelling}
 use Rattle.tinyvec_borsh.specs.Text.{AreNoText, SpellsText, TextReason}
@@ -12,7 +12,7 @@ use Rattle.tinyvec_borsh.proofs.ItemByItem.{maybe-any, maybe-behind}
 
 -- why a list of bytes is not read
 abbrev pub BytesReason : ℕ → BorshError → List ℕ → Type 0
-BytesReason slots = ListReason (SpellsNumber 1) (λ n. n < 2 ^ 8) (TooFewBytes 1) (CountsAbove slots) (2 ^ 64 - 1)
+BytesReason slots = TinyReason (SpellsNumber 1) (λ n. n < 2 ^ 8) (TooFewBytes 1) slots
 
 never-text : (slots : ℕ) (input : List ℕ) → BytesReason slots InvalidUtf8 input → ⊥
 never-text slots input given = elim given [ inl none ↦ none | inr item ↦ utf8_is_other.0 item.left.0 ]

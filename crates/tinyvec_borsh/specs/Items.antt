@@ -1,5 +1,5 @@
 -- Lists as bytes: the count, and then the items.
-use Rattle.std.specs.Prelude.{◌≡◌, ℕ, ◌+◌, ◌^◌, ◌<◌, ◌≤◌, ◌⊎◌, List, [], ◌∷◌, ◌++◌, length}
+use Rattle.std.specs.Prelude.{◌≡◌, ℕ, ◌+◌, ◌-◌, ◌^◌, ◌<◌, ◌≤◌, ◌⊎◌, List, [], ◌∷◌, ◌++◌, length, max}
 use Rattle.std.specs.List.{AllByRecursion}
 use Rattle.tinyvec_borsh.specs.Number.{SpellsNumber}
 use Rattle.tinyvec_borsh.specs.TwoParts.{HasParts}
@@ -9,6 +9,10 @@ use Rattle.tinyvec_borsh.specs.declared.borsh_error.BorshError.TheVariants.{Ende
 -- eight bytes whose value, least first, is the count
 abbrev pub IsCount : ℕ → List ℕ → Type 0
 IsCount n bytes = SpellsNumber 8 n bytes
+
+-- the count is more than `most`
+abbrev pub CountsAbove : ℕ → List ℕ → Type 0
+CountsAbove most input = (n : ℕ) × (most < n) × HasParts (IsCount n) (λ _. Unit {0}) input
 
 module _ {C : Type 0} (Spells : C → List ℕ → Type 0) where
   -- the spellings of the items, one after another
@@ -66,6 +70,18 @@ module _ {C : Type 0} (Spells : C → List ℕ → Type 0) (Fits : C → Type 0)
     pub over : length items ≡ room + 1
     pub above : room < len
 
+  -- More items than this were spelled, and the count is no less.
+  pub record HasMoreItems (most : ℕ) (input : List ℕ) : Type 0 where
+    pub has : HasItems input
+    pub open has use *
+    pub over : most < length items
+    pub few : length items ≤ len
+
+  -- Reading a list into an array of that many slots may allocate: room ahead, for at most 1024 items, if the array has not even that; or
+  -- more, once an item came that neither the array nor that room has a place for.
+  abbrev pub MayAllocate : (slots : ℕ) → List ℕ → Type 0
+  MayAllocate slots input = ((slots < 1024) × CountsAbove slots input) ⊎ HasMoreItems (max slots 1024) input
+
   -- The input ends before the last byte of the count. The list is too long. Room for the items is to be allocated.
   abbrev pub OfList : (Allocates : List ℕ → Type 0) (room : ℕ) → BorshError → List ℕ → Type 0
   OfList Allocates room Ended input = length input < 8
@@ -77,6 +93,6 @@ module _ {C : Type 0} (Spells : C → List ℕ → Type 0) (Fits : C → Type 0)
   abbrev pub ListReason : (Reason : BorshError → List ℕ → Type 0) (Allocates : List ℕ → Type 0) (room : ℕ) → BorshError → List ℕ → Type 0
   ListReason Reason Allocates room error input = OfList Allocates room error input ⊎ InItem (Reason error) room input
 
--- the count is more than `most`
-abbrev pub CountsAbove : ℕ → List ℕ → Type 0
-CountsAbove most input = (n : ℕ) × (most < n) × HasParts (IsCount n) (λ _. Unit {0}) input
+  -- the reason of a list that an array of that many slots or an allocation holds
+  abbrev pub TinyReason : (Reason : BorshError → List ℕ → Type 0) (slots : ℕ) → BorshError → List ℕ → Type 0
+  TinyReason Reason slots = ListReason Reason (MayAllocate slots) (2 ^ 64 - 1)

@@ -1,7 +1,7 @@
 -- A text as bytes: the list of its bytes, which are UTF-8.
 use Rattle.std.specs.Prelude.{ℕ, ◌-◌, ◌^◌, ◌<◌, List, IsUtf8}
 use Rattle.tinyvec_borsh.specs.Both.{IsBehind}
-use Rattle.tinyvec_borsh.specs.Items.{CountsAbove, ListFits, ListReason, SpellsList}
+use Rattle.tinyvec_borsh.specs.Items.{ListFits, SpellsList, TinyReason}
 use Rattle.tinyvec_borsh.specs.Number.{SpellsNumber, TooFewBytes}
 use Rattle.tinyvec_borsh.specs.declared.borsh_error.BorshError.{BorshError}
 use Rattle.tinyvec_borsh.specs.declared.borsh_error.BorshError.TheVariants.{InvalidUtf8}
@@ -25,4 +25,4 @@ AreNoText bytes = AreBytes bytes × (IsUtf8 bytes → ⊥)
 -- The input begins with bytes that are not UTF-8. The other reasons are those of a list of bytes, with an array of that many slots.
 abbrev pub TextReason : (slots : ℕ) → BorshError → List ℕ → Type 0
 TextReason slots InvalidUtf8 input = IsBehind SpellsText AreNoText (λ rest. Unit {0}) input
-TextReason slots error input = ListReason (SpellsNumber 1) (λ n. n < 2 ^ 8) (TooFewBytes 1) (CountsAbove slots) (2 ^ 64 - 1) error input
+TextReason slots error input = TinyReason (SpellsNumber 1) (λ n. n < 2 ^ 8) (TooFewBytes 1) slots error input

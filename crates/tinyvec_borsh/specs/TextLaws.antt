@@ -3,7 +3,7 @@ use Rattle.std.proofs.Common.{◌≡◌, subst, ℕ, ◌-◌, ◌^◌, ◌<◌, 
 use Rattle.tinyvec_borsh.specs.Apart.{AreApart, IsOfInput}
 use Rattle.tinyvec_borsh.specs.Both.{IsBehind}
 use Rattle.tinyvec_borsh.specs.Code.{IsCode}
-use Rattle.tinyvec_borsh.specs.Items.{CountsAbove, ListReason}
+use Rattle.tinyvec_borsh.specs.Items.{MayAllocate, TinyReason}
 use Rattle.tinyvec_borsh.specs.ItemsLaws.{list_apart, list_code, list_spelled, same-item}
 use Rattle.tinyvec_borsh.specs.Number.{SpellsNumber, TooFewBytes}
 use Rattle.tinyvec_borsh.specs.NumberLaws.{number_apart, number_code, number_spelled}
@@ -18,8 +18,8 @@ pub text_spelled : (c : List ℕ) → TextFits c → (bytes : List ℕ) × Spell
 text_spelled c fits = list_spelled (SpellsNumber 1) (λ n. n < 2 ^ 8) (number_spelled 1) (2 ^ 64 - 1) c fits.0
 
 module _ (slots : ℕ) where
-  pub bytes_apart : AreApart SpellsText AreBytes (ListReason (SpellsNumber 1) (λ n. n < 2 ^ 8) (TooFewBytes 1) (CountsAbove slots) (2 ^ 64 - 1))
-  bytes_apart = list_apart (SpellsNumber 1) (number_code 1 (lit< tt)) (λ n. n < 2 ^ 8) (TooFewBytes 1) (number_apart 1 (lit< tt) (λ n. n < 2 ^ 8)) (CountsAbove slots) (2 ^ 64 - 1)
+  pub bytes_apart : AreApart SpellsText AreBytes (TinyReason (SpellsNumber 1) (λ n. n < 2 ^ 8) (TooFewBytes 1) slots)
+  bytes_apart = list_apart (SpellsNumber 1) (number_code 1 (lit< tt)) (λ n. n < 2 ^ 8) (TooFewBytes 1) (number_apart 1 (lit< tt) (λ n. n < 2 ^ 8)) (MayAllocate (SpellsNumber 1) (λ n. n < 2 ^ 8) slots) (2 ^ 64 - 1)
 
   fits-or-refused : (e : BorshError) → IsOfInput e → (c : List ℕ) (bytes rest : List ℕ) → TextFits c → SpellsText c bytes → TextReason slots e (bytes ++ rest) → ⊥
   fits-or-refused Ended of c bytes rest fits p refused = bytes_apart.fits_or_refused Ended of c bytes rest fits.0 p refused
@@ -31,8 +31,8 @@ module _ (slots : ℕ) where
   fits-or-refused Memory of c bytes rest fits p refused = of
 
   -- bytes that are no text are not cut or too many
-  no-text-alone : (e : BorshError) → IsOfInput e → (input : List ℕ) → IsBehind SpellsText AreNoText (λ rest. Unit {0}) input → ListReason (SpellsNumber 1) (λ n. n < 2 ^ 8) (TooFewBytes 1) (CountsAbove slots) (2 ^ 64 - 1) e input → ⊥
-  no-text-alone e of input r s = bytes_apart.fits_or_refused e of r.content r.first r.rest r.valid.0 r.is_first (subst (ListReason (SpellsNumber 1) (λ n. n < 2 ^ 8) (TooFewBytes 1) (CountsAbove slots) (2 ^ 64 - 1) e) r.whole s)
+  no-text-alone : (e : BorshError) → IsOfInput e → (input : List ℕ) → IsBehind SpellsText AreNoText (λ rest. Unit {0}) input → TinyReason (SpellsNumber 1) (λ n. n < 2 ^ 8) (TooFewBytes 1) slots e input → ⊥
+  no-text-alone e of input r s = bytes_apart.fits_or_refused e of r.content r.first r.rest r.valid.0 r.is_first (subst (TinyReason (SpellsNumber 1) (λ n. n < 2 ^ 8) (TooFewBytes 1) slots e) r.whole s)
 
   one-reason : (e f : BorshError) → IsOfInput e → IsOfInput f → (input : List ℕ) → TextReason slots e input → TextReason slots f input → e ≡ f
   one-reason InvalidUtf8 InvalidUtf8 of_e of_f input r s = refl

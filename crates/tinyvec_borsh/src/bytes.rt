@@ -2,7 +2,7 @@
 ghost use Rattle.std.specs.Prelude.{◌≡◌, ◌<◌, ◌≤◌, length, IfErr, OnErr, OnOk};
 ghost use Rattle.std.specs.Io.KnownBytes.{Appends, Consumes};
 ghost use Rattle.std.specs.List.{AllByRecursion};
-ghost use Rattle.tinyvec_io.specs.Counted.{AppendsFront, Reported};
+ghost use Rattle.tinyvec_io.specs.Counted.{AppendsFront, ConsumesFront, Reported};
 ghost use Rattle.tinyvec_borsh.specs.Failed.{CountsIo};
 ghost use Rattle.tinyvec_borsh.specs.Reading.{FailsFor, FewBytes};
 
@@ -15,6 +15,7 @@ pub(crate) fn read_bytes<R: Read>(reader: &mut Counted<R>, buf: &mut [u8]) -> Re
     ensures ok { OnOk result (Consumes (R.remaining reader.old.inner) (R.remaining reader.new.inner) buf.new) }
     ensures small { OnOk result (AllByRecursion (λ byte. byte < 256) buf.new) }
     ensures fails { FailsFor R.remaining (FewBytes (length buf.old)) reader.old reader.new result }
+    ensures front { OnErr result (ConsumesFront (R.remaining reader.old.inner) (R.remaining reader.new.inner) buf.new) }
 {
     match reader.fill(buf) {
         Ok(count) if count < buf.len() => Err(BorshError::Ended),

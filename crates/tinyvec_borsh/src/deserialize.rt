@@ -1,8 +1,8 @@
 //! Reading.
-ghost use Rattle.std.specs.Prelude.{ℕ, List, length, map, IfOk, OnOk};
+ghost use Rattle.std.specs.Prelude.{ℕ, Bool, false, List, length, map, IfOk, OnErr, OnOk};
 ghost use Rattle.std.specs.List.{AllByRecursion};
 ghost use Rattle.tinyvec_borsh.specs.Items.{AfterItems, SpellsItems};
-ghost use Rattle.tinyvec_borsh.specs.Reading.{FailsFor, ReadsSpelling};
+ghost use Rattle.tinyvec_borsh.specs.Reading.{FailsFor, LeavesSlots, ReadsSpelling};
 ghost use Rattle.tinyvec_borsh.specs.Apart.{AreApart};
 ghost use Rattle.tinyvec_borsh.specs.declared.borsh_error.BorshError.{BorshError};
 
@@ -28,6 +28,9 @@ pub trait BorshDeserialize: BorshForm + Sized {
         ensures valid { IfOk result (λ v. Self.Fits (Self.content_of v)) }
         ensures fails { FailsFor R.remaining Reason reader.old reader.new result };
 
+    // Whether `deserialize_slots` hands the slots themselves to the reader, which may write behind what it says that it read.
+    ghost in_place: { Bool } = { false };
+
     /// Reads a value into each slot, one after the other.
     fn deserialize_slots<R: Read>(
         alloc: Global,
@@ -41,6 +44,8 @@ pub trait BorshDeserialize: BorshForm + Sized {
         ensures valid { OnOk result (AllByRecursion Self.Fits (map Self.content_of slots.new)) }
         ensures fails { FailsFor R.remaining (AfterItems Self.Spells Self.Fits Reason (length slots.old))
             reader.old reader.new result }
+        ensures left { OnErr result (LeavesSlots Self.content_of Self.Spells Self.Fits in_place slots.old slots.new
+            (R.remaining reader.old.inner) (R.remaining reader.new.inner)) }
     {
         for i in 0..slots.len() {
             slots[i] = Self::deserialize_reader(alloc, reader)?;

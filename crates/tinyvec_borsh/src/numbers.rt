@@ -44,6 +44,8 @@ impl<T: Number> BorshSerialize for T {
 impl<T: Number> BorshDeserialize for T {
     ghost Reason = { TooFewBytes (byte_len T.form.width) };
 
+    ghost in_place = { T.in_place };
+
     ghost apart = { apart_by_length (byte_len T.form.width) (bytes-of T.form.width).1
         T.form.Spells T.form.Fits T.form.many };
 

@@ -1,5 +1,5 @@
 -- Texts that are extended piece by piece.
-use Rattle.std.proofs.Common.{◌≡◌, ◌∙◌, ℕ, ◌+◌, ◌*◌, ◌<◌, ◌≤◌, ◌↔◌, inl, inr, max, Bool, false, IsTrue, if◌then◌else◌, List, [], ◌∷◌, ◌++◌, Option, Some, length, length-append, append-nil, encode_utf8, nat_le, ◌&&◌, refl, sym, ap, arith}
+use Rattle.std.proofs.Common.{◌≡◌, ◌∙◌, ℕ, ◌+◌, ◌*◌, ◌<◌, ◌≤◌, ◌↔◌, inl, inr, max, Bool, false, IsTrue, if◌then◌else◌, List, [], ◌∷◌, ◌++◌, Option, Some, length, length-append, append-nil, encode_utf8, nat_le, ◌&&◌, refl, sym, subst, ap, arith}
 use Rattle.std.specs.List.{flat_map}
 use Rattle.std.specs.Str.{encode_utf8_all}
 use Rattle.std.proofs.iter.Yields.{gives_left}
@@ -94,7 +94,10 @@ module _ {T : Type 0} (p : Pieces T) (slots : ℕ) where
   pub refused_at : {old mid new : Text} {xs : List T} (x : T) → Pushed old mid xs → Unchanged (text_view mid) (text_view new)
       → capacity_in mid.place < text_len mid + length (p.spell x)
       → (new.bytes ≡ old.bytes ++ p.whole xs) × (capacity_in new.place < text_len new + length (p.spell x))
-  refused_at x h same full = grind (arith, common_steps, h.bytes)
+      × (new.place ≡ place_after p.moves p.spell (text_len old) old.place xs)
+  refused_at {old} {mid} {new} {xs} x h same full =
+      let told : (new.bytes ≡ old.bytes ++ p.whole xs) × (capacity_in new.place < text_len new + length (p.spell x)) = grind (arith, common_steps, h.bytes) in
+      (told.0, told.1, one_place new.place mid.place same.place same.capacity ∙ h.place)
 
   -- no piece is refused if all pieces that come are known, and fit
   pub all_fit : {S : Type 0} (steps : S → Option T → S → Type 0) (s u : S) {old mid : Text} {xs : List T} (x : T) (all : List T) → Pushed old mid xs
@@ -113,5 +116,12 @@ module _ {T : Type 0} (p : Pieces T) (slots : ℕ) where
     gathered xs told = let at = one_place old.place (in_array slots) inline room in (cc, cc, collected slots old new inline room h)
 
     pub lacked : (xs : List T) (x : T) → (new.bytes ≡ old.bytes ++ p.whole xs) × (capacity_in new.place < text_len new + length (p.spell x))
-        → slots < length (p.whole xs) + length (p.spell x)
-    lacked xs x told = grind (arith, common_steps)
+        × (new.place ≡ place_after p.moves p.spell (text_len old) old.place xs)
+        → (slots < length (p.whole xs) + length (p.spell x))
+        × (capacity_in (place_after p.moves p.spell 0 (in_array slots) xs) < length (p.whole xs) + length (p.spell x))
+    lacked xs x told =
+        let at = one_place old.place (in_array slots) inline room in
+        let bytes : new.bytes ≡ p.whole xs = cc in
+        let place : new.place ≡ place_after p.moves p.spell 0 (in_array slots) xs = cc in
+        let more : capacity_in new.place < length (p.whole xs) + length (p.spell x) = subst (λ bs. capacity_in new.place < length bs + length (p.spell x)) bytes told.1 in
+        (grind (arith, common_steps), subst (λ q. capacity_in q < length (p.whole xs) + length (p.spell x)) place more)

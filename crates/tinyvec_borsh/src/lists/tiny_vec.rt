@@ -4,7 +4,8 @@ ghost use Rattle.std.specs.List.{AllByRecursion};
 ghost use Rattle.tinyvec_slots.specs.Slots.{AreDefaults};
 ghost use Rattle.tinyvec.specs.TinyVec.{IsInline, tiny_items_of, tiny_len_of, tiny_spare_of, tiny_view_of, tiny_capacity_of};
 ghost use Rattle.tinyvec.specs.View.{PlaceRule, TinySlotRule};
-ghost use Rattle.tinyvec_borsh.specs.Items.{AfterItems, CountsAbove, ListFits, ListReason};
+ghost use Rattle.tinyvec_borsh.specs.Both.{IsBehind};
+ghost use Rattle.tinyvec_borsh.specs.Items.{AfterItems, ListFits, MayAllocate, TinyReason};
 ghost use Rattle.tinyvec_borsh.specs.Items.{SpellsItems, SpellsList};
 ghost use Rattle.tinyvec_borsh.specs.ItemsLaws.{list_apart, list_code, list_spelled};
 ghost use Rattle.tinyvec_borsh.specs.Reading.{FailsFor, ReadsSpelling};
@@ -17,12 +18,15 @@ use std::mem;
 use tinyvec::{Array, Slots, TinyVec};
 use tinyvec_io::Counted;
 
+/// For so many items at most room is allocated before the first of them is read.
+const ITEMS_AHEAD: u64 = 1024;
+
 /// The most bytes that defaults take before the items are read into them, each with the tag of an `Option`.
 const BYTES_AHEAD: usize = 8192;
 
-// For how many items room is made before the first of them is read. The size of a type parameter is known only of a value:
+// How many defaults are made before the first item is read into them. The size of a type parameter is known only of a value:
 // `None` is one that makes no default.
-fn items_ahead<T: Drop>() -> usize
+fn items_in_block<T: Drop>() -> usize
     ensures { 0 < result }
 {
     items_in_bytes_ahead(mem::size_of_val(&None::<T>))
@@ -68,10 +72,10 @@ impl<A: Array> BorshDeserialize for TinyVec<A>
 where
     A::Item: BorshDeserialize,
 {
-    ghost Reason = { ListReason A.Item.Spells A.Item.Fits A.Item.Reason (CountsAbove A.CAPACITY) (2 ^ 64 - 1) };
+    ghost Reason = { TinyReason A.Item.Spells A.Item.Fits A.Item.Reason A.CAPACITY };
 
     ghost apart = { list_apart A.Item.Spells A.Item.code A.Item.Fits A.Item.Reason A.Item.apart
-        (CountsAbove A.CAPACITY) (2 ^ 64 - 1) };
+        (MayAllocate A.Item.Spells A.Item.Fits A.CAPACITY) (2 ^ 64 - 1) };
 
     fn deserialize_reader<R: Read>(
         alloc: Global,
@@ -81,8 +85,7 @@ where
             (R.remaining reader.old.inner) (R.remaining reader.new.inner)) }
         ensures valid { IfOk result (λ v. ListFits A.Item.Spells A.Item.Fits (2 ^ 64 - 1)
             (map A.Item.content_of (tiny_items_of A.Slots v))) }
-        ensures fails { FailsFor R.remaining
-            (ListReason A.Item.Spells A.Item.Fits A.Item.Reason (CountsAbove A.CAPACITY) (2 ^ 64 - 1))
+        ensures fails { FailsFor R.remaining (TinyReason A.Item.Spells A.Item.Fits A.Item.Reason A.CAPACITY)
             reader.old reader.new result }
         ensures place { IfOk result (λ v. IsInline v ↔ (tiny_len_of A.Slots v ≤ A.CAPACITY)) }
         ensures spare { IfOk result (λ v. IsInline v
@@ -92,7 +95,7 @@ where
         ensures inline_capacity { IfOk result (λ v. IsInline v → tiny_capacity_of A.Slots v ≡ A.CAPACITY) }
     {
         let count = u64::deserialize_reader(alloc, reader)?;
-        let ahead = count.min(items_ahead::<A::Item>() as u64) as usize;
+        let ahead = count.min(ITEMS_AHEAD) as usize;
         let Ok(mut v) = TinyVec::with_capacity(alloc, ahead) else {
             return Err(BorshError::Memory);
         };
@@ -103,7 +106,7 @@ where
     }
 }
 
-// Reads a block of the items, which are `count` in all, into defaults.
+// Reads more of the items, which are `count` in all: a block into defaults while there is room, else one, which is pushed.
 fn read_more<A: Array, R: Read>(
     alloc: Global,
     v: &mut TinyVec<A>,
@@ -120,14 +123,25 @@ where
     ensures place { OnOk result (PlaceRule (tiny_len_of A.Slots v.new) (tiny_view_of A.Slots v.old) (tiny_view_of A.Slots v.new)) }
     ensures slot_rule { OnOk result (TinySlotRule A.Item.is_default (tiny_view_of A.Slots v.old) (tiny_view_of A.Slots v.new)) }
     ensures capacity { OnOk result (tiny_capacity_of A.Slots v.new ≤ max (tiny_capacity_of A.Slots v.old) (2 * count)) }
-    ensures fails { FailsFor R.remaining
-        (λ e input. AfterItems A.Item.Spells A.Item.Fits A.Item.Reason (count - tiny_len_of A.Slots v.old) e input
-        ⊎ ((e ≡ BorshError.Memory) × (tiny_capacity_of A.Slots v.old < count))) reader.old reader.new result }
+    ensures keeps_room { OnOk result (tiny_capacity_of A.Slots v.old ≤ tiny_capacity_of A.Slots v.new) }
+    ensures fails { FailsFor R.remaining (λ e input.
+        AfterItems A.Item.Spells A.Item.Fits A.Item.Reason (count - tiny_len_of A.Slots v.old) e input
+        ⊎ ((e ≡ BorshError.Memory) × (tiny_len_of A.Slots v.old ≡ tiny_capacity_of A.Slots v.old)
+        × IsBehind A.Item.Spells A.Item.Fits (λ _. Unit {0}) input)) reader.old reader.new result }
 {
     let start = v.len();
-    let end = start + (count - start as u64).min(items_ahead::<A::Item>() as u64) as usize;
+    let room = v.capacity() - start;
+    if room == 0 {
+        let item = A::Item::deserialize_reader(alloc, reader)?;
+        return match v.push(item) {
+            Ok(()) => Ok(()),
+            Err(_) => Err(BorshError::Memory),
+        };
+    }
+    let many = room.min(items_in_block::<A::Item>());
+    let end = start + (count - start as u64).min(many as u64) as usize;
     let Ok(()) = v.resize_with(end, || A::Item::default()) else {
-        return Err(BorshError::Memory);
+        unreachable!()
     };
     read_items(alloc, v.as_mut_slice(), start, end, reader)
 }

@@ -1,10 +1,10 @@
 //! Numbers as bytes, one and a block of them.
-ghost use Rattle.std.specs.Prelude.{◌≡◌, ◌*◌, ◌≤◌, length, take, OnOk};
+ghost use Rattle.std.specs.Prelude.{◌≡◌, ◌*◌, ◌≤◌, Bool, false, length, take, OnErr, OnOk};
 ghost use Rattle.std.specs.Int.{byte_len, from_le_bytes, to_le_bytes};
 ghost use Rattle.std.specs.List.{AllByRecursion};
 ghost use Rattle.tinyvec_borsh.specs.Items.{AfterItems, SpellsItems};
 ghost use Rattle.tinyvec_borsh.specs.Number.{NumberForm, TooFewBytes};
-ghost use Rattle.tinyvec_borsh.specs.Reading.{FailsFor, ReadsSpelling};
+ghost use Rattle.tinyvec_borsh.specs.Reading.{FailsFor, LeavesSlots, ReadsSpelling};
 ghost use Rattle.tinyvec_borsh.specs.Writing.{WritesValue};
 
 use crate::BorshError;
@@ -38,6 +38,8 @@ pub(crate) trait FixedWidth: Copy {
 
 /// How a list of such numbers is written and read: in blocks, if its type does not say otherwise.
 pub(crate) trait Number: FixedWidth {
+    ghost in_place: { Bool } = { false };
+
     fn write_all<W: Write>(items: &[Self], writer: &mut Counted<W>) -> Result<(), BorshError>
         ensures writes { WritesValue W.contents (SpellsItems Self.form.Spells items.now) writer.old writer.new result }
         ensures valid { OnOk result (AllByRecursion Self.form.Fits items.now) }
@@ -61,6 +63,8 @@ pub(crate) trait Number: FixedWidth {
         ensures fails { FailsFor R.remaining
             (AfterItems Self.form.Spells Self.form.Fits (TooFewBytes (byte_len Self.form.width)) (length slots.old))
             reader.old reader.new result }
+        ensures left { OnErr result (LeavesSlots (λ (n : Self). n) Self.form.Spells Self.form.Fits in_place slots.old slots.new
+            (R.remaining reader.old.inner) (R.remaining reader.new.inner)) }
     {
         if slots.len() <= ROOM / Self::Bytes::CAPACITY {
             return read_blocks::<Self, R, ROOM>(slots, reader);
@@ -83,6 +87,8 @@ fn read_blocks<T: FixedWidth, R: Read, const MOST: usize>(
     ensures fails { FailsFor R.remaining
         (AfterItems T.form.Spells T.form.Fits (TooFewBytes (byte_len T.form.width)) (length slots.old))
         reader.old reader.new result }
+    ensures left { OnErr result (LeavesSlots (λ (n : T). n) T.form.Spells T.form.Fits false slots.old slots.new
+        (R.remaining reader.old.inner) (R.remaining reader.new.inner)) }
 {
     let width = T::Bytes::CAPACITY;
     let mut room = [0; MOST];

@@ -1,5 +1,5 @@
 //! The types of whole numbers.
-ghost use Rattle.std.specs.Prelude.{refl};
+ghost use Rattle.std.specs.Prelude.{refl, true};
 ghost use Rattle.std.specs.Int.{w8, w16, w32, w64, w128};
 ghost use Rattle.tinyvec_borsh.specs.NumberLaws.{signed, unsigned};
 
@@ -11,6 +11,8 @@ use tinyvec_io::Counted;
 
 // A list of bytes is written and read as it is.
 impl Number for u8 {
+    ghost in_place = { true };
+
     fn write_all<W: Write>(items: &[Self], writer: &mut Counted<W>) -> Result<(), BorshError> {
         write_bytes(writer, items)
     }

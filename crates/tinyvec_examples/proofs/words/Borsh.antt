@@ -2,11 +2,11 @@
 use Rattle.std.proofs.Common.{◌≡◌, ℕ, ◌<◌, List, [], ◌∷◌, Option, Some, None, false, Ok, Err, inl, refl, ap, length, length-append, rules, arith}
 use Rattle.std.specs.Prelude.{IsUtf8}
 use Rattle.tinyvec_borsh.specs.Failed.{CountsIo}
-use Rattle.tinyvec_borsh.specs.Items.{SpellsItems, SpellsList, ListFits, AfterItems, InItem, ListReason, CountsAbove}
-use Rattle.tinyvec_borsh.specs.Reading.{ReadsSpelling, FailsFor, LeavesRest}
+use Rattle.tinyvec_borsh.specs.Items.{SpellsItems, SpellsList, ListFits, AfterItems, InItem, HasMoreItems, ListReason, CountsAbove, MayAllocate, TinyReason}
+use Rattle.tinyvec_borsh.specs.Reading.{ReadsSpelling, FailsFor, LeavesRest, LeavesSlots}
 use Rattle.tinyvec_borsh.specs.Writing.{WritesValue}
 use Rattle.tinyvec_io.specs.Counted.{CountedView}
-use Rattle.tinyvec_borsh.specs.declared.borsh_error.BorshError.TheVariants.{Ended, Io}
+use Rattle.tinyvec_borsh.specs.declared.borsh_error.BorshError.TheVariants.{Ended, Io, Memory}
 use Rattle.tinyvec_borsh.specs.declared.borsh_error.BorshError.{BorshError}
 use Rattle.tinyvec_borsh.specs.Apart.{AreApart}
 use Rattle.tinyvec_borsh.specs.Code.{IsCode}
@@ -84,6 +84,28 @@ example-ListReason = inl (omega arith)
 pub example-CountsAbove : CountsAbove 4 (5 ∷ 0 ∷ 0 ∷ 0 ∷ 0 ∷ 0 ∷ 0 ∷ 0 ∷ 7 ∷ [])
 example-CountsAbove = (5, omega arith, record { first = 5 ∷ 0 ∷ 0 ∷ 0 ∷ 0 ∷ 0 ∷ 0 ∷ 0 ∷ []; rest = 7 ∷ []; is_first = search rules; is_rest = _; whole = refl })
 
+pub example-MayAllocate : MayAllocate Spells Fits 4 (5 ∷ 0 ∷ 0 ∷ 0 ∷ 0 ∷ 0 ∷ 0 ∷ 0 ∷ 7 ∷ [])
+example-MayAllocate = inl (omega arith, example-CountsAbove)
+
+pub example-HasMoreItems : HasMoreItems Spells Fits 0 (2 ∷ 0 ∷ 0 ∷ 0 ∷ 0 ∷ 0 ∷ 0 ∷ 0 ∷ 7 ∷ [])
+example-HasMoreItems = record { has = example-InItem.has; over = omega arith; few = omega arith }
+
+pub example-TinyReason : TinyReason Spells Fits Reason 4 Memory (5 ∷ 0 ∷ 0 ∷ 0 ∷ 0 ∷ 0 ∷ 0 ∷ 0 ∷ 7 ∷ [])
+example-TinyReason = inl example-MayAllocate
+
+-- of three slots one was read
+pub example-LeavesSlots : LeavesSlots (λ (n : ℕ). n) Spells Fits false (1 ∷ 2 ∷ 3 ∷ []) (7 ∷ 2 ∷ 3 ∷ []) (Some (7 ∷ [])) (Some [])
+example-LeavesSlots = record {
+  read = 7 ∷ [];
+  rest = 2 ∷ 3 ∷ [];
+  slots = refl;
+  same_len = refl;
+  some_left = omega arith;
+  kept = λ _. refl;
+  fit = search rules;
+  taken = (Some [], (7 ∷ [], record { first = 7 ∷ []; rest = []; is_first = refl; is_rest = refl; whole = refl }, search rules), ([], tt, search rules));
+}
+
 pub example-ReadsSpelling : ReadsSpelling (λ bytes. bytes ≡ 7 ∷ []) (Some (7 ∷ 8 ∷ [])) (Some (8 ∷ []))
 example-ReadsSpelling = (7 ∷ [], refl, search rules)
 
@@ -98,7 +120,7 @@ pub example-CountsIo : CountsIo {T = ℕ} 3 4 (Err Io)
 example-CountsIo = record { exact = refl; grows = omega arith }
 
 pub example-FailsFor : FailsFor {T = ℕ} known Reason (holding []) (holding []) (Err Ended)
-example-FailsFor = record { err = example-TooFewBytes; taken = record { bytes = []; taken = search rules; end = λ is. refl; needed = λ front back some is. absurd (omega (arith, some, ap length is, length-append front back)); short = λ no. absurd (no tt) }; grows = omega arith; failed = record { exact = refl; grows = omega arith } }
+example-FailsFor = record { err = example-TooFewBytes; taken = record { bytes = []; taken = search rules; end = λ is. refl; needed = λ front back some is. absurd (omega (arith, some, ap length is, length-append front back)); short = λ io. cc }; grows = omega arith; failed = record { exact = refl; grows = omega arith } }
 
 pub example-SpellsText : SpellsText (104 ∷ []) (1 ∷ 0 ∷ 0 ∷ 0 ∷ 0 ∷ 0 ∷ 0 ∷ 0 ∷ 104 ∷ [])
 example-SpellsText = record {

@@ -26,7 +26,8 @@ impl<const N: usize> Extend<char> for InlineText<N> {
         ensures full { OnErr result ((it : U.IntoIter) × (cs : List ℕ) × (c : ℕ) × (rest : U.IntoIter)
             × U.into_iter_gives iter it × YieldsThen U.IntoIter.next_gives it cs (Some c) rest
             × (self.new.bytes ≡ self.old.bytes ++ encode_utf8_all cs)
-            × (capacity_in self.new.place < text_len self.new + length (encode_utf8 c))) }
+            × (capacity_in self.new.place < text_len self.new + length (encode_utf8 c))
+            × (self.new.place ≡ place_after_chars self.old cs)) }
 
         // If known characters fit, it allocates nothing.
         ensures known { (cs : List ℕ) → IntoIterYields U.into_iter_gives U.IntoIter.next_gives iter cs
@@ -59,7 +60,8 @@ impl<'a, const N: usize> Extend<&'a str> for InlineText<N> {
         ensures full { OnErr result ((it : U.IntoIter) × (xs : _) × (x : _) × (rest : U.IntoIter)
             × U.into_iter_gives iter it × YieldsThen U.IntoIter.next_gives it xs (Some x) rest
             × (self.new.bytes ≡ self.old.bytes ++ flat_map (λ y. y.now) xs)
-            × (capacity_in self.new.place < text_len self.new + length x.now)) }
+            × (capacity_in self.new.place < text_len self.new + length x.now)
+            × (self.new.place ≡ place_after_texts (λ y. y.now) self.old xs)) }
 
         // If known texts fit, it allocates nothing.
         ensures known { (xs : _) → IntoIterYields U.into_iter_gives U.IntoIter.next_gives iter xs
@@ -92,10 +94,11 @@ impl<const N: usize> FromIterator<char> for InlineText<N> {
             × (t.place ≡ place_after_chars (empty_text N) xs) × TextCollects N t)) }
         ensures collects { IfOk result (TextCollects N) }
 
-        // It fails only at a character that neither the array nor the room on the heap has a place for.
+        // It fails only at a character that finds no room where those before it are.
         ensures full { OnErr result ((it : U.IntoIter) × (cs : List ℕ) × (c : ℕ) × (rest : U.IntoIter)
             × U.into_iter_gives iter it × YieldsThen U.IntoIter.next_gives it cs (Some c) rest
-            × (N < length (encode_utf8_all cs) + length (encode_utf8 c))) }
+            × (N < length (encode_utf8_all cs) + length (encode_utf8 c))
+            × (capacity_in (place_after_chars (empty_text N) cs) < length (encode_utf8_all cs) + length (encode_utf8 c))) }
 
         // If known items fit the array, it allocates nothing.
         ensures known { (xs : List ℕ) → IntoIterYields U.into_iter_gives U.IntoIter.next_gives iter xs
@@ -125,10 +128,11 @@ impl<'a, const N: usize> FromIterator<&'a str> for InlineText<N> {
             × (t.place ≡ place_after_texts (λ x. x.now) (empty_text N) xs) × TextCollects N t)) }
         ensures collects { IfOk result (TextCollects N) }
 
-        // It fails only at a text that neither the array nor the room on the heap has a place for.
+        // It fails only at a text that finds no room where those before it are.
         ensures full { OnErr result ((it : U.IntoIter) × (xs : _) × (x : _) × (rest : U.IntoIter)
             × U.into_iter_gives iter it × YieldsThen U.IntoIter.next_gives it xs (Some x) rest
-            × (N < length (flat_map (λ y. y.now) xs) + length x.now)) }
+            × (N < length (flat_map (λ y. y.now) xs) + length x.now)
+            × (capacity_in (place_after_texts (λ y. y.now) (empty_text N) xs) < length (flat_map (λ y. y.now) xs) + length x.now)) }
 
         // If known items fit the array, it allocates nothing.
         ensures known { (xs : _) → IntoIterYields U.into_iter_gives U.IntoIter.next_gives iter xs

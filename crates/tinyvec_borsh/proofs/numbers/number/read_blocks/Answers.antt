@@ -1,11 +1,13 @@
-use Rattle.std.proofs.Common.{◌≡◌, ◌∙◌, ◌+◌, ◌*◌, ◌++◌, ap, arith, drop, length, length-append, length-drop, length-take-le, rules, subst}
+use Rattle.std.proofs.Common.{◌≡◌, ◌∙◌, ◌+◌, ◌-◌, ◌*◌, ◌++◌, ap, arith, drop, length, length-append, length-drop, length-take-le, rules, subst, sym, take}
 use Rattle.std.specs.Int.{byte_len}
 use Rattle.std.specs.List.{AllByRecursion}
-use Rattle.std.proofs.lemmas.List.{take_all}
+use Rattle.std.proofs.lemmas.List.{map-id, take_all}
+use Rattle.std.proofs.lemmas.Slice.{drop-put_mid}
 use Rattle.std.proofs.lemmas.Result.{err_from_is_err_and}
 use Rattle.tinyvec_borsh.specs.Items.{SpellsItems}
 use Rattle.tinyvec_borsh.specs.NumberLaws.{apart_by_length, bytes-of}
-use Rattle.tinyvec_borsh.proofs.Blocks.{take-block, took-block}
+use Rattle.tinyvec_slots.proofs.CloneLemmas.{on_err}
+use Rattle.tinyvec_borsh.proofs.Blocks.{TookItems, further, left-at, take-block, took-block}
 use Rattle.tinyvec_borsh.proofs.NumberBlocks.{block_within, fails-behind-block, few-bytes}
 use Rattle.tinyvec_borsh.proofs.ItemByItem.{fails-as}
 use Rattle.tinyvec_borsh.proofs.numbers.number.read_blocks.Goals as goal
@@ -21,6 +23,7 @@ loop-start-preserved g c =
     record {
       read = took-block g.T.FixedWidth.form.Spells g.T.FixedWidth.form.Fits _ _ _ _ _ _ joined c.loop-start.invariant.read (c.read_bytes.new.buf, c.decode.ensures.spelled, c.in_ok-read_bytes.ensures.ok) c.decode.ensures.valid;
       room = room;
+      kept = drop-put_mid c.loop-start.start (end - c.loop-start.start) c.loop-start.slots c.decode.new.slots end (omega arith) (omega arith) (search rules) ∙ further c.loop-start.start c.min-count.result c.loop-start.slots c.args.slots.now c.loop-start.invariant.kept;
       many = search rules;
       within = search rules;
       grows = omega arith;
@@ -49,3 +52,10 @@ returns-in_err-read_bytes-clause-fails g c =
 
 pub whole_as_front-bytes : goal.whole_as_front-bytes
 whole_as_front-bytes g c = (block_within g.row.MOST c.min-count.result c.CAPACITY-width.result (omega arith), omega (arith, c.requires.few))
+
+pub returns-in_err-read_bytes-clause-left : goal.returns-in_err-read_bytes-clause-left
+returns-in_err-read_bytes-clause-left g c =
+    let told = c.in_err-read_bytes.ensures.fails.taken in
+    let read = subst (λ xs. TookItems g.T.FixedWidth.form.Spells g.T.FixedWidth.form.Fits xs _ _) (sym (map-id (take c.loop-start.start c.loop-start.slots))) c.loop-start.invariant.read in
+    on_err c.from_residual.result (left-at (λ n. n) g.T.FixedWidth.form.Spells g.T.FixedWidth.form.Fits _ c.loop-start.start c.args.slots.now c.loop-start.slots _ _ _ read (told.bytes, tt, told.taken)
+    c.loop-start.invariant.many (omega (arith, c.loop-start.invariant.many)) c.loop-start.invariant.kept)

@@ -1,4 +1,4 @@
-use Rattle.std.proofs.Common.{◌≡◌, ◌-◌, ◌*◌, ◌≤◌, max, map}
+use Rattle.std.proofs.Common.{◌≡◌, ◌-◌, ◌*◌, ◌≤◌, max, min, map}
 use Rattle.tinyvec_slots.specs.Slots.{AreDefaults}
 use Rattle.tinyvec.specs.TinyVec.{IsInline, tiny_items_of, tiny_len_of, tiny_spare_of, tiny_view_of, tiny_capacity_of}
 use Rattle.tinyvec_borsh.proofs.ItemByItem.{WasRead}
@@ -13,6 +13,7 @@ invariant-loop-alloc g l = record {
   place : IsPlaced g.A.Array.CAPACITY l.count (tiny_view_of g.A.Slots l.v);
   spare : IsInline l.v → AreDefaults g.A.Item.Default.is_default (g.A.Array.CAPACITY - tiny_len_of g.A.Slots l.v) (tiny_spare_of g.A.Slots l.v);
   room : tiny_capacity_of g.A.Slots l.v ≤ max g.A.Array.CAPACITY (2 * l.count);
+  ahead : max g.A.Array.CAPACITY (min l.count 1024) ≤ tiny_capacity_of g.A.Slots l.v;
   grows : l.fn.reader.faults ≤ l.reader.faults;
   failed : l.reader.failed ≡ l.fn.reader.failed;
 }

@@ -1,9 +1,15 @@
-use Rattle.std.proofs.Common.{◌^◌, ◌<◌, arith, length}
+use Rattle.std.proofs.Common.{◌≡◌, ◌^◌, ◌<◌, ap, arith, length, length-append, rules, subst, sym, []}
+use Rattle.std.proofs.KnownBytes.{Consumes-nil}
+use Rattle.std.proofs.lemmas.List.{map-id}
+use Rattle.std.proofs.lemmas.Result.{on_err_weaker}
+use Rattle.std.specs.List.{AllByRecursion}
 use Rattle.std.specs.Int.{w8}
+use Rattle.tinyvec_borsh.specs.Items.{SpellsItems}
 use Rattle.tinyvec_borsh.specs.Number.{SpellsNumber}
+use Rattle.tinyvec_borsh.proofs.AtFaults.{small-first}
 use Rattle.tinyvec_borsh.specs.NumberLaws.{unsigned}
 use Rattle.tinyvec_borsh.proofs.ItemByItem.{fails-like}
-use Rattle.tinyvec_borsh.proofs.NumberBlocks.{few-bytes, spells-bytes}
+use Rattle.tinyvec_borsh.proofs.NumberBlocks.{few-bytes, small_bytes, spells-bytes}
 use Rattle.tinyvec_borsh.proofs.Outcomes.{on-both}
 use Rattle.tinyvec_borsh.proofs.numbers.widths.U8Number.read_all.Goals as goal
 
@@ -17,3 +23,20 @@ pub returns-clause-fails : goal.returns-clause-fails
 returns-clause-fails g c =
     let many = length c.args.slots.now in
     fails-like c.read_bytes.result (few-bytes (SpellsNumber 1) (λ n. n < 2 ^ 8) 1 _ (unsigned w8).read many many (omega arith)) c.read_bytes.ensures.fails
+
+pub returns-clause-left : goal.returns-clause-left
+returns-clause-left g c =
+    let same : length c.read_bytes.new.buf ≡ length c.args.slots.now = search rules in
+    on_err_weaker c.read_bytes.result (λ front.
+        let whole = subst (AllByRecursion (λ byte. byte < 256)) front.2 (small_bytes c.read_bytes.new.buf (λ i. omega (arith, c.type_inv.slots i))) in
+        let small = small-first front.0 front.1 whole in
+        record {
+          read = front.0;
+          rest = front.1;
+          slots = front.2;
+          same_len = same;
+          some_left = omega (arith, same, ap length front.2, length-append front.0 front.1, front.3);
+          kept = λ is. cc;
+          fit = subst (AllByRecursion (λ n. n < 2 ^ 8)) (sym (map-id front.0)) small;
+          taken = (_, (front.0, subst (λ xs. SpellsItems (SpellsNumber 1) xs front.0) (sym (map-id front.0)) (spells-bytes front.0 small), front.4), ([], tt, Consumes-nil _));
+        }) c.read_bytes.ensures.front

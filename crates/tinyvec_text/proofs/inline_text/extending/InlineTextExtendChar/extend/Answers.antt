@@ -14,7 +14,7 @@ returns-in_err-push-clause-full g c =
     let at = c.loop-c in
     let room = c.in_err-push.ensures.room in
     let told = refused_at by_chars g.row.N c.in-Some.c at.invariant.pushed room.refused room.full in
-    on_err c.from_residual.result (c.into_iter-rest.result, at.yielded, c.in-Some.c, _, c.into_iter-rest.ensures.into_iter_gives, (at.rest, at.yielded_by, c.in-Some.ensures.steps), told.0, told.1)
+    on_err c.from_residual.result (c.into_iter-rest.result, at.yielded, c.in-Some.c, _, c.into_iter-rest.ensures.into_iter_gives, (at.rest, at.yielded_by, c.in-Some.ensures.steps), told.0, told.1, told.2)
 
 pub loop-c-preserved : goal.loop-c-preserved
 loop-c-preserved g c =

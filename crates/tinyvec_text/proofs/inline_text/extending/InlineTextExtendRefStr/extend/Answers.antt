@@ -14,7 +14,7 @@ returns-in_err-push_str-clause-full g c =
     let at = c.loop-s in
     let room = c.in_err-push_str.ensures.room in
     let told = refused_at (by_texts (λ x. x.now)) g.row.N c.in-Some.s at.invariant.pushed room.refused room.full in
-    on_err c.from_residual.result (c.into_iter-rest.result, at.yielded, c.in-Some.s, _, c.into_iter-rest.ensures.into_iter_gives, (at.rest, at.yielded_by, c.in-Some.ensures.steps), told.0, told.1)
+    on_err c.from_residual.result (c.into_iter-rest.result, at.yielded, c.in-Some.s, _, c.into_iter-rest.ensures.into_iter_gives, (at.rest, at.yielded_by, c.in-Some.ensures.steps), told.0, told.1, told.2)
 
 pub loop-s-preserved : goal.loop-s-preserved
 loop-s-preserved g c =
