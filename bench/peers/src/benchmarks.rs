@@ -1,6 +1,5 @@
 //! The benchmarks. Each has the loop of the one of the same name in `crates/tinyvec_bench`.
 
-use crate::growing::Growing;
 use crate::number::Number;
 use crate::vector::Vector;
 
@@ -12,15 +11,6 @@ pub fn two_pushes<T: Number, V: Vector<T, N>, const N: usize>(x: u64) -> V {
         vec.push(T::of(x));
         vec.push(T::of(x));
     }
-    vec
-}
-
-/// A new vector with room on the heap, and two pushes.
-#[inline(never)]
-pub fn two_pushes_on_heap<T: Number, V: Growing<T, N>, const N: usize>(x: u64) -> V {
-    let mut vec = V::with_room(N.saturating_add(1));
-    vec.push(T::of(x));
-    vec.push(T::of(x));
     vec
 }
 

@@ -8,9 +8,6 @@ pub trait Growing<T: Number, const N: usize>: Vector<T, N> {
     /// An empty one, as a user makes it who does not know how long it gets.
     fn empty() -> Self;
 
-    /// An empty one with room for so many items.
-    fn with_room(n: usize) -> Self;
-
     /// The items of the array, on the heap.
     fn on_heap(array: [T; N]) -> Self;
 
@@ -29,11 +26,6 @@ macro_rules! shared_calls {
         #[inline(always)]
         fn empty() -> Self {
             Self::new()
-        }
-
-        #[inline(always)]
-        fn with_room(n: usize) -> Self {
-            Self::with_capacity(n)
         }
 
         #[inline(always)]

@@ -172,7 +172,6 @@ pub fn of_inline<W: Growing<u64, N>, B: Growing<u8, N>, const N: usize>(report: 
 
 /// The benchmarks of a vector that grows, on the heap.
 pub fn of_heap<W: Growing<u64, N>, B: Growing<u8, N>, const N: usize>(report: &Report) {
-    report.row(made::<N>(), N, |x| last(two_pushes_on_heap::<u64, W, N>(x).as_slice()));
     of_made_words(report, W::on_heap);
     of_made_bytes(report, B::on_heap);
 }

@@ -23,7 +23,7 @@ impl<T: Item + Clone + Default, const N: usize> Vector<T, N> for ArrayVec<[T; N]
     }
 
     #[inline(always)]
-    fn last_of_two_pushes(&self, _alloc: Global, _place: Place, x: u64) -> u64 {
+    fn last_of_two_pushes(&self, _alloc: Global, x: u64) -> u64 {
         last(two_pushes(self, x).as_slice())
     }
 

@@ -2,7 +2,7 @@
 
 use crate::number::{Item, Number};
 use crate::report::Bench;
-use crate::vector::{Place, Vector};
+use crate::vector::Vector;
 use std::alloc::Global;
 
 /// The vector, one that differs from it, and what it is filled with: numbers, or runs of them. They are the arrays
@@ -19,8 +19,7 @@ pub struct ListBench<'a, T: Number, V: Vector<T, N>, const N: usize> {
 /// What is done with lists of `u64`.
 #[derive(Clone, Copy)]
 pub enum Edit {
-    /// To a new vector at this place.
-    TwoPushes(Place),
+    TwoPushes,
     FillAndEmpty,
     Refill,
     InsertFront,
@@ -37,7 +36,7 @@ impl<V: Vector<u64, N>, const N: usize> Bench<Edit> for ListBench<'_, u64, V, N>
     fn round(&mut self, benchmark: Edit, x: u64) -> u64 {
         let source = &self.source;
         match benchmark {
-            Edit::TwoPushes(place) => self.vec.last_of_two_pushes(self.alloc, place, x),
+            Edit::TwoPushes => self.vec.last_of_two_pushes(self.alloc, x),
             Edit::FillAndEmpty => fill_and_empty(self.vec, x),
             Edit::Refill => refill(self.vec, source, x),
             Edit::InsertFront => insert_front(self.vec, x),

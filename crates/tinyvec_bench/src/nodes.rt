@@ -51,7 +51,7 @@ impl<V: Vector<Node, N>, const N: usize> Bench<NodeEdit> for NodeBench<'_, V, N>
     #[inline(always)]
     fn round(&mut self, benchmark: NodeEdit, x: u64) -> u64 {
         match benchmark {
-            NodeEdit::TwoPushes => self.vec.last_of_two_pushes(self.alloc, Place::Inline, x),
+            NodeEdit::TwoPushes => self.vec.last_of_two_pushes(self.alloc, x),
             NodeEdit::FillAndEmpty => fill_and_empty(self.vec, x),
             NodeEdit::InsertFront => insert_front(self.vec, x),
             NodeEdit::RemoveFront => remove_front(self.vec, x),

@@ -24,7 +24,10 @@ pub fn of_edits<R: Report, V: Words<N>, const N: usize>(report: &mut R, alloc: G
         source,
         runs,
     };
-    made(report, N, place, &mut list);
+    match place {
+        Place::Inline => made(report, N, &mut list),
+        Place::Heap => {}
+    }
     edits(report, N, &mut list);
 }
 
@@ -76,12 +79,9 @@ pub fn of_bytes<R: Report, V: Vector<u8, N> + Hash + PartialOrd, const N: usize>
 
 // Of an array of 64 slots or more, most of the time goes into its defaults, and into the moves of the vector. Like those
 // below it takes a reference: if the caller owns the list, LLVM copies each vector that a row makes once more.
-fn made<R: Report, S: Bench<Edit>>(report: &mut R, n: usize, place: Place, list: &mut S) {
+fn made<R: Report, S: Bench<Edit>>(report: &mut R, n: usize, list: &mut S) {
     let name = if n < 64 { "two_pushes" } else { "returned" };
-    match place {
-        Place::Inline => run(report, name, n, Edit::TwoPushes(Place::Inline), list),
-        Place::Heap => run(report, name, n, Edit::TwoPushes(Place::Heap), list),
-    }
+    run(report, name, n, Edit::TwoPushes, list);
 }
 
 fn edits<R: Report, S: Bench<Cut> + Bench<Edit> + Bench<Share>>(

@@ -27,11 +27,8 @@ impl<T: Item + Clone + Default, const N: usize> Vector<T, N> for TinyVec<[T; N]>
     }
 
     #[inline(always)]
-    fn last_of_two_pushes(&self, alloc: Global, place: Place, x: u64) -> u64 {
-        match place {
-            Place::Inline => last(two_pushes::<T, N>(alloc, self, x).as_slice()),
-            Place::Heap => last(two_pushes_on_heap::<T, N>(alloc, self, x).as_slice()),
-        }
+    fn last_of_two_pushes(&self, alloc: Global, x: u64) -> u64 {
+        last(two_pushes::<T, N>(alloc, self, x).as_slice())
     }
 
     #[inline(always)]
@@ -151,21 +148,6 @@ fn two_pushes<T: Item + Clone + Default, const N: usize>(
     x: u64,
 ) -> TinyVec<[T; N]> {
     let mut vec = TinyVec::new(alloc);
-    let _ = vec.push(T::of(x));
-    let _ = vec.push(T::of(x));
-    vec
-}
-
-// A new vector as long as `_like` with room on the heap, and two pushes.
-#[inline(never)]
-fn two_pushes_on_heap<T: Item + Clone + Default, const N: usize>(
-    alloc: Global,
-    _like: &TinyVec<[T; N]>,
-    x: u64,
-) -> TinyVec<[T; N]> {
-    let Ok(mut vec) = TinyVec::with_capacity(alloc, N.saturating_add(1)) else {
-        return TinyVec::new(alloc);
-    };
     let _ = vec.push(T::of(x));
     let _ = vec.push(T::of(x));
     vec

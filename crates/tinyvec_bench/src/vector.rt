@@ -23,7 +23,7 @@ pub trait Vector<T: Item, const N: usize>: AsSlice<T> + Drop {
     fn placed(alloc: Global, place: Place, items: &[T]) -> Self;
 
     /// The last number of the vector that the rows `two_pushes` and `returned` make. A generic row would copy that vector.
-    fn last_of_two_pushes(&self, alloc: Global, place: Place, x: u64) -> u64;
+    fn last_of_two_pushes(&self, alloc: Global, x: u64) -> u64;
 
     /// That of the vector that the row `clone` makes.
     fn last_of_clone(&self, alloc: Global, odd: &Self, x: u64) -> u64;
