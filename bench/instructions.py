@@ -1,7 +1,7 @@
 """Instructions, counted by callgrind: they are the same on each run, whatever else the machine does.
 
-Of a row callgrind counts from the function `begin_rounds` to the function `end_rounds`. Each program runs for so many
-rounds and for twice as many, and the difference is that of the further rounds alone: what the first ones cost besides, as a
+Of a row callgrind counts from the function `begin_rounds` to the function `end_rounds`. Each program runs for ROUNDS and
+for twice as many, and the difference is that of the further rounds alone: what the first ones cost besides, as a
 page of memory, falls out. A whole program is counted from its start to its end.
 """
 import concurrent.futures
@@ -24,12 +24,16 @@ ENVIRONMENT = {
 }
 
 
-def count(programs, rounds):
+# With another number a few counts differ by what the allocator does, and with one of another length by the stack.
+ROUNDS = 48
+
+
+def count(programs):
     """Of each program, by row and capacity. The runs go side by side, since no time is taken."""
-    asked = {(name, it): [*command, "rows", str(it)] for name, command in programs.items() for it in (rounds, 2 * rounds)}
+    asked = {(name, it): [*command, "rows", str(it)] for name, command in programs.items() for it in (ROUNDS, 2 * ROUNDS)}
     with concurrent.futures.ThreadPoolExecutor(os.cpu_count()) as pool:
         counts = dict(zip(asked, pool.map(counted, asked.values())))
-    return {name: further(counts[name, rounds], counts[name, 2 * rounds]) for name in programs}
+    return {name: further(counts[name, ROUNDS], counts[name, 2 * ROUNDS]) for name in programs}
 
 
 def further(once, twice):

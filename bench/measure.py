@@ -1,104 +1,108 @@
-"""usage: bench/run [--quick] [--results]
+"""usage: bench/run [--results | --check | --against COMMIT]
 
-Measures whole programs against plain Rust programs, and the vectors against those that users would pick instead, the
-toolchain's and Rust's, and prints a table of each: instructions as callgrind counts them, times, memory, and how they grow.
+Measures the vectors beside Rust's crates, and whole programs beside plain Rust programs, and prints a table of each:
+instructions as callgrind counts them, times and memory.
 
---quick    fewer and shorter runs
---results  writes what is printed into bench/results, the programs and the means into docs/PERFORMANCE.md, the numbers that
-           documents quote, and how the time grows into docs/pictures, and names the rows that rose by 3 %
+--results         writes what is printed into bench/results, and the tables and numbers that documents quote of it, and says
+                  which rows take 3 % more than in the tables of the last version
+--check           counts the rows again, and fails where the tables of bench/results tell otherwise
+--against COMMIT  says which rows take 3 % more, by the tables of bench/results, than by those of the commit
 """
 import contextlib
+import fnmatch
 import os
+import re
 import sys
 
 import instructions
-import kit
-import plots
-import quotes
-import rises
+import programs
 import tables
 import whole
-from programs import TOP, beside_rust, beside_toolchain, check_sums, describe, nanoseconds
 
 CORES = os.sched_getaffinity(0)
 CORE = {max(CORES)}
+# How often each is run, and the rounds of a row and the lines of a program.
+RUNS, ROUNDS, LINES = 11, 4000, 100000
 
-
-class Effort:
-    """How often and how long."""
-
-    def __init__(self, is_quick):
-        self.runs, self.rounds = (9, 4000) if is_quick else (41, 16000)
-        self.counted_rounds = 128 if is_quick else 320
-        self.growth_runs, self.growth_rounds = (3, 16384) if is_quick else (9, 65536)
-        self.program_lines, self.program_runs = (10000, 5) if is_quick else (100000, 21)
-        self.length_runs = 3
-        self.lengths = [10**power for power in range(4, 7 if is_quick else 8)]
+# A published count is wrong if it is off by more than these two.
+SHARE, COUNT = 0.03, 15
+# Rows whose count hangs on where the allocator puts a block, and so on the rows before.
+UNSTEADY = ("*reserve_and_shrink *", "*text_* 16384", "borsh_* 16384")
 
 
 def main():
-    words = set(sys.argv[1:])
-    if words - {"--quick", "--results"}:
+    words = sys.argv[1:]
+    if words[:1] == ["--against"] and len(words) == 2:
+        return tell_rises(words[1])
+    if words == ["--check"]:
+        return check()
+    if words not in ([], ["--results"]):
         sys.exit(__doc__)
-    effort, is_kept = Effort("--quick" in words), "--results" in words
-    with result("programs", is_kept):
-        measured = whole.measure(effort.program_lines, effort.program_runs, CORE)
-        print(f"{effort.program_lines} lines for each program. Times are the least of {effort.program_runs} runs.\n")
+    with result("programs", words, whole.NAMES):
+        measured = whole.measure(LINES, RUNS, CORE)
+        print(f"{LINES} lines for each program. Times are the least of {RUNS} runs.\n")
         tables.print_programs(measured)
-    for name, programs in (("toolchain", beside_toolchain()), ("rust", beside_rust())):
-        with result(name, is_kept):
-            measure_rows(programs, effort)
-    with result(kit.CPU, is_kept):
-        # The instructions of both sides for another processor.
-        counted = instructions.count(beside_rust(kit.CPU), effort.counted_rounds)
-        tables.print_means(counted)
-        tables.print_groups(counted, "instructions")
-    with result("growth", is_kept):
-        measure_growth(effort, is_kept)
-    if is_kept:
+    with result("rust", words, [programs.BENCH]):
+        measure_rows()
+    if words:
         tables.put()
-        quotes.put()
+        tell_rises(last_version())
+    return 0
 
 
 @contextlib.contextmanager
-def result(name, is_kept):
+def result(name, is_kept, measured):
     """What is printed below goes into the file of this name, where it is kept."""
     os.sched_setaffinity(0, CORES)
-    if not is_kept:
-        describe(max(CORE))
+    with contextlib.ExitStack() as kept:
+        if is_kept:
+            file = kept.enter_context(open(tables.RESULTS / f"{name}.md", "w", encoding="utf-8"))
+            kept.enter_context(contextlib.redirect_stdout(file))
+        programs.describe(max(CORE), measured)
         yield
-        return
-    path = TOP / f"bench/results/{name}.md"
-    before = path.read_text(encoding="utf-8")
-    with open(path, "w", encoding="utf-8") as file, contextlib.redirect_stdout(file):
-        describe(max(CORE))
-        yield
-    if name in ("rust", kit.CPU):
-        rises.put(name, before, path.read_text(encoding="utf-8"))
 
 
-def measure_rows(programs, effort):
-    check_sums(programs, "rows")
-    counted = instructions.count(programs, effort.counted_rounds)
-    tables.print_means(counted)
-    tables.print_groups(counted, "instructions")
+def measure_rows():
+    beside = programs.beside_rust()
+    programs.check_sums(beside)
+    counted = instructions.count(beside)
+    tables.print_means("Instructions", counted)
+    tables.print_groups(counted)
     os.sched_setaffinity(0, CORE)
-    timed = nanoseconds(programs, "rows", effort.runs, effort.rounds)
-    print(f"Times are the least of {effort.runs} runs.\n")
-    tables.print_groups(timed, "nanoseconds")
+    timed = programs.nanoseconds(beside, RUNS, ROUNDS)
+    print(f"Times are the least of {RUNS} runs.\n")
+    tables.print_means("Nanoseconds", timed)
     tables.print_disagreements(timed, counted)
 
 
-def measure_growth(effort, is_kept):
-    os.sched_setaffinity(0, CORE)
-    check_sums(beside_rust(), "growth")
-    grown = nanoseconds(beside_rust(), "growth", effort.growth_runs, effort.growth_rounds)
-    os.sched_setaffinity(0, CORES)
-    lines = whole.grow(effort.lengths, effort.length_runs)
-    print(f"Times are the least of {effort.growth_runs} runs, of tv of {effort.length_runs}.\n")
-    plots.print_all(grown, *lines)
-    if is_kept:
-        plots.draw(grown, *lines)
+def check():
+    text = tables.read(tables.RESULTS / "rust.md")
+    published, here = tables.counts(text), programs.beside_rust()["here"]
+    counted = instructions.count({"here": here})["here"]
+    is_same = programs.sources([programs.BENCH]) in text
+    faults = [f"{row} {capacity}: it is not in both" for row, capacity in sorted(published.keys() ^ counted.keys())]
+    for (row, capacity), wanted in published.items():
+        count, name = counted.get((row, capacity), wanted), f"{row} {capacity}"
+        if abs(count - wanted) > max(SHARE * wanted, COUNT) and not any(fnmatch.fnmatch(name, it) for it in UNSTEADY):
+            faults.append(f"{name}: {wanted:g} are published, and {count:.1f} counted")
+    print("".join(f"{it}\n" for it in faults), end="")
+    sources = "" if is_same else "; the sources are others than those that were measured"
+    print(f"bench: {len(counted)} counts of rows, {len(faults)} faults of bench/results{sources}")
+    return 1 if faults else 0
 
 
-main()
+def tell_rises(commit):
+    then = tables.counts(programs.output(["git", "show", f"{commit}:bench/results/rust.md"]))
+    now = tables.counts(tables.read(tables.RESULTS / "rust.md"))
+    rose = [(it, then[it], count) for it, count in now.items() if it in then and count >= (1 + SHARE) * then[it]]
+    print("".join(f"{row} {capacity}: {before:g} > {after:g}\n" for (row, capacity), before, after in rose), end="")
+    print(f"bench: {len(rose)} of {len(now)} counts rose by 3 % since {commit}")
+    return 0
+
+
+def last_version():
+    return re.search(r"^## \d.*commit `([0-9a-f]+)`", tables.read(tables.TOP / "CHANGELOG.md"), re.M)[1]
+
+
+if __name__ == "__main__":
+    sys.exit(main())

@@ -1,19 +1,15 @@
-"""Tables in Markdown of what is measured: here, and how much of each peer's that is; and why a row takes more of a peer's
-instructions than the limit, as bench/reasons.txt says."""
-import collections
-import fnmatch
+"""Tables in Markdown of what is measured: here, and how much of each peer's that is. Documents quote them: a table after a
+comment with the name of the results whose first one it is, and a number before a comment that names its cell, by a row, its
+capacity and the peer, as 3.7<!-- rust tiny_long_push 64 tinyvec -->, or by a line of means and a capacity, as
+0.6<!-- rust ArrayVec over tinyvec 4 -->. There `least` and `most` stand for those over all capacities."""
 import functools
-import pathlib
 import re
 import statistics
 
-TOP = pathlib.Path(__file__).resolve().parent.parent
-PERFORMANCE = TOP / "docs/PERFORMANCE.md"
-RESULTS = TOP / "bench/results"
-REASONS = TOP / "bench/reasons.txt"
+from building.crates import TOP
 
-# Rows that have a reason, over all peers or some.
-Reason = collections.namedtuple("Reason", "key pattern peers")
+RESULTS = TOP / "bench/results"
+DOCUMENTS = [TOP / "README.md", TOP / "docs/PERFORMANCE.md"]
 
 # A row belongs to the group with the longest prefix that its name has.
 GROUPS = {
@@ -22,8 +18,6 @@ GROUPS = {
     "`TinyVec` on the heap": "tiny_heap_",
     "`TinyVec` on its way to the heap": "tiny_spill_",
     "`TinyVec` out of four slots": "tiny_long_",
-    "`ArrayVec`, a quarter full": "few_",
-    "`TinyVec`, a quarter full": "tiny_few_",
     "`ArrayVec` of items with a drop": "nodes_",
     "`TinyVec` of items with a drop": "tiny_nodes_",
     "`SliceVec`": "slice_",
@@ -32,28 +26,21 @@ GROUPS = {
     "Borsh form": "borsh_",
 }
 
-# Peers that have another name than their program's, in all groups or in those of one type.
-NAMES = {
-    "inline": "smallvec", ("inline", "`ArrayVec`"): "arrayvec", ("inline", "`InlineText`"): "ArrayString",
-    ("arrayvec", "`InlineText`"): "ArrayString",
-    "std": "Vec", ("std", "`InlineText`"): "String", "vec": "Vec", ("vec", "`InlineText`"): "String",
-}
+CAPACITIES = [4, 16, 64, 16384]
 
-CAPACITIES = [4, 8, 16, 32, 64, 1024, 16384]
-
-# A cell of instructions above it has a reason.
+# So much of a peer's is slow.
 LIMIT = 1.2
 
 # A ratio to a peer that lacks the row.
 NOTHING = "–"
 
-# What is said over a table of rows, and its last column if it is one of instructions.
-COUNTED = "instructions"
-OVER = " a round, and that over "
-WHY = f"Why above {LIMIT}"
-TABLE = re.compile(rf"(\*\*.*\*\*: {COUNTED}{OVER}(.*)\n\n.*\n.*\n)((?:\|.*\n)+)")
-# A place of PERFORMANCE for a table.
-PLACE = re.compile(r"^<!-- ([\w-]+) -->\n((?:\|.*\n)*)", re.M)
+OVER = "instructions a round, and that over "
+TABLE = re.compile(rf"^\*\*.*\*\*: {OVER}(.*)\n\n(.*)\n.*\n((?:\|.*\n)+)", re.M)
+MEANS = re.compile(r"^\| Instructions of (.*)\n.*\n((?:\|.*\n)+)", re.M)
+
+# What documents quote.
+PLACE = re.compile(r"^<!-- (programs|rust) -->\n(?:\|.*\n)*", re.M)
+QUOTED = re.compile(r"(?:\d+(?:\.(\d+))?|\?)<!-- rust (.+?) -->")
 
 
 def read(file):
@@ -65,38 +52,22 @@ def group_of(row):
 
 
 def name_of(peer, group):
-    return NAMES.get((peer, re.match("`.*?`|", group)[0]), NAMES.get(peer, peer))
+    is_text = group.startswith("`InlineText`")
+    return {"vec": "String" if is_text else "Vec", "arrayvec": "ArrayString" if is_text else "arrayvec"}.get(peer, peer)
 
 
-@functools.cache
-def reasons():
-    found, key = [], None
-    for line in read(REASONS).splitlines():
-        if line.startswith(" "):
-            patterns, _, peers = line.partition(" over ")
-            found += [Reason(key, it, tuple(peers.split())) for it in patterns.split()]
-        elif re.match(r"\w+: ", line):
-            key = line.partition(":")[0]
-    return found
-
-
-def reasons_of(row, peers):
-    """What says why the row is above the limit over these peers."""
-    return [it for it in reasons() if set(it.peers or peers) & set(peers) and fnmatch.fnmatchcase(row, it.pattern)]
-
-
-def peers_of(measured, keys):
-    return [it for it in measured if it != "here" and any(key in measured[it] for key in keys)]
+def groups(measured):
+    """Each group of rows that a peer has, with its rows, and these peers."""
+    for group in GROUPS:
+        keys = [key for key in measured["here"] if group_of(key[0]) == group]
+        if peers := [it for it in measured if it != "here" and any(key in measured[it] for key in keys)]:
+            yield group, keys, peers
 
 
 def print_table(first, columns, rows):
     for name, cells in [(first, columns), ("---", ["---"] * len(columns)), *rows]:
-        print(line_of(name, cells).replace(" --- ", "---"))
+        print(f"| {name} | {' | '.join(map(str, cells))} |".replace(" --- ", "---"))
     print(flush=True)
-
-
-def line_of(first, cells):
-    return f"| {first} | {' | '.join(map(str, cells))} |"
 
 
 def print_programs(measured):
@@ -106,51 +77,35 @@ def print_programs(measured):
     print_table("Program, over plain Rust", [*measured], cells)
 
 
-def groups(measured):
-    """Each group of rows that a peer has, with its rows, and these peers."""
-    for group in GROUPS:
-        keys = [key for key in measured["here"] if group_of(key[0]) == group]
-        if peers := peers_of(measured, keys):
-            yield group, keys, peers
-
-
-def print_groups(measured, unit):
-    for group, keys, peers in groups(measured):
-        names = [name_of(it, group) for it in peers]
+def print_groups(counted):
+    for group, keys, peers in groups(counted):
+        print(f"**{group}**: {OVER}{', '.join(name_of(it, group) for it in peers)}\n")
         capacities = sorted({capacity for _, capacity in keys})
-        print(f"**{group}**: {unit}{OVER}{', '.join(names)}\n")
-        rows = {row: [cell(measured, peers, (row, it)) for it in capacities] for row, _ in keys}
-        if unit == COUNTED:
-            capacities.append(WHY)
-            rows = {row: [*cells, why(row, names, cells)] for row, cells in rows.items()}
+        rows = {row: [cell(counted, peers, (row, it)) for it in capacities] for row, _ in keys}
         print_table("Row", capacities, rows.items())
 
 
-def why(row, peers, cells):
-    """The last cell of a row, of the peers that it is above the limit of."""
-    return ", ".join(dict.fromkeys(it.key for it in reasons_of(row, slow(peers, cells))))
-
-
-def slow(peers, cells):
-    """The peers that the row is above the limit of, by what is printed."""
-    ratios = [it.partition(": ")[2].split() for it in cells if it]
-    return [peer for number, peer in enumerate(peers) if any(is_above(it[number]) for it in ratios)]
-
-
-def is_above(ratio):
-    return ratio != NOTHING and float(ratio) > LIMIT
-
-
-def print_means(measured):
+def print_means(unit, measured):
     """A line for each vector and peer: the geometric mean at each capacity, and the cells above the limit."""
     rows = []
     for group, keys, peer in ((group, keys, peer) for group, keys, peers in groups(measured) for peer in peers):
         ratios = {key: ratio(measured, peer, key) for key in keys if key in measured[peer]}
         known = ([it for key, it in ratios.items() if key[1] == capacity] for capacity in CAPACITIES)
-        means = [statistics.geometric_mean(it) if it else None for it in known]
-        above = sum(is_above(text_of(it)) for it in ratios.values())
-        rows.append((f"{group} over `{name_of(peer, group)}`", [*map(text_of, means), f"{above} of {len(ratios)}"]))
-    print_table("Instructions of", [*CAPACITIES, f"cells above {LIMIT}"], rows)
+        means = [text_of(statistics.geometric_mean(it) if it else None) for it in known]
+        above = sum(it > LIMIT for it in ratios.values())
+        rows.append((f"{group} over `{name_of(peer, group)}`", [*means, f"{above} of {len(ratios)}"]))
+    print_table(f"{unit} of", [*CAPACITIES, f"cells above {LIMIT}"], rows)
+
+
+def print_disagreements(times, counted):
+    """Where one measure has this library well behind a peer, and the other before it."""
+    print(f"Rows of which the time is above {LIMIT} of a peer's and the instructions below 1.0, or the other way round\n")
+    rows = []
+    for row, capacity, peer in ((*key, it) for key in times["here"] for it in times if it != "here" and key in times[it]):
+        time, count = (ratio(it, peer, (row, capacity)) for it in (times, counted))
+        if max(time, count) > LIMIT and min(time, count) < 1.0:
+            rows.append((row, [capacity, name_of(peer, group_of(row)), text_of(time), text_of(count)]))
+    print_table("Row", ["Capacity", "Peer", "Time", "Instructions"], rows)
 
 
 def cell(measured, peers, key):
@@ -169,71 +124,60 @@ def text_of(ratio):
     return NOTHING if ratio is None else f"{ratio:.2f}"
 
 
-def print_disagreements(times, instructions):
-    """Where one measure has this library well behind a peer, and the other before it."""
-    print(f"Rows of which the time is above {LIMIT} of a peer's and the instructions below 1.0, or the other way round\n")
-    rows = []
-    for row, capacity, peer in ((*key, peer) for key in times["here"] for peer in peers_of(times, [key])):
-        time, count = (ratio(it, peer, (row, capacity)) for it in (times, instructions))
-        if max(time, count) > LIMIT and min(time, count) < 1.0:
-            rows.append((row, [capacity, name_of(peer, group_of(row)), text_of(time), text_of(count)]))
-    print_table("Row", ["Capacity", "Peer", "Time", "Instructions"], rows)
-
-
-def first_table(name):
-    return re.search(r"(?:^\|.*\n)+", read(RESULTS / f"{name}.md"), re.M)[0]
-
-
-def put():
-    """Writes the first table of some results in place of those on PERFORMANCE, each after a comment with their name."""
-    text = PLACE.sub(lambda it: f"<!-- {it[1]} -->\n{first_table(it[1])}", read(PERFORMANCE))
-    PERFORMANCE.write_text(text, encoding="utf-8")
-
-
-def faults():
-    """Tables of PERFORMANCE that are none of bench/results, rows above the limit with no reason, and reasons of no row."""
-    for name, table in PLACE.findall(read(PERFORMANCE)):
-        if table != first_table(name):
-            yield f"docs/PERFORMANCE.md: the table {name} is not that of bench/results/{name}.md"
-    used = set()
-    for file in sorted(RESULTS.glob("*.md")):
-        text = read(file)
-        for row, peer in ((row, peer) for peers, row, cells in rows_of(text) for peer in slow(peers, cells.values())):
-            found = reasons_of(row, [peer])
-            used.update(found)
-            if not found:
-                yield f"bench/reasons.txt: no reason why {row} is above {LIMIT} over {peer} in {file.name}"
-        if explained(text) != text:
-            yield f"bench/results/{file.name}: its reasons are not those of bench/reasons.txt, which bench/tables.py writes"
-    yield from (f"bench/reasons.txt: {it.key} explains no row: {it.pattern}" for it in reasons() if it not in used)
-
-
 def rows_of(text):
-    """The rows of the tables of instructions, each with the peers of its table, and its cells by capacity."""
-    for table in TABLE.finditer(text):
-        _, *capacities, _ = cells_of(table[1].splitlines()[2])
-        for row, *cells, _ in map(cells_of, table[3].splitlines()):
-            yield table[2].split(", "), row, {capacity: it for capacity, it in zip(capacities, cells) if it}
-
-
-def explained(text):
-    """The text with the last column anew in its tables of instructions."""
-
-    def explained_table(table):
-        rows = ((row, cells) for row, *cells, _ in map(cells_of, table[3].splitlines()))
-        return table[1] + "".join(line_of(row, [*it, why(row, table[2].split(", "), it)]) + "\n" for row, it in rows)
-
-    return TABLE.sub(explained_table, text)
+    """Each cell of the tables of instructions that is not empty: its row, its capacity, the peers of its table, and itself."""
+    for peers, head, lines in TABLE.findall(text):
+        for row, *cells in map(cells_of, lines.splitlines()):
+            known = ((capacity, it) for capacity, it in zip(cells_of(head)[1:], cells) if it and capacity.isdigit())
+            yield from ((row, int(capacity), peers.split(", "), it) for capacity, it in known)
 
 
 def cells_of(line):
     return [it.strip() for it in line[1:-1].split("|")]
 
 
-if __name__ == "__main__":
-    import quotes
+def counts(text):
+    """The instructions of each row, by name and capacity."""
+    return {(row, capacity): float(it.partition(":")[0]) for row, capacity, _, it in rows_of(text)}
 
-    for name in RESULTS.glob("*.md"):
-        name.write_text(explained(read(name)), encoding="utf-8")
+
+@functools.cache
+def quotable():
+    """The ratios that documents quote, by the words of a comment."""
+    text, found = read(RESULTS / "rust.md"), {}
+    for head, lines in MEANS.findall(text):
+        for label, *means, _ in map(cells_of, lines.replace("`", "").splitlines()):
+            known = {capacity: it for capacity, it in zip(cells_of(head), means) if it != NOTHING}
+            known |= {"least": min(known.values()), "most": max(known.values())}
+            found |= {f"{label} {capacity}": float(it) for capacity, it in known.items()}
+    for row, capacity, peers, ratios in rows_of(text):
+        known = {f"{row} {capacity} {peer}": it for peer, it in zip(peers, ratios.split()[1:]) if it != NOTHING}
+        found |= {name: float(it) for name, it in known.items()}
+    return found
+
+
+def filled(text):
+    """The text of a document with what it quotes of the results as they are. What they do not have is a question mark."""
+
+    def number(quote):
+        known, digits = quotable().get(quote[2]), 2 if quote[0][0] == "?" else len(quote[1] or "")
+        return f"{'?' if known is None else f'{known:.{digits}f}'}<!-- rust {quote[2]} -->"
+
+    first = lambda it: re.search(r"(?:^\|.*\n)+", read(RESULTS / f"{it}.md"), re.M)[0]
+    return QUOTED.sub(number, PLACE.sub(lambda it: f"<!-- {it[1]} -->\n{first(it[1])}", text))
+
+
+def put():
+    for file in DOCUMENTS:
+        file.write_text(filled(read(file)), encoding="utf-8")
+
+
+def faults():
+    for file in DOCUMENTS:
+        wanted = filled(read(file))
+        if wanted != read(file) or "?<!-- rust" in wanted:
+            yield f"{file.relative_to(TOP)}: what it quotes of bench/results is not there, or has changed: bench/tables.py writes it"
+
+
+if __name__ == "__main__":
     put()
-    quotes.put()

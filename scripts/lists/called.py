@@ -1,29 +1,20 @@
-"""Whether two tables name each public call of the libraries, and rows and tests show what they say.
+"""Whether calls that docs/reference/costs.txt says never allocate are shown to, and bench/calls.txt names each public call.
 
-tests/requests.txt has which calls never request memory: rows or tests show it. The rows themselves are run, and their
-requests counted, by `tests/answers`. bench/calls.txt has the row of the benchmarks at 64 and 16,384 items. What the vectors
-share, the crate of slots and the traits of slots and arrays, is measured by the vectors' calls.
+A call of a type with an allocator that costs.txt says never allocates, and that does not only read, has a row of its name
+that wants `0 requests`, which `tests/answers` counts, or a test in a module `no_memory`. bench/calls.txt has the row of the
+benchmarks of each call at 64 and 16,384 items. What the vectors share, the crate of slots and the traits of slots and arrays,
+is measured by the vectors' calls.
 """
 import re
 
+from pages import reference
 from reading import exports
 from rows import rows
 
-REQUESTS = exports.TOP / "tests/requests.txt"
-# The types of these hold no allocator, so only a call that is passed one may request memory, or one that holds a vector.
-WITHOUT_ALLOCATOR, HOLDING = ("tinyvec_slots", "tinyvec_array"), ("Drain", "Splice")
-# The forms of numbers and lists are those of the traits.
-FORMS = ("BorshSerialize", "BorshDeserialize")
-# The types whose calls the rows of a kind show.
-SHOWN = {
-    "streams": ("Counted", "BorshSerialize", "BorshError"),
-    "TinyVec": ("TinyVec", "Drain", "Splice"),
-    "InlineText": ("InlineText", "InlineTextDrain", "FromUtf8Error"),
-}
-
+WITH_ALLOCATOR = ("TinyVec", "InlineText")
 BENCH = exports.TOP / "bench/calls.txt"
 SHARED = {
-    *("tinyvec_slots", "CanCut", "CanDrain", "CanSplice", "Gap", "OwnsItems", "ItemText", "Plain", "Array", "Slots", "TakesClones", "[T]"),
+    *("tinyvec_slots", "CanCut", "CanDrain", "CanSplice", "Gap", "Touches", "OwnsItems", "ItemText", "Plain", "Array", "Slots", "TakesClones", "[T]"),
     *("[T; N]", "InBinary", "InOctal", "InHex", "InUpperHex", "AllocError", "Error", "AllocFailed", "NoMemory"),
 }
 # By type the beginnings that the names of its rows have at 64, and at 16,384.
@@ -34,34 +25,23 @@ PREFIXES = {
 
 
 def faults():
-    may_request, measured = set(), set()
-    for crate, it in ((crate, it) for crate in exports.LIBRARIES for it in exports.Crate(crate).exports()):
-        form = exports.head_of(it.trait or "")
-        holder = form if form in FORMS else it.holder()
-        for one in it.functions():
-            is_of_slots = crate in WITHOUT_ALLOCATOR and holder not in HOLDING and "alloc: " not in one.signature()
-            may_request |= set() if is_of_slots else {f"{holder}::{one.name}"}
-            measured |= set() if it.holder() in SHARED else {f"{it.holder()}::{one.name}"}
-    yield from faults_of_requests(may_request)
-    yield from faults_of_bench(measured)
+    found = [it for crate in exports.LIBRARIES for it in exports.Crate(crate).exports()]
+    functions = [(it.holder(), f"{it.holder()}::{one.name}", one.signature()) for it in found for one in it.functions()]
+    yield from faults_of_requests({call: signature for holder, call, signature in functions if holder in WITH_ALLOCATOR})
+    yield from faults_of_bench({call for holder, call, _ in functions if holder not in SHARED})
 
 
-def faults_of_requests(calls):
-    lines = exports.lines_of(REQUESTS)
-    named = [f"{kind}::{it}" for kind, _, names, _ in lines for it in names.split()]
-    yield from exports.table_faults(REQUESTS, named, calls)
-    walks = {(kind, it) for kind, how, names, by in lines if how == "never" for it in (by or names).split()}
-    for path in (exports.TOP / "tests/cases").glob("*.txt"):
-        for chain in rows.read_file(path):
-            kind = re.split(r"[<\[ ]", chain.kind)[0]
-            names = {call.split(" ")[0] for _, call, wanted in chain.calls if wanted.endswith("; 0 requests")}
-            walks -= {(it, name) for it in SHOWN.get(kind, (kind,)) for name in names}
-    yield from (f"no row of tests/cases wants `0 requests` of {call} of a {kind}" for kind, call in sorted(walks))
+def faults_of_requests(signatures):
     tests = "".join(it.read_text(encoding="utf-8") for it in (exports.TOP / "crates").glob("*_tests/src/**/no_memory.rt"))
-    tested = ((names, by) for _, how, names, by in lines if how == "tested")
-    texts = {it for names, by in tested for it in (by.split() if by else (f"{it}(" for it in names.split()))}
-    lacking = sorted(it for it in texts if it not in re.sub(r"\s", "", tests))
-    yield from (f"no test in a module no_memory has {it}" for it in lacking)
+    chains = [it for path in (exports.TOP / "tests/cases").glob("*.txt") for it in rows.read_file(path)]
+    asked = ((it.kind, call) for it in chains for _, call, wanted in it.calls if wanted.endswith("; 0 requests"))
+    shown = {(re.match(r"\w+", kind)[0], call.split(" ")[0]) for kind, call in asked}
+    for call in (it for it, (_, how) in reference.costs() if how == "never" and it in signatures):
+        may_fail = re.search("AllocError|NoMemory", signatures[call])
+        yield from [f"costs.txt: {call} never allocates, but may fail for memory"] * bool(may_fail)
+        kind, name = call.split("::")
+        is_shown = (kind, name) in shown or re.search(rf"\b{name}\(", tests) or "(&self" in signatures[call]
+        yield from [f"no row or test shows that {call} makes no request for memory"] * (not is_shown)
 
 
 def faults_of_bench(calls):

@@ -1,12 +1,13 @@
 """Writes tests/clauses.txt, the lock: what each public call states.
 
-A line `CALL: SUM NAMES` has the names of the call's clauses, each with the fields of the relations that it cites, as in
-`room(place)`, and a sum of what they state: of the clauses and ghost items, and of the definitions in `specs/` that these
-cite, and those that those cite, without comments and white space. std's words count by their names.
+A line `CALL: SUM NAMES` has the names of the call's clauses, each also with the relations that it cites, as `room.Grows`, and
+a sum of what they state: of the clauses and ghost items, and of the definitions in `specs/` that these cite, and those that
+those cite, without comments and white space. std's words count by their names. A line `CRATE.specs.FILE.WORD: NAMES` has the
+fields of a relation that one of these reaches.
 
-`tests/docs` names what the lock lacks and each sum that differs, which this writes, and each clause that the sources lack, unless a
-line of the first part of CHANGELOG.md has it and its call in backticks (of a call that is gone, the call alone). This keeps the
-names of those.
+`tests/docs` names what the lock lacks and each sum that differs, which this writes, and each name that the sources lack,
+unless a line of the first part of CHANGELOG.md has it and its call or relation in backticks (of one that is gone, that
+alone). This keeps the names of those.
 """
 import functools
 import hashlib
@@ -30,8 +31,7 @@ def write():
     for line, its in kept(names, current).items():
         current[line] = sorted({*current.get(line, ()), *its})
     sums |= stated
-    text_of = lambda line, its: f"{sums[line]} {folded(its)}".rstrip() if line in sums else " ".join(its)
-    lines = {line: text_of(line, its) for line, its in current.items()}
+    lines = {line: " ".join([*[sums[line]] * (line in sums), *its]) for line, its in current.items()}
     LOCK.write_text("".join(f"{line}: {text}\n" for line, text in sorted(lines.items()) if text), encoding="utf-8")
 
 
@@ -65,64 +65,53 @@ def read():
     names, sums = {}, {}
     for line, _, text in (it.rpartition(": ") for it in LOCK.read_text(encoding="utf-8").splitlines()):
         summed = SUM.match(text)
-        names[line] = list(unfolded(text[summed.end() :] if summed else text))
+        names[line] = (text[summed.end() :] if summed else text).split()
         sums.update({line: summed[1]} if summed else {})
     return names, sums
 
 
-def folded(names):
-    """Names with their fields, as `room(place spare)`."""
-    inside = {}
-    for it in names:
-        first, _, rest = it.partition(".")
-        inside.setdefault(first, []).extend([rest] * bool(rest))
-    return " ".join(f"{it}({folded(fields)})" if fields else it for it, fields in inside.items())
-
-
-def unfolded(text):
-    """The names that `folded` wrote."""
-    above = []
-    for opens, closes, name in re.findall(r"(\()|(\))|([\w'.-]+)", text):
-        if opens:
-            above.append(last)
-        elif closes:
-            above.pop()
-        else:
-            last = name
-            yield ".".join([*above, name])
-
-
 def found():
-    """The names by call, as the sources have them, and the sums of the calls."""
+    """The names by call and by relation, as the sources have them, and the sums of the calls."""
     names, sums = {}, {}
-    for key, its, text in (it for crate in exports.LIBRARIES for it in stated(crate)):
+    for key, its, scope, texts in (it for crate in exports.LIBRARIES for it in stated(crate)):
         names[key] = sorted(set(its))
+        reached = scope.reached(texts)
+        text = "\n".join([*map(squeezed, texts), *sorted({squeezed(word.whole) for word in reached})])
         sums |= {key: hashlib.sha256(text.encode()).hexdigest()[:8]} if text else {}
+        relations = ((f"{path(home.file)}.{it.name}", it.fields) for it, home in reached.items() if it.fields)
+        names |= {name: [field for field, _ in fields] for name, fields in relations}
     return names, sums
 
 
+def squeezed(text):
+    return " ".join(text.split())
+
+
+def path(file):
+    return ".".join(file.relative_to(TOP / "crates").with_suffix("").parts)
+
+
 def stated(crate):
-    """The public calls of a crate, each with the names of its clauses, and with what these state."""
+    """The public calls of a crate, each with the names of its clauses, and what these state in which file."""
     for export in exports.Crate(crate).exports():
         scope, forms = Scope(export.source.file), "".join(f", of {it}" for it in export.also)
         for it in export.functions():
             inside = f"::{it.name}" * (it is not export.item)
-            clauses = contracts.function(contracts.without_comments("\n".join(it.head()) + "\n"))[1]
-            yield export.key() + inside + forms, list(names_of(clauses, scope)), scope.whole(clauses.values())
+            clauses = contracts.function(contracts.without_comments("\n".join(it.head()) + "\n"))[1].values()
+            yield export.key() + inside + forms, list(names_of(clauses, scope)), scope, clauses
         # The laws of a trait are promises, and those of an impl proofs.
         is_proof = lambda line: line.startswith("ghost use") or export.kind == "impl" and reference.PROOFS.match(line)
         ghosts = [it for it in export.item.members() if it.kind == "ghost" and not is_proof(it.lines[0])]
         if ghosts:
             texts = [contracts.without_comments("\n".join(it.lines) + "\n") for it in ghosts]
-            yield f"{export.key()}::ghost{forms}", [GHOST.match(it.lines[0])[1] for it in ghosts], scope.whole(texts)
+            yield f"{export.key()}::ghost{forms}", [GHOST.match(it.lines[0])[1] for it in ghosts], scope, texts
 
 
 def names_of(clauses, scope):
-    for name, text in (it.groups() for it in map(CLAUSE.match, clauses.values()) if it):
-        fields = list(scope.fields(text))
-        yield from [name] * bool(name)
-        yield from (f"{name}.{it}" if name else it for it in fields)
-        yield from ["ensures"] * (not name and not fields)
+    for name, text in (it.groups() for it in map(CLAUSE.match, clauses) if it):
+        name = name or "ensures"
+        yield name
+        yield from (f"{name}.{it.name}" for _, it in scope.cited(WORD.findall(text)) if it.fields)
 
 
 @functools.cache
@@ -130,6 +119,7 @@ class Scope:
     """A file, with the words that it defines and those that it imports from specs/ of this repository."""
 
     def __init__(self, file):
+        self.file = file
         known = exports.imported(file.read_text(encoding="utf-8"))
         sources = {name: (definitions.source_of(path), own) for name, (path, own) in known.items() if ".specs." in path}
         self.imported = {name: it for name, it in sources.items() if it[0].is_file()}
@@ -146,23 +136,12 @@ class Scope:
                 source, own = self.imported[name]
                 yield from ((Scope(source), it) for it in [Scope(source).definitions.get(own)] if it)
 
-    def fields(self, text, above=()):
-        """The fields of the relations that a text cites, and of those that these cite."""
-        for scope, word in self.cited(WORD.findall(text)):
-            if word not in above:
-                for field, type_ in word.fields:
-                    yield field
-                    yield from (f"{field}.{it}" for it in scope.fields(type_, (*above, word)))
-                if not word.kind:
-                    yield from scope.fields(word.text.partition("=")[2], (*above, word))
-
-    def whole(self, texts):
-        """Texts, and the definitions that they cite, and those that these cite."""
+    def reached(self, texts):
+        """The words that texts cite, and those that these cite, each with the scope that defines it."""
         reached, left = {}, [(self, text) for text in texts]
         while left:
             scope, text = left.pop()
-            new = [it for it in scope.cited(sources.SPACE.split(text)) if it[1] not in reached]
-            reached |= {word: word.whole for _, word in new}
-            left += [(home, word.whole) for home, word in new]
-        squeezed = lambda texts: [" ".join(it.split()) for it in texts]
-        return "\n".join([*squeezed(texts), *sorted({*squeezed(reached.values())})])
+            new = {it: home for home, it in scope.cited(sources.SPACE.split(text)) if it not in reached}
+            reached |= new
+            left += [(home, it.whole) for it, home in new.items()]
+        return reached

@@ -1,17 +1,16 @@
 """Holds what a caller can name to tests/surface.txt, which no change shortens unseen.
 
-The list has a line for each type, call, impl, derived trait, macro, variant, public field and feature of the Rust crate, and for
-each that only these crates have:
+The list has a line for each type, call, impl, derived trait, macro, variant, public field and feature of the Rust crate, and
+for each that only these crates have:
 
     NAME in CRATE             it is here
     NAME is OTHER in CRATE    it is here, by another name
-    NAME not TEXT             it is not here: a line of docs/DIFFERENCES.md, without its bar, begins with this text, or its last
-                              column names this call
+    NAME not TEXT             it is not here: a line of docs/DIFFERENCES.md, without its bar, begins with this text, or its
+                              last column names this call
 
-and `CRATE of the kit in CRATE` for a crate of the toolchain that a library uses. What `pub use` passes on is there as of the crate
-that passes it on. Below the heading FIXED a line has a whole form: a function with the types of its arguments and of its
-result, as `Splice::touches (&self) -> u128`, a variant or a public field with its type, or an alias. Nothing here takes a line away,
-lowers the number of a heading or writes below FIXED.
+What `pub use` passes on is there as of the crate that passes it on. Below the heading FIXED a line has a whole form: a
+function with the types of its arguments and of its result, as `Splice::touches (&self) -> u128`, a variant or a public field
+with its type, or an alias. Nothing here takes a line away, lowers the number of a heading or writes below FIXED.
 """
 import functools
 import re
@@ -25,7 +24,6 @@ LIST = TOP / "tests/surface.txt"
 NAME = LIST.relative_to(TOP)
 
 LINE = re.compile(r"(?P<name>.+?) (?:(?:is (?P<other>.+) )?in (?P<crate>\w+)|not (?P<why>.+))$")
-KIT = re.compile(r"(?P<name>\w+) of the kit in (?P<crate>\w+)$")
 HEADING = re.compile(r"# (.*): (\d+) names$")
 OWN = "Of these crates alone"
 FIXED = "Forms that are fixed"
@@ -53,16 +51,13 @@ def faults():
 
 def gone(lines):
     """Lines that hold no longer."""
-    used, known = of_the_kit(), here()
+    known = here()
     told = [it.removeprefix("| ") for it in crates.text_of(TOP / "docs/DIFFERENCES.md").splitlines()]
     for line in filter(None, lines):
         if heading := HEADING.match(line):
             known = forms() if heading[1] == FIXED else here()
         elif line.startswith("#"):
             continue
-        elif found := KIT.match(line):
-            if (found["name"], found["crate"]) not in used:
-                yield f"{found['crate']} uses {found['name']} of the kit no longer"
         elif not (found := LINE.match(line)):
             yield f"this line says neither where a name is nor why it is not here: {line}"
         elif found["why"]:
@@ -72,16 +67,15 @@ def gone(lines):
             if not any(it.startswith(found["why"]) for it in lines_of_it) and found["why"] not in reference.notes():
                 yield f"docs/DIFFERENCES.md no longer says why {found['name']} is not here: {found['why']}"
         elif (found["crate"], found["other"] or found["name"]) not in known:
-            yield f"{found['other'] or found['name']} is gone from {found['crate']}" + f", by which {found['name']} was here" * bool(found["other"])
+            by = f", by which {found['name']} was here" * bool(found["other"])
+            yield f"{found['other'] or found['name']} is gone from {found['crate']}{by}"
 
 
 def lacking(lines):
     """The lines that are to be added."""
     found = [LINE.match(it) for it in lines]
     listed = {(it["crate"], it["other"] or it["name"]) for it in found if it}
-    kit = {(it["name"], it["crate"]) for it in map(KIT.match, lines) if it}
     yield from (f"{name} in {crate}" for crate, name in sorted(here() - listed))
-    yield from (f"{name} of the kit in {crate}" for name, crate in sorted(of_the_kit() - kit))
 
 
 @functools.cache
@@ -140,11 +134,3 @@ def types_of(function):
     arguments = filter(None, map(str.strip, contracts.parts_of_types(rest[1 : end - 1], ",")))
     types = [it if SELF.match(it) else re.sub(r"^(?:mut )?\w+: ", "", it) for it in arguments]
     return f"({', '.join(types)}) {rest[end:].strip(' {;')}".rstrip()
-
-
-@functools.cache
-def of_the_kit():
-    """The crates of the toolchain that the libraries use, each with its user."""
-    known = crates.read_crates()
-    kit = [(it, name, b"\n".join(known[name].sources.values())) for name in exports.LIBRARIES for it in known[name].of_kit]
-    return {(it, name) for it, name, text in kit if re.search(rf"^use {it}\b".encode(), text, re.M)}

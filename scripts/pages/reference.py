@@ -13,7 +13,7 @@ from reading.exports import PAGES
 
 TOP = exports.TOP
 FOLDER = TOP / "docs/reference"
-COSTS, REQUESTS = FOLDER / "costs.txt", TOP / "tests/requests.txt"
+COSTS = FOLDER / "costs.txt"
 MARK = "<!-- scripts/pages/reference.py writes what follows -->"
 
 # A page has at most so many lines.
@@ -64,9 +64,6 @@ def faults():
         yield from (f"{where}: {key}: a sentence without its end: {said}" for said in unended)
         yield from [f"{where}: {key} has no `///`"] * (it.kind != "impl" and not it.item.comment)
     yield from exports.table_faults(COSTS, [it for it, _ in costs()], library.calls)
-    # The rows of tests/cases show which calls make no request.
-    asking = {f"{kind}::{it}" for kind, how, names, _ in exports.lines_of(REQUESTS) if how == "may" for it in names.split()}
-    yield from (f"{REQUESTS.name} says that {it} may allocate" for it, (_, how) in costs() if how == "never" and it in asking)
     yield from examples.faults(library.keys, library.calls)
     sections = {it.section() for _, it in library.entries()}
     yield from (f"docs/reference/sections.txt: {it} is only there, or only on a page" for it in sorted(sections ^ set(SECTIONS)))

@@ -75,7 +75,7 @@ class Desk:
         return said
 
 
-def run(words, folder, limit=None, env=None):
-    """The status of a command, or none if it did not end in so many seconds, and what it says."""
-    status, said, _ = running.ask(words, limit=limit, cwd=folder, env=env, stderr=subprocess.STDOUT)
+def run(words, folder, env=None):
+    """The status of a command, and what it says."""
+    status, said, _ = running.ask(words, limit=None, cwd=folder, env=env, stderr=subprocess.STDOUT)
     return status, said.decode(errors="replace")

@@ -11,7 +11,7 @@ FOLDER = TOP / "tests/mutations"
 # A text of a file, and what stands in its place. Where `after` is given, it is the first after that one, which is once there.
 Change = collections.namedtuple("Change", "file old new after")
 PAIR = re.compile(r"(?:file: ?(.*)\n)?(?:in: ?(.*)\n)?old: ?(.*)\nnew: ?(.*)\n")
-EDIT = re.compile(rf"(edit|named|tested): (.*)\n((?:{PAIR.pattern})+)")
+EDIT = re.compile(rf"(edit|named): (.*)\n((?:{PAIR.pattern})+)")
 
 
 class BadEdit(Exception):
@@ -25,10 +25,6 @@ class Edit:
     changes: tuple[Change, ...]
     # Whether it is one of the wrong bodies that a reader would think of first, which the gate tries.
     is_named: bool = False
-    # Whether no clause says what it changes, as a text that is derived, so that a test has to find it.
-    is_tested: bool = False
-    # The file that has it, below tests/mutations.
-    place: str = ""
 
     def __str__(self):
         return f"{self.crate}/{self.name}"
@@ -63,8 +59,7 @@ def read(crate, path):
         for other, after, old, new in PAIR.findall(edit[3]):
             file = other or file
             changes.append(Change(file, old, new, after))
-        kind, place = edit[1], str(path.relative_to(FOLDER))
-        found.append(Edit(crate, edit[2], tuple(changes), kind == "named", kind == "tested", place))
+        found.append(Edit(crate, edit[2], tuple(changes), edit[1] == "named"))
     return found
 
 

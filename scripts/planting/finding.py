@@ -1,18 +1,13 @@
-"""Which tests find an edit, with no proof. Many edits are compiled into one program, and the variable PLANTED chooses one. One that
-only tests can find, and that changes no body, has a copy of its own."""
+"""Which tests find an edit, with no proof. All edits are compiled into one program, and the variable PLANTED chooses one."""
 import concurrent.futures
 import os
 import shutil
-import time
 
 from building import crates
 from . import checking, edits, functions
 
 # Of a hundred edits so many are to be found.
 FLOOR = 90
-# How many times as long as without an edit a test may run, and how many seconds more: it may compile again to name a fault.
-SLOWER, MORE = 5, 300
-RANDOM = "random calls"
 
 CHOICE = """//! Which edit counts.
 
@@ -38,31 +33,23 @@ __attribute__((weak)) unsigned planted(void)
 
 def find(found, room, jobs):
     """Tells which test finds which edit, and returns the status to end with."""
-    known = crates.read_crates()
-    changed = {edit: new_body(edit, owners, texts) for edit, owners, texts in functions.owned(found)}
-    numbered = [(edit, *it) for edit, it in changed.items() if it]
+    changed = [(edit, new_body(edit, owners, texts)) for edit, owners, texts in functions.owned(found)]
+    numbered = [(edit, *it) for edit, it in changed if it]
     lay(room, numbered)
     left = dict(enumerate((edit for edit, *_ in numbered), 1))
-    for edit in (it for it, body in changed.items() if not body and it.is_tested):
-        alone = room / f"alone-{len(left)}"
-        lay(alone, [])
-        folder = alone / "crates" / edit.crate
-        crates.write_files(folder, {file: text.encode() for file, text in edits.applied(edit, edits.reader(folder))[1].items()})
-        left[alone] = edit
-    count = len(left)
     with concurrent.futures.ThreadPoolExecutor(jobs) as pool:
-        for name, tested, words in tests_of(room, known):
-            # What only a test finds is a text, and random calls look at none.
-            fit = [it for it in left if left[it].crate in tested and (name != RANDOM or isinstance(it, int))]
-            faults = pool.map(finder(name, words, room), fit) if fit else ()
-            for key, fault in zip(fit, faults):
-                if fault is not None:
-                    print(f"{left.pop(key)}: found by {name}: {fault}", flush=True)
-    for it in left.values():
-        print(f"not found: {it}")
-    for it in (it for it, body in changed.items() if not body and not it.is_tested):
-        print(f"left out, since it changes more than the body of one function: {it}")
-    print(f"mutants: tests find {count - len(left)} of {count} edits")
+        for name, tested, words in tests_of(room):
+            fit = [it for it in left if left[it].crate in tested]
+            # This compiles what the runs side by side need.
+            if fit and (fault := fault_of(words, 0)):
+                raise SystemExit(f"mutants: {name} fails where no edit counts: {fault}")
+            for it, fault in zip(fit, pool.map(lambda it: fault_of(words, it), fit)):
+                if fault:
+                    print(f"{left.pop(it)}: found by {name}: {fault}", flush=True)
+    print("".join(f"not found: {it}\n" for it in left.values()), end="")
+    count = len(numbered)
+    others = f"; {len(changed) - count} change more than the body of one function" if count < len(changed) else ""
+    print(f"mutants: tests find {count - len(left)} of {count} edits{others}")
     return 1 if 100 * (count - len(left)) < FLOOR * count or not count else 0
 
 
@@ -98,41 +85,20 @@ def lay(top, numbered):
         crates.write_files(folder, {"src/planted.rt": CHOICE.encode(), "c/planted.c": CHOICE_IN_C.encode()})
 
 
-def tests_of(top, known):
+def tests_of(top):
     """The tests, those first that find most in least time: the name of each, the crates whose code it runs, and its command."""
-    below = {it: {one.name for one in (*it.below, it)} for it in known.values()}
+    below = {it: {one.name for one in (*it.below, it)} for it in crates.read_crates().values()}
     answering = set().union(*(below[it] for it in below if it.name.endswith("_cases")))
-    yield RANDOM, answering | {"tv", "example_dns_query"}, [top / "tests/random", "--try"]
+    yield "random calls", answering | {"tv", "example_dns_query"}, [top / "tests/random", "--try"]
     yield "rows", answering, [top / "tests/answers", "--try"]
     for it in sorted(below, key=crates.Crate.has_tests):
         if it.has_tests() or it.files.get("stdout"):
             yield it.name, below[it], [top / "tests/quick", it.name]
 
 
-def finder(name, words, room):
-    """What a test finds of the edit of a number, or of that in a copy. It compiles what it needs at first, and has some times as long as it takes
-    where no edit counts."""
-    run(words, 0, None)
-    began = time.monotonic()
-    fault = run(words, 0, None)
-    if fault is not None:
-        raise SystemExit(f"mutants: {name} fails where no edit counts: {fault}")
-    limit = MORE + SLOWER * (time.monotonic() - began)
-
-    def fault_of(key):
-        if isinstance(key, int):
-            return run(words, key, limit)
-        return run([key / words[0].relative_to(room), *words[1:]], 0, limit)
-
-    return fault_of
-
-
-def run(words, number, limit):
+def fault_of(words, number):
     """What a command says of the edit of this number, or None where it does not find it."""
-    env = {**os.environ, "RT_ALLOW_C": "1", "PLANTED": str(number)}
-    status, wrote = checking.run(words, words[0].parent, limit, env)
-    if status == 0:
-        return None
-    lines = wrote.strip().splitlines() if status else ["it does not end"]
+    status, wrote = checking.run(words, words[0].parent, {**os.environ, "RT_ALLOW_C": "1", "PLANTED": str(number)})
+    lines = wrote.strip().splitlines() or ["nothing"]
     first = next((at for at, it in enumerate(lines) if ": FAILED" in it), 0)
-    return " ".join(lines[first : first + 2])[:250]
+    return " ".join(lines[first : first + 2])[:250] if status else None

@@ -32,10 +32,6 @@ DECLARED = re.compile(
 USED = re.compile(r"pub use ([\w:]+?)(?:::(\{[^}]*\}|\w+|\*))?;", re.S)
 NAMED = re.compile(r"(\w+)(?: as (\w+))?")
 
-# A line that begins something that may be exported. Each has to be one that `Source` reads, so no layout escapes it.
-BEGINS = re.compile(r"^(?:    )?(?:pub (?:const )?(?:fn|trait|struct|enum|type)\b|macro_rules!|impl\b)")
-
-
 class Item:
     """A declaration: its comment, and what is no part of that, its attributes, its lines, and the line of the file that it begins
     at."""
@@ -111,7 +107,6 @@ class Source:
         text = file.read_text(encoding="utf-8")
         self.title = re.match(r"//! (.*?)\.?\n", text)[1]
         self.items = list(items_in(text.splitlines(), 1))
-        self.begins = [at for at, line in enumerate(text.splitlines(), 1) if BEGINS.match(line)]
 
 
 class Export:
@@ -204,16 +199,7 @@ class Crate:
                 yield alias
 
     def lost(self):
-        """What the sources export as far as a look at single lines tells, and what this did not find."""
-        for source in self.sources.values():
-            # Lines that begin a declaration, and that no item begins at.
-            read = {it.at for item in source.items for it in (item, *item.members())}
-            inside = [range(it.at + 1, it.at + len(it.lines)) for it in source.items if it.kind in ("fn", "macro_rules!")]
-            lost = [at for at in source.begins if at not in read and not any(at in it for it in inside)]
-            # What an impl has that is public and no function.
-            members = (it for item in source.items if item.kind == "impl" for it in item.members())
-            lost += [it.at for it in members if it.is_public and it.kind != "fn"]
-            yield from (f"{source.path}:{at}: scripts/reading/exports.py does not read what begins here" for at in lost)
+        """What the crate passes on by name, and this did not find."""
         lib = f"crates/{self.name}/src/lib.rt"
         used = USED.findall((TOP / lib).read_text(encoding="utf-8"))
         listed = {name for _, names in used for name, _ in NAMED.findall(names)}

@@ -1,7 +1,7 @@
 """Finds what was left behind in the sources, and edits that can no longer be applied: a definition of specs/ or proofs/
 that nothing reaches from the contracts, the answers to goals and the documents; a name that a file imports and does not
 use, or that an item imports and its file has at its top. Names are compared as words, so one that two things share is told of
-neither. First it looks for a fault of each kind in PLANTED.
+neither.
 """
 import collections
 import functools
@@ -34,44 +34,17 @@ METHODS = {
 
 AT_TOP = "which the file has at its top already"
 
-# Files with a fault each, and what is to be told of it.
-PLANTED = (
-    ("proofs/A.antt", "one : ℕ\none = two\n\nmodule _ (x : ℕ)\n    where\n  two : ℕ\n  two = one\n", "nothing names two"),
-    ("proofs/B.antt", "use A.{◌+◌, ◌∙◌}\nuse B as goal\n\na : goal.a\na = b + c\n", "it imports ◌∙◌ and does not use it"),
-    ("src/c.rt", "use std::{mem, io::{self, Read}};\n\nfn f() { mem::take(io::stdin().bytes()); g(Some(Write)); }\n", ""),
-    ("src/d.rt", "use std::{mem, fmt::Write};\n\nfn f() { write!(w, \"\") }\n", "it imports mem and does not use it"),
-    ("src/e.rt", "ghost use A.{b};\n\nimpl C {\n    ghost use A.{b};\n}\n", f"an item imports b, {AT_TOP}"),
-    ("src/f.rt", "pub trait Here {\n    const MOST: usize;\n}\n", ""),
-    ("src/g.rt", "use f::Here;\n\nfn f() { g(T::MOST); }\n", ""),
-)
-AMBIGUOUS = edits.Edit("planted", "ambiguous", (edits.Change("src/a.rt", "x", "y", ""),))
-
 
 def faults(asked=()):
     """What was left behind in these crates, or in all."""
     known = crates.read_crates()
     asked = asked or list(known)
-    yield from untold()
     sources = [Source(it.name, path, text.decode()) for it in known.values() for path, text in it.sources.items()]
     texts = (crates.text_of(it) for pattern in DOCUMENTS for it in crates.TOP.glob(pattern))
     documents = {word for text in texts for word in SPACE.split(text)}
     found = (it for it in Workspace(sources, documents).faults() if it[0].crate in asked)
     yield from sorted(f"crates/{source.crate}/{source.path}: {what}" for source, what in found)
     yield from sorted(f"tests/mutations: {it}" for it in edits.read_all([it for it in asked if (edits.FOLDER / it).is_dir()])[1])
-
-
-def untold():
-    """What is told wrongly of PLANTED."""
-    sources = [Source("planted", path, text) for path, text, _ in PLANTED]
-    told = collections.defaultdict(list)
-    for source, what in Workspace(sources, set()).faults():
-        told[source.path].append(what)
-    for path, _, wanted in PLANTED:
-        if (wanted in told[path]) if wanted else not told[path]:
-            continue
-        yield f"of the planted {path} it should tell: {wanted or 'nothing'}; it tells: {told[path]}"
-    if not edits.misfit(AMBIGUOUS, lambda path: "x x"):
-        yield "it applies an edit whose old text is in its file twice"
 
 
 class Source:

@@ -32,11 +32,22 @@ pub fn fill_and_empty<T: Number, V: Vector<T, N>, const N: usize>(vec: &mut V, x
     pop_all(vec)
 }
 
-/// Pushes from none until the vector is full.
+// Pushes from none until the vector is full.
 #[inline(never)]
-pub fn push_all<T: Number, V: Vector<T, N>, const N: usize>(vec: &mut V, x: u64) -> u64 {
+fn push_all<T: Number, V: Vector<T, N>, const N: usize>(vec: &mut V, x: u64) -> u64 {
     vec.set_len(0);
     push_until_full(vec, x)
+}
+
+/// Clears the list, and makes it the items of `source`.
+#[inline(never)]
+pub fn refill<T: Number + Copy, V: Vector<T, N>, const N: usize>(vec: &mut V, source: &[T], x: u64) -> u64 {
+    vec.clear();
+    if V::IS_BOUNDED && source.len() > N {
+        return 0;
+    }
+    vec.extend_from_slice(source);
+    x.wrapping_add(vec.as_slice().len() as u64)
 }
 
 /// Cuts the list to its first half, and pushes until the vector is full.
@@ -72,17 +83,6 @@ pub fn insert_front<T: Number, V: Vector<T, N>, const N: usize>(vec: &mut V, x: 
         return 0;
     };
     vec.insert(0, T::of(x));
-    last.value()
-}
-
-/// Pops an item, and inserts one in the middle.
-#[inline(never)]
-pub fn insert_middle<T: Number, V: Vector<T, N>, const N: usize>(vec: &mut V, x: u64) -> u64 {
-    let Some(last) = vec.pop() else {
-        return 0;
-    };
-    let middle = vec.as_slice().len() / 2;
-    vec.insert(middle, T::of(x));
     last.value()
 }
 
@@ -214,16 +214,6 @@ pub fn replace_range<V: Vector<u64, N>, const N: usize>(vec: &mut V, source: &[u
 pub fn extract_half<V: Vector<u64, N>, const N: usize>(vec: &mut V, source: &[u64], x: u64) -> u64 {
     extend_from_slice(vec, source, x);
     vec.sum_of_extracted(|y| *y % 2 == 1, x)
-}
-
-/// The sum of the items and `x`.
-#[inline(never)]
-pub fn sum<T: Number, V: Vector<T, N>, const N: usize>(vec: &V, x: u64) -> u64 {
-    let mut sum = x;
-    for y in vec.as_slice().iter() {
-        sum = sum.wrapping_add(y.value());
-    }
-    sum
 }
 
 /// The last item, or 0 where there is none.

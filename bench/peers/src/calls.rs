@@ -29,6 +29,12 @@ fn refill_slice(vec: &mut SliceVec<'_, u64>, source: &[u64]) {
     vec.extend_from_slice(source);
 }
 
+/// Not inlined, or LLVM would leave out what no later round reads.
+#[inline(never)]
+fn changed<V>(vec: &mut V, change: impl FnOnce(&mut V)) {
+    change(vec)
+}
+
 /// A row for each name, over a list, another, what they are filled with, and what fills them.
 macro_rules! rows {
     ($report:expr, $n:expr, $vec:expr, $other:expr, $refill:expr, $($call:ident)*) => {{
@@ -47,12 +53,15 @@ macro_rules! row {
     };
     (compared, $report:ident, $n:ident, $vec:ident, $other:ident, $source:ident, $refill:expr) => {
         if $n > 64 {
-            $refill($vec, $source);
-            $refill($other, $source);
-            $report.row("equal", $n, |x| equal(&*$vec, &*$other, x));
-            $report.row("compare", $n, |x| compare(&*$vec, &*$other, x));
-            $report.row("hash", $n, |x| hash(&*$vec, x));
+            row!(compared_anyhow, $report, $n, $vec, $other, $source, $refill);
         }
+    };
+    (compared_anyhow, $report:ident, $n:ident, $vec:ident, $other:ident, $source:ident, $refill:expr) => {
+        $refill($vec, $source);
+        $refill($other, $source);
+        $report.row("equal", $n, |x| equal(&*$vec, &*$other, x));
+        $report.row("compare", $n, |x| compare(&*$vec, &*$other, x));
+        $report.row("hash", $n, |x| hash(&*$vec, x));
     };
     (pop_if, $report:ident, $n:ident, $vec:ident, $other:ident, $source:ident, $refill:expr) => {
         $report.row("pop_if", $n, |x| {
@@ -154,14 +163,6 @@ macro_rules! row {
             x.wrapping_add($vec.len() as u64)
         });
     };
-    (drop_half, $report:ident, $n:ident, $vec:ident, $other:ident, $source:ident, $refill:expr) => {
-        $report.row("drop_half", $n, |x| {
-            $refill($vec, $source);
-            let len = $vec.len();
-            drop($vec.drain(len / 4..len - len / 4));
-            x.wrapping_add($vec.len() as u64)
-        });
-    };
     (drain_back, $report:ident, $n:ident, $vec:ident, $other:ident, $source:ident, $refill:expr) => {
         $report.row("drain_back", $n, |x| {
             $refill($vec, $source);
@@ -182,20 +183,24 @@ macro_rules! row {
     };
     (resize, $report:ident, $n:ident, $vec:ident, $other:ident, $source:ident, $refill:expr) => {
         $report.row("resize", $n, |x| {
-            $vec.truncate(0);
-            $vec.resize($n, x);
+            changed($vec, |vec| {
+                vec.truncate(0);
+                vec.resize($n, x);
+            });
             x.wrapping_add($vec.len() as u64)
         });
         $report.row("resize_with", $n, |x| {
-            $vec.truncate(0);
-            $vec.resize_with($n, || 1);
+            changed($vec, |vec| {
+                vec.truncate(0);
+                vec.resize_with($n, || 1);
+            });
             x.wrapping_add($vec.len() as u64)
         });
     };
     (clone_from, $report:ident, $n:ident, $vec:ident, $other:ident, $source:ident, $refill:expr) => {
         $refill($vec, $source);
         $report.row("clone_from", $n, |x| {
-            $other.clone_from($vec);
+            changed($other, |other| other.clone_from($vec));
             x.wrapping_add($other.len() as u64)
         });
     };
@@ -276,10 +281,21 @@ fn last_of_new<V: std::ops::Deref<Target = [u64]>>(source: &[u64], make: impl Fn
     x.wrapping_add(vec.last().map_or(0, Number::value))
 }
 
-/// New lists with room for all numbers.
+/// A loop of pushes, and new lists with room for all numbers.
 fn with_capacity<V: Vector<u64, N>, const N: usize>(report: &Report, n: usize, make: fn(usize) -> V) {
+    let mut vec = make(n);
+    report.row("clear_and_push", n, |x| clear_and_push(&mut vec, n as u64, x));
     let source = runs_of(n);
     report.row("with_capacity", n, |x| len_of_new(source.as_slice(), make, x));
+}
+
+#[inline(never)]
+fn clear_and_push<V: Vector<u64, N>, const N: usize>(vec: &mut V, count: u64, x: u64) -> u64 {
+    vec.clear();
+    for k in 0..count {
+        vec.push(x.wrapping_add(k));
+    }
+    x.wrapping_add(vec.as_slice().len() as u64)
 }
 
 #[inline(never)]
@@ -299,26 +315,16 @@ fn printed(report: &Report, n: usize, list: &(impl std::fmt::Debug + ?Sized)) {
     });
 }
 
-fn displayed(report: &Report, n: usize, list: &impl std::fmt::Display) {
-    let mut text = String::new();
-    report.row("display", n, |x| {
-        text.clear();
-        let _ = write!(text, "{list}");
-        look_at(text.as_bytes(), x)
-    });
-}
-
 /// The rows of `tinyvec`'s vectors of `N` slots.
 pub fn of_tinyvec_array<const N: usize>(report: &Report) {
     let (mut vec, mut other) = (ArrayVec::<[u64; N]>::new(), ArrayVec::<[u64; N]>::new());
     let (vec, other) = (&mut vec, &mut other);
     rows!(report, N, &mut *vec, &mut *other, refill::<_, N>, cmp pop_if push_mut insert_mut extend_twice append pop_all truncate clear
-        drop_half drain_back compared split_off resize clone_from);
+        drain_back compared split_off resize clone_from);
     made_rows!(report, N, |items: &[u64]| ArrayVec::<[u64; N]>::try_from(items).unwrap());
     rows!(report, N, &mut *vec, &mut *other, refill::<_, N>, pop_at extend_copy drain_into splice_all drain_to_vec);
     refill::<_, N>(vec, &runs_of(N));
     printed(report, N, vec);
-    displayed(report, N, vec);
 }
 
 /// Those of a lent slice.
@@ -327,7 +333,7 @@ pub fn of_tinyvec_slice<const N: usize>(report: &Report) {
     let mut vec = SliceVec::from_slice_len(&mut slots, 0);
     let mut other = SliceVec::from_slice_len(&mut others, 0);
     rows!(report, N, &mut vec, &mut other, refill_slice, cmp pop_if push_mut insert_mut extend_twice append pop_all truncate clear
-        drop_half compared pop_at extend_copy drain_into drain_to_vec);
+        compared_anyhow pop_at extend_copy drain_into drain_to_vec);
 }
 
 /// Those of a `TinyVec` of `n` items over `N` slots.
@@ -338,13 +344,12 @@ where
     let (mut vec, mut other) = (TinyVec::<[u64; N]>::new(), TinyVec::<[u64; N]>::new());
     let (vec, other) = (&mut vec, &mut other);
     rows!(report, n, &mut *vec, &mut *other, refill::<_, N>, cmp pop_if push_mut insert_mut extend_twice append pop_all truncate clear
-        drop_half drain_back compared split_off resize clone_from);
+        drain_back compared split_off resize clone_from);
     made_rows!(report, n, |items: &[u64]| TinyVec::<[u64; N]>::from(items));
     rows!(report, n, &mut *vec, &mut *other, refill::<_, N>, pop_at extend_copy drain_into splice_all reserve_and_shrink);
     with_capacity::<TinyVec<[u64; N]>, N>(report, n, TinyVec::with_capacity);
     refill::<_, N>(vec, &runs_of(n));
     printed(report, n, vec);
-    displayed(report, n, vec);
 }
 
 /// Those of a `SmallVec`, in place of an `ArrayVec` or a `TinyVec`.
@@ -352,7 +357,7 @@ pub fn of_smallvec<const N: usize>(report: &Report, n: usize, is_tiny: bool) {
     let (mut vec, mut other) = (smallvec::SmallVec::<[u64; N]>::new(), smallvec::SmallVec::<[u64; N]>::new());
     let (vec, other) = (&mut vec, &mut other);
     rows!(report, n, &mut *vec, &mut *other, refill::<_, N>, cmp pop_if push_mut insert_mut extend_twice append pop_all truncate clear
-        retain_mut dedup_by drop_half drain_back compared resize clone_from);
+        retain_mut dedup_by drain_back compared resize clone_from);
     made_rows!(report, n, smallvec::SmallVec::<[u64; N]>::from_slice);
     rows!(report, n, &mut *vec, &mut *other, refill::<_, N>, pop_at extend_copy drain_into);
     if is_tiny {
@@ -370,7 +375,7 @@ pub fn of_arrayvec<const N: usize>(report: &Report) {
     let (mut vec, mut other) = (arrayvec::ArrayVec::<u64, N>::new(), arrayvec::ArrayVec::<u64, N>::new());
     let (vec, other) = (&mut vec, &mut other);
     rows!(report, N, &mut *vec, &mut *other, refill::<_, N>, cmp pop_if push_mut insert_mut extend_twice_by_try pop_all truncate
-        clear drop_half drain_back compared clone_from);
+        clear drain_back compared clone_from);
     made_rows!(report, N, |items: &[u64]| arrayvec::ArrayVec::<u64, N>::try_from(items).unwrap());
     rows!(report, N, &mut *vec, &mut *other, refill::<_, N>, pop_at extend_copy drain_into drain_to_vec);
     refill::<_, N>(vec, &runs_of(N));
@@ -382,7 +387,7 @@ pub fn of_vec(report: &Report, n: usize, is_tiny: bool) {
     let (mut vec, mut other) = (Vec::<u64>::new(), Vec::<u64>::new());
     let (vec, other) = (&mut vec, &mut other);
     rows!(report, n, &mut *vec, &mut *other, refill::<_, 0>, cmp pop_if push_mut insert_mut extend_twice append extend_from_within pop_all
-        truncate clear retain_mut dedup_by drop_half drain_back compared split_off resize clone_from);
+        truncate clear retain_mut dedup_by drain_back compared split_off resize clone_from);
     made_rows!(report, n, <[u64]>::to_vec);
     rows!(report, n, &mut *vec, &mut *other, refill::<_, 0>, pop_at extend_copy drain_into splice_all);
     if is_tiny {

@@ -1,4 +1,4 @@
-//! Dates that are printed piece by piece into a new text, as the header of a mail has them and as ISO 8601 does.
+//! A date that is printed piece by piece into a new text, as the header of a mail has it.
 
 use crate::texts::look_at;
 
@@ -102,28 +102,6 @@ fn push_mail_date<L: Letters>(made: &mut L, n: u8) {
     made.push(' ');
     push_time(made, n);
     made.push_str(" +0000");
-}
-
-/// Makes a new text, and prints a date as `2024-07-13T15:09:59Z`.
-#[inline(never)]
-pub fn text_iso_date<L: Letters>(made: &mut L, x: u64) -> u64 {
-    *made = L::default();
-    push_iso_date(made, (x % 8) as u8);
-    look_at(made.as_bytes(), x)
-}
-
-// Not inlined, as a printer that has several callers.
-#[inline(never)]
-fn push_iso_date<L: Letters>(made: &mut L, n: u8) {
-    push_two(made, 20);
-    push_two(made, n);
-    made.push('-');
-    push_two(made, n);
-    made.push('-');
-    push_two(made, n);
-    made.push('T');
-    push_time(made, n);
-    made.push('Z');
 }
 
 fn push_time<L: Letters>(made: &mut L, n: u8) {

@@ -42,39 +42,29 @@ impl Plain for u32 {
     }
 }
 
-/// Writes the list, whose first item is made from `x`, and answers the first byte behind the count, and how many bytes
-/// there are.
+/// Writes the list, and answers how many bytes there are.
 #[inline(never)]
-pub fn borsh_write<T: Plain, const N: usize>(vec: &mut ArrayVec<[T; N]>, form: &mut Vec<u8>, x: u64) -> u64
+pub fn borsh_write<T: Plain, const N: usize>(vec: &ArrayVec<[T; N]>, form: &mut Vec<u8>, x: u64) -> u64
 where
     [T; N]: tinyvec::Array<Item = T>,
 {
-    if let Some(first) = vec.first_mut() {
-        *first = T::of(x);
-    }
     form.clear();
-    if form.write_all(&(vec.len() as u64).to_le_bytes()).is_err() || T::write_items(vec, form).is_err() {
-        return 0;
-    }
-    let byte = form.get(COUNT).map_or(0, |b| *b as u64);
-    byte.wrapping_add(form.len() as u64)
+    let _ = form.write_all(&(vec.len() as u64).to_le_bytes());
+    let _ = T::write_items(vec, form);
+    x.wrapping_add(form.len() as u64)
 }
 
-/// Reads the list from bytes, of which the one behind the count is made from `x`, and answers its first and last item and
-/// its length, added up.
+/// Reads the list from its bytes.
 #[inline(never)]
-pub fn borsh_read<T: Plain, const N: usize>(vec: &mut ArrayVec<[T; N]>, form: &mut Vec<u8>, x: u64) -> u64
+pub fn borsh_read<T: Plain, const N: usize>(vec: &mut ArrayVec<[T; N]>, form: &[u8], x: u64) -> u64
 where
     [T; N]: tinyvec::Array<Item = T>,
 {
-    if let Some(byte) = form.get_mut(COUNT) {
-        *byte = x as u8;
-    }
-    match read_list::<T, N>(&mut form.as_slice()) {
-        Ok(list) => *vec = list,
-        Err(_) => return 0,
-    }
-    ends(vec)
+    let Ok(list) = read_list::<T, N>(&mut &*form) else {
+        return 0;
+    };
+    *vec = list;
+    x
 }
 
 fn read_list<T: Plain, const N: usize>(reader: &mut impl Read) -> io::Result<ArrayVec<[T; N]>>
@@ -91,11 +81,4 @@ where
     list.set_len(count as usize);
     T::read_items(&mut list, reader)?;
     Ok(list)
-}
-
-fn ends<T: Number>(list: &[T]) -> u64 {
-    match (list.first(), list.last()) {
-        (Some(first), Some(last)) => first.value().wrapping_add(last.value()).wrapping_add(list.len() as u64),
-        _ => 0,
-    }
 }

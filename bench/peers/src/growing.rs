@@ -20,7 +20,6 @@ pub trait Growing<T: Number, const N: usize>: Vector<T, N> {
     /// A list of the items.
     fn collected(items: impl Iterator<Item = T>) -> Self;
 
-    fn append(&mut self, other: &mut Self);
     fn resize(&mut self, n: usize, x: T);
 }
 
@@ -45,11 +44,6 @@ macro_rules! shared_calls {
         #[inline(always)]
         fn collected(items: impl Iterator<Item = T>) -> Self {
             items.collect()
-        }
-
-        #[inline(always)]
-        fn append(&mut self, other: &mut Self) {
-            self.append(other)
         }
 
         #[inline(always)]

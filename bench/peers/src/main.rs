@@ -1,7 +1,6 @@
 //! The benchmarks of `crates/tinyvec_bench` over the crates that users would pick instead, and five programs, most over
 //! `tinyvec`. The first argument is `tinyvec`, `smallvec`, `arrayvec` or `vec`, or the name of a program. The benchmarks
-//! print checksums, with `rows ROUNDS` times too, and with `growth` in the place of `rows` those of the same calls at many
-//! lengths. A program reads standard input and writes standard output.
+//! print checksums, and with `rows ROUNDS` times too. A program reads standard input and writes standard output.
 
 mod benchmarks;
 mod calls;
@@ -11,13 +10,11 @@ mod dns_query;
 mod fnv;
 mod form;
 mod growing;
-mod growth;
 mod lines;
 mod node_lines;
 mod nodes;
 mod number;
 mod peers;
-mod printing;
 mod records;
 mod report;
 mod rows;
@@ -60,10 +57,5 @@ fn main() -> ExitCode {
         Some(Ok(rounds)) => Report { prefix: "", rounds, is_timed: true },
         Some(Err(_)) => return ExitCode::FAILURE,
     };
-    let is_known = match word(1) {
-        None | Some("rows") => peers::rows_of(word(0), report),
-        Some("growth") => peers::growth_of(word(0), report),
-        Some(_) => false,
-    };
-    if is_known { ExitCode::SUCCESS } else { ExitCode::FAILURE }
+    if peers::rows_of(word(0), report) { ExitCode::SUCCESS } else { ExitCode::FAILURE }
 }

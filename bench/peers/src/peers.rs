@@ -1,17 +1,13 @@
 //! Which rows a peer has, over which types.
 
 use crate::calls::{of_arrayvec, of_smallvec, of_tinyvec_array, of_tinyvec_slice, of_tinyvec_tiny, of_vec};
-use crate::growth::{of_arrays, of_lists};
 use crate::nodes::Node;
 use crate::report::Report;
 use crate::rows::{
-    of_bytes, of_dates, of_few, of_forms, of_heap, of_inline, of_long, of_long_array, of_long_lists, of_nodes, of_slice_edits,
-    of_slices, of_spilling, of_texts, of_words,
+    of_bytes, of_dates, of_forms, of_heap, of_inline, of_long, of_long_array, of_long_lists, of_nodes, of_slices, of_spilling, of_texts,
+    of_words,
 };
 use crate::texts::{of_front_half, of_text_calls, of_text_own};
-
-/// The lengths of a list that grows.
-const LENGTHS: [usize; 10] = [4, 16, 64, 256, 1024, 4096, 16384, 65536, 262144, 1048576];
 
 /// Runs a generic function at every capacity, over the types that a macro names for an item and a capacity.
 macro_rules! at_each_capacity {
@@ -20,7 +16,6 @@ macro_rules! at_each_capacity {
         $rows::<$($vector!($item, 4),)* 4>(&report);
         $rows::<$($vector!($item, 16),)* 16>(&report);
         $rows::<$($vector!($item, 64),)* 64>(&report);
-        $rows::<$($vector!($item, 1024),)* 1024>(&report);
     }};
 }
 
@@ -29,17 +24,7 @@ macro_rules! fixed {
     ($report:expr, $vector:ident) => {{
         at_each_capacity!(of_words, $report, $vector, [u64]);
         at_each_capacity!(of_bytes, $report, $vector, [u8]);
-        few!($report.with_prefix("few_"), $vector);
         nodes!($report.with_prefix("nodes_"), $vector);
-    }};
-}
-
-/// The rows of lists that fill a quarter of the slots.
-macro_rules! few {
-    ($report:expr, $vector:ident) => {{
-        let report = $report;
-        of_few::<$vector!(u64, 8), 8>(&report);
-        of_few::<$vector!(u64, 32), 32>(&report);
     }};
 }
 
@@ -58,36 +43,10 @@ macro_rules! growing {
         at_each_capacity!(of_inline, $report.with_prefix("tiny_"), $vector, [u64, u8]);
         at_each_capacity!(of_heap, $report.with_prefix("tiny_heap_"), $vector, [u64, u8]);
         at_each_capacity!(of_spilling, $report.with_prefix("tiny_spill_"), $vector, [u64]);
-        few!($report.with_prefix("tiny_few_"), $vector);
         nodes!($report.with_prefix("tiny_nodes_"), $vector);
         let report = $report.with_prefix("tiny_long_");
-        of_long::<$vector!(u64, 4)>(&report, 16);
         of_long::<$vector!(u64, 4)>(&report, 64);
-        of_long::<$vector!(u64, 4)>(&report, 1024);
         of_long::<$vector!(u64, 4)>(&report, 16384);
-    }};
-}
-
-/// The rows of arrays of many lengths.
-macro_rules! arrays {
-    ($report:expr, $vector:ident) => {{
-        let report = $report.with_prefix("array_");
-        of_arrays::<$vector!(u64, 4), 4>(&report);
-        of_arrays::<$vector!(u64, 16), 16>(&report);
-        of_arrays::<$vector!(u64, 64), 64>(&report);
-        of_arrays::<$vector!(u64, 256), 256>(&report);
-        of_arrays::<$vector!(u64, 1024), 1024>(&report);
-        of_arrays::<$vector!(u64, 4096), 4096>(&report);
-    }};
-}
-
-/// The rows of lists of many lengths.
-macro_rules! lists {
-    ($report:expr, $vector:ident) => {{
-        let report = $report.with_prefix("tiny_");
-        for n in LENGTHS {
-            of_lists::<$vector!(u64, 4)>(&report, n);
-        }
     }};
 }
 
@@ -116,7 +75,6 @@ pub fn rows_of(peer: Option<&str>, report: Report) -> bool {
     match peer {
         Some("tinyvec") => {
             fixed!(report, tinyvec_array);
-            at_each_capacity!(of_slices, report, tinyvec_array, []);
             growing!(report, tinyvec_tiny);
             of_tinyvec_array::<64>(&report);
             of_tinyvec_array::<16384>(&report);
@@ -124,16 +82,15 @@ pub fn rows_of(peer: Option<&str>, report: Report) -> bool {
             let slices = report.with_prefix("slice_");
             of_tinyvec_slice::<64>(&slices);
             of_tinyvec_slice::<16384>(&slices);
-            of_slice_edits::<16384>(&report);
+            of_slices::<64>(&slices);
+            of_slices::<16384>(&slices);
             of_tinyvec_tiny::<64>(&report.with_prefix("tiny_"), 64);
             let long = report.with_prefix("tiny_long_");
             of_tinyvec_tiny::<4>(&long, 64);
             of_tinyvec_tiny::<4>(&long, 16384);
             of_long_lists::<tinyvec::TinyVec<[u64; 4]>>(&long);
-            of_forms::<16>(&report);
             of_forms::<64>(&report);
             of_forms::<16384>(&report);
-            of_forms::<1024>(&report);
             of_dates::<tinyvec::TinyVec<[u8; 64]>>(&report);
         }
         Some("smallvec") => {
@@ -177,26 +134,10 @@ pub fn rows_of(peer: Option<&str>, report: Report) -> bool {
             of_text_calls(&heap, 64);
             of_text_own(&heap, 64);
             of_front_half(&heap, 64);
-            of_text_calls(&report, 1024);
             of_text_calls(&report, 16384);
             of_text_own(&report, 16384);
             of_front_half(&report, 16384);
         }
-        _ => return false,
-    }
-    true
-}
-
-/// Runs the peer's rows at many lengths. Answers whether there is such a peer.
-pub fn growth_of(peer: Option<&str>, report: Report) -> bool {
-    match peer {
-        Some("tinyvec") => {
-            arrays!(report, tinyvec_array);
-            lists!(report, tinyvec_tiny);
-        }
-        Some("smallvec") => lists!(report, smallvec),
-        Some("arrayvec") => arrays!(report, arrayvec),
-        Some("vec") => lists!(report, vec_of),
         _ => return false,
     }
     true

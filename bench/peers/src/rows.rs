@@ -3,19 +3,18 @@
 use crate::benchmarks::*;
 use crate::calls::runs_of;
 use crate::comparing::{compare, equal, hash, hash_key};
-use crate::dates::{text_iso_date, text_mail_date, text_mail_date_reserved, Letters};
+use crate::dates::{text_mail_date, text_mail_date_reserved, Letters};
 use crate::form::{borsh_read, borsh_write};
 use crate::growing::Growing;
 use crate::nodes::Node;
 use crate::number::Number;
-use crate::printing::{debug_print, Text};
 use crate::report::Report;
 use crate::slices::*;
 use crate::sources::{higher_at, pairs, scattered, LETTERS};
 use crate::spilling;
 use crate::texts::{text_push, text_push_str};
 use crate::vector::Vector;
-use tinyvec::{ArrayVec, SliceVec};
+use tinyvec::ArrayVec;
 
 /// Every benchmark of a vector of `u64`.
 pub fn of_words<V: Vector<u64, N>, const N: usize>(report: &Report) {
@@ -63,7 +62,6 @@ fn of_long_list<V: Growing<u64, 4>>(report: &Report, n: usize) {
 // An item in or out of a full list, which stays so.
 fn moves<V: Vector<u64, N>, const N: usize>(report: &Report, n: usize, vec: &mut V) {
     report.row("insert_front", n, |x| insert_front(vec, x));
-    report.row("insert_middle", n, |x| insert_middle(vec, x));
     report.row("remove_front", n, |x| remove_front(vec, x));
     report.row("remove_middle", n, |x| remove_middle(vec, x));
     report.row("swap_remove", n, |x| swap_remove(vec, x));
@@ -106,6 +104,7 @@ fn cuts_of_words<V: Vector<u64, N>, const N: usize>(report: &Report, make: fn([u
     let runs = pairs::<N>();
     let count = N as u64;
     let mut vec = make(source);
+    report.row("refill", N, |x| refill(&mut vec, &source, x));
     report.row("extend_from_slice", N, |x| extend_from_slice(&mut vec, &source, x));
     report.row("extend_from_range", N, |x| extend_from_range(&mut vec, x));
     report.row("drain_taken", N, |x| drain_taken(&mut vec, &source, x));
@@ -115,32 +114,17 @@ fn cuts_of_words<V: Vector<u64, N>, const N: usize>(report: &Report, make: fn([u
     vec = make(source);
     let odd = make(runs);
     report.row("clone", N, |x| last(clone_of(&vec, &odd, x).as_slice()));
-    report.row("clone_by_match", N, |x| last(clone_of(&vec, &odd, x).as_slice()));
-    report.row("sum", N, |x| sum(&vec, x));
 }
 
 fn looks_at_words<V: Vector<u64, N>, const N: usize>(report: &Report, make: fn([u64; N]) -> V) {
     let source = scattered::<u64, N>();
+    let (vec, same) = (make(source), make(source));
     let last_higher = make(higher_at(source, N.saturating_sub(1)));
     let first_higher = make(higher_at(source, 0));
-    looks_at(report, &make(source), &make(source), &last_higher, Some(&first_higher));
-}
-
-fn looks_at<V: Vector<u64, N>, const N: usize>(
-    report: &Report,
-    vec: &V,
-    same: &V,
-    last_higher: &V,
-    first_higher: Option<&V>,
-) {
-    let mut text = Text::new();
-    report.row("equal", N, |x| equal(vec, same, x));
-    report.row("compare", N, |x| compare(vec, last_higher, x));
-    if let Some(first_higher) = first_higher {
-        report.row("compare_first", N, |x| compare(vec, first_higher, x));
-    }
-    report.row("hash", N, |x| hash(vec, x));
-    report.row("debug_print", N, |x| debug_print(vec, &mut text, x));
+    report.row("equal", N, |x| equal(&vec, &same, x));
+    report.row("compare", N, |x| compare(&vec, &last_higher, x));
+    report.row("hash", N, |x| hash(&vec, x));
+    report.row("compare_first", N, |x| compare(&vec, &first_higher, x));
 }
 
 /// The benchmarks of a vector of `u8`, where the size of an item matters.
@@ -153,15 +137,10 @@ fn of_made_bytes<V: Vector<u8, N>, const N: usize>(report: &Report, make: fn([u8
     let mut vec = make(source);
     report.row("bytes_fill_and_empty", N, |x| fill_and_empty(&mut vec, x));
     vec = make(source);
-    report.row("bytes_insert_front", N, |x| insert_front(&mut vec, x));
-    report.row("bytes_remove_front", N, |x| remove_front(&mut vec, x));
     report.row("bytes_extend_from_slice", N, |x| extend_from_slice(&mut vec, &source, x));
-    let odd = make([1; N]);
-    report.row("bytes_clone", N, |x| last(clone_of(&vec, &odd, x).as_slice()));
     let same = make(source);
     report.row("bytes_equal", N, |x| equal(&vec, &same, x));
     report.row("bytes_hash", N, |x| hash_key(&vec, x));
-    report.row("bytes_sum", N, |x| sum(&vec, x));
 }
 
 /// The lists of items that need a drop.
@@ -177,56 +156,12 @@ pub fn of_nodes<V: Vector<Node, N>, const N: usize>(report: &Report) {
     report.row("clone", N, |x| last(clone_of(&vec, &odd, x).as_slice()));
 }
 
-/// The lists of `u64` that fill a quarter of the slots.
-pub fn of_few<V: Vector<u64, N>, const N: usize>(report: &Report) {
-    let source = scattered::<u64, N>();
-    let few = &source[..N / 4];
-    let mut vec = V::of_items(few);
-    let odd = V::of_items(&pairs::<N>()[..N / 4]);
-    report.row("insert_front", N, |x| insert_front(&mut vec, x));
-    report.row("insert_middle", N, |x| insert_middle(&mut vec, x));
-    report.row("remove_front", N, |x| remove_front(&mut vec, x));
-    report.row("swap_remove", N, |x| swap_remove(&mut vec, x));
-    report.row("clone", N, |x| last(clone_of(&vec, &odd, x).as_slice()));
-    report.row("clone_by_match", N, |x| last(clone_of(&vec, &odd, x).as_slice()));
-    report.row("sum", N, |x| sum(&vec, x));
-    let last_higher = higher_at(source, (N / 4).saturating_sub(1));
-    looks_at(report, &V::of_items(few), &V::of_items(few), &V::of_items(&last_higher[..N / 4]), None);
-}
-
-/// The benchmarks of a vector over a lent slice of `u64`.
+/// Those of a lent slice that other rows leave out.
 pub fn of_slices<const N: usize>(report: &Report) {
-    of_slice_edits::<N>(report);
-    looks_at_slices::<N>(report);
-}
-
-/// Those that change it.
-pub fn of_slice_edits<const N: usize>(report: &Report) {
-    let source = scattered::<u64, N>();
-    let runs = pairs::<N>();
-    let mut slots = source;
-    report.row("slice_push", N, |x| slice_push(&mut slots, x));
-    report.row("slice_insert", N, |x| slice_insert(&mut slots, x));
-    report.row("slice_remove", N, |x| slice_remove(&mut slots, x));
-    report.row("slice_drain", N, |x| slice_drain(&mut slots, &source, x));
-    report.row("slice_retain", N, |x| slice_retain(&mut slots, &runs, x));
-    report.row("slice_split_off", N, |x| slice_split_off(&mut slots, x));
-    report.row("slice_resize", N, |x| slice_resize(&mut slots, x));
-    report.row("slice_resize_with", N, |x| slice_resize_with(&mut slots, x));
-}
-
-fn looks_at_slices<const N: usize>(report: &Report) {
     let mut slots = scattered::<u64, N>();
-    let mut same_slots = slots;
-    let mut higher_slots = higher_at(slots, N.saturating_sub(1));
-    let mut text = Text::new();
-    let vec = SliceVec::from_slice_len(&mut slots, N);
-    let same = SliceVec::from_slice_len(&mut same_slots, N);
-    let last_higher = SliceVec::from_slice_len(&mut higher_slots, N);
-    report.row("slice_equal", N, |x| equal(&vec, &same, x));
-    report.row("slice_compare", N, |x| compare(&vec, &last_higher, x));
-    report.row("slice_hash", N, |x| hash(&vec, x));
-    report.row("slice_debug_print", N, |x| debug_print(&vec, &mut text, x));
+    report.row("split_off", N, |x| slice_split_off(&mut slots, x));
+    report.row("resize", N, |x| slice_resize(&mut slots, x));
+    report.row("resize_with", N, |x| slice_resize_with(&mut slots, x));
 }
 
 /// The benchmarks of a vector that grows, while it has room in its array.
@@ -245,17 +180,9 @@ pub fn of_heap<W: Growing<u64, N>, B: Growing<u8, N>, const N: usize>(report: &R
 /// The benchmarks of a vector that moves to the heap in each round.
 pub fn of_spilling<V: Growing<u64, N>, const N: usize>(report: &Report) {
     let source = scattered::<u64, N>();
-    let count = N as u64;
-    let mut other = V::empty();
     grown::<V, N>(report, N, 2 * N);
     report.row("extend_from_slice", N, |x| spilling::extend_from_slice::<V, N>(&source, x));
-    report.row("append", N, |x| spilling::append(&mut other, &source, x));
-    report.row("insert_front", N, |x| spilling::insert::<V, N>(&source, 0, x));
-    report.row("insert_middle", N, |x| spilling::insert::<V, N>(&source, N / 2, x));
     report.row("resize", N, |x| spilling::resize::<V, N>(&source, 2 * N, x));
-    if V::HAS_SPLICE {
-        report.row("splice_more", N, |x| spilling::splice_more::<V, N>(&source, count + count / 4, x));
-    }
 }
 
 /// Lists of so many numbers out of four slots.
@@ -272,7 +199,6 @@ fn grown<V: Growing<u64, N>, const N: usize>(report: &Report, capacity: usize, n
     report.row("reserve_and_extend", capacity, |x| spilling::reserve_and_extend::<V, N>(n, x));
     report.row("extend_exact_size", capacity, |x| spilling::extend_exact_size::<V, N>(n, x));
     report.row("from_iter", capacity, |x| spilling::collect::<V, N>(count, x));
-    report.row("collect", capacity, |x| spilling::collect::<V, N>(count, x));
 }
 
 /// Lists of bytes and of `u32` written and read in the Borsh form.
@@ -284,10 +210,10 @@ where
     let mut bytes = ArrayVec::from(scattered::<u8, N>());
     let mut numbers = ArrayVec::from(scattered::<u32, N>());
     let mut form = Vec::new();
-    report.row("borsh_write_bytes", N, |x| borsh_write(&mut bytes, &mut form, x));
-    report.row("borsh_read_bytes", N, |x| borsh_read(&mut bytes, &mut form, x));
-    report.row("borsh_write_u32", N, |x| borsh_write(&mut numbers, &mut form, x));
-    report.row("borsh_read_u32", N, |x| borsh_read(&mut numbers, &mut form, x));
+    report.row("borsh_write_bytes", N, |x| borsh_write(&bytes, &mut form, x));
+    report.row("borsh_read_bytes", N, |x| borsh_read(&mut bytes, &form, x));
+    report.row("borsh_write_u32", N, |x| borsh_write(&numbers, &mut form, x));
+    report.row("borsh_read_u32", N, |x| borsh_read(&mut numbers, &form, x));
 }
 
 /// The first bytes of a text. A `String` has no array, so the rows are the same in pairs.
@@ -300,10 +226,9 @@ pub fn of_texts(report: &Report, count: usize) {
     report.row("text_push_spilled", count, |x| text_push(&mut made, text, x));
 }
 
-/// Dates in a text with room for 64 bytes.
+/// A date in a text with room for 64 bytes.
 pub fn of_dates<L: Letters>(report: &Report) {
     let mut made = L::default();
     report.row("text_mail_date", 64, |x| text_mail_date(&mut made, x));
-    report.row("text_iso_date", 64, |x| text_iso_date(&mut made, x));
     report.row("text_mail_date_reserved", 64, |x| text_mail_date_reserved(&mut made, x));
 }

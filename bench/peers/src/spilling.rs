@@ -12,17 +12,6 @@ pub fn push<V: Growing<u64, N>, const N: usize>(count: u64, x: u64) -> u64 {
     look_at(vec.as_slice(), x)
 }
 
-/// Puts a number in at `i`, where the array is full.
-#[inline(never)]
-pub fn insert<V: Growing<u64, N>, const N: usize>(source: &[u64; N], i: usize, x: u64) -> u64 {
-    let mut vec = filled::<V, N>(source);
-    if i > vec.as_slice().len() {
-        return 0;
-    }
-    vec.insert(i, x);
-    look_at(vec.as_slice(), x)
-}
-
 /// Adds `source` twice, each time by one copy.
 #[inline(never)]
 pub fn extend_from_slice<V: Growing<u64, N>, const N: usize>(source: &[u64; N], x: u64) -> u64 {
@@ -67,29 +56,11 @@ pub fn collect<V: Growing<u64, N>, const N: usize>(count: u64, x: u64) -> u64 {
     look_at(vec.as_slice(), x)
 }
 
-/// Moves a list of as many items behind a full one.
-#[inline(never)]
-pub fn append<V: Growing<u64, N>, const N: usize>(other: &mut V, source: &[u64; N], x: u64) -> u64 {
-    let mut vec = filled::<V, N>(source);
-    other.extend_from_slice(source);
-    vec.append(other);
-    look_at(vec.as_slice(), x)
-}
-
 /// Makes a full list as long as `len`.
 #[inline(never)]
 pub fn resize<V: Growing<u64, N>, const N: usize>(source: &[u64; N], len: usize, x: u64) -> u64 {
     let mut vec = filled::<V, N>(source);
     vec.resize(len, x);
-    look_at(vec.as_slice(), x)
-}
-
-/// Puts `count` numbers in the place of the second quarter of a full list.
-#[inline(never)]
-pub fn splice_more<V: Growing<u64, N>, const N: usize>(source: &[u64; N], count: u64, x: u64) -> u64 {
-    let mut vec = filled::<V, N>(source);
-    let quarter = vec.as_slice().len() / 4;
-    vec.splice(quarter..2 * quarter, 0..count);
     look_at(vec.as_slice(), x)
 }
 

@@ -12,9 +12,6 @@ pub trait Vector<T: Number, const N: usize>: Clone + PartialOrd + Hash + Debug {
     const HAS_SPLICE: bool = true;
     const HAS_EXTRACT: bool = false;
 
-    /// Whether a splice puts its items in one by one, and moves what stands behind each time.
-    const SPLICES_ONE_BY_ONE: bool = false;
-
     /// Whether it never holds more than `N` items.
     const IS_BOUNDED: bool = false;
 
@@ -37,6 +34,7 @@ pub trait Vector<T: Number, const N: usize>: Clone + PartialOrd + Hash + Debug {
     fn remove(&mut self, i: usize) -> T;
     fn swap_remove(&mut self, i: usize) -> T;
     fn truncate(&mut self, n: usize);
+    fn clear(&mut self);
     fn extend_from_slice(&mut self, source: &[T])
     where
         T: Copy;
@@ -101,6 +99,11 @@ macro_rules! shared_calls {
         }
 
         #[inline(always)]
+        fn clear(&mut self) {
+            self.clear()
+        }
+
+        #[inline(always)]
         fn extend(&mut self, items: impl Iterator<Item = T>) {
             Extend::extend(self, items)
         }
@@ -115,7 +118,6 @@ macro_rules! shared_calls {
 impl<T: Number, const N: usize> Vector<T, N> for tinyvec::ArrayVec<[T; N]> {
     // Its `dedup` needs a nightly compiler.
     const HAS_DEDUP: bool = false;
-    const SPLICES_ONE_BY_ONE: bool = true;
     const IS_BOUNDED: bool = true;
 
     shared_calls!();
@@ -160,7 +162,6 @@ where
 {
     // Its `dedup` needs a nightly compiler.
     const HAS_DEDUP: bool = false;
-    const SPLICES_ONE_BY_ONE: bool = true;
 
     shared_calls!();
 

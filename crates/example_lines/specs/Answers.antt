@@ -33,9 +33,13 @@ module _ {S : Type 0} (IsAnswer : S → List ℕ → List ℕ → S → Type 0) 
   Advances before old bytes said new after =
       (start : S) (input output : List ℕ) → AnswersUpTo start input output old before → AnswersUpTo start (input ++ bytes) (output ++ said) new after
 
-  -- the same, whatever answers then
-  abbrev pub AnsweredSome : S → List ℕ → List ℕ → List ℕ → Type 0
-  AnsweredSome old input output line = (new : S) × AnswersUpTo old input output line new
+  -- what it answers as `now`, it may answer as `old`: no line that it took between them shows
+  abbrev pub AnswersAs : S → S → Type 0
+  AnswersAs old now = (line text : List ℕ) (new : S) → IsAnswer now line text new → IsAnswer old line text new
 
-  abbrev pub AdvancesSome : S → List ℕ → List ℕ → List ℕ → List ℕ → Type 0
-  AdvancesSome before old bytes said new = (after : S) × Advances before old bytes said new after
+  -- the same, where a line more may have been refused: then it answers as if that had not come
+  abbrev pub AnsweredSome : S → List ℕ → List ℕ → List ℕ → S → Type 0
+  AnsweredSome old input output line now = (new : S) × AnswersUpTo old input output line new × AnswersAs new now
+
+  abbrev pub AdvancesSome : S → List ℕ → List ℕ → List ℕ → List ℕ → S → Type 0
+  AdvancesSome before old bytes said new now = (after : S) × Advances before old bytes said new after × AnswersAs after now

@@ -4,7 +4,7 @@ ghost use Rattle.std.specs.Io.KnownBytes.{Appends, Consumes, IsAtEnd, Keeps};
 ghost use Rattle.std.specs.Str.Lines.{strip_carriage_return};
 ghost use Rattle.tinyvec_io.specs.Counted.{AppendsFront, CountsEnds, Reported};
 ghost use Rattle.tinyvec_io.specs.Lines.{IsLine, last_line};
-ghost use Rattle.example_lines.specs.Answers.{Advances, AdvancesSome, AnsweredSome, AnswersEach, AnswersUpTo, AppendsAnswer, IsAnswered};
+ghost use Rattle.example_lines.specs.Answers.{Advances, AdvancesSome, AnsweredSome, AnswersAs, AnswersEach, AnswersUpTo, AppendsAnswer, IsAnswered};
 ghost use Rattle.example_lines.specs.Stops.{Reports, is_input, is_output};
 ghost use Rattle.std.specs.declared.io.Error.{Error as IoError};
 
@@ -21,10 +21,12 @@ pub trait Answer {
     // What it is before a line, the line, the answer, and what it is after it.
     ghost IsAnswer: { Self → List ℕ → List ℕ → Self → Type 0 };
 
-    /// Appends the answer to a line. The one error is that memory was refused; then nothing was appended.
+    /// Appends the answer to a line. The one error is that memory was refused; then nothing was appended, and later lines are
+    /// answered as if this one had not come.
     fn answer(&mut self, alloc: Global, line: &[u8], text: &mut Vec<u8>) -> Result<(), AllocError>
         ensures answered { OnOk result (AppendsAnswer IsAnswer self.old line.now self.new text.old.items text.new.items) }
-        ensures refused { OnErr result (text.new.items ≡ text.old.items) };
+        ensures refused { OnErr result (text.new.items ≡ text.old.items) }
+        ensures kept { OnErr result (AnswersAs IsAnswer self.old self.new) };
 }
 
 /// Answers each line of the input. The answers to the lines that have come are written before more is waited for.
@@ -51,17 +53,18 @@ pub fn answer_lines<A: Answer, R: Read, W: Write>(
     ensures input_fault { (error : IoError) → IsErrOf result (Failure.Input error)
         → Reported reader.old.faults reader.new.faults }
 
-    // So was each line before the one that memory was refused for, of which some was read and not taken.
+    // So was each line before the one that memory was refused for. Later ones were read perhaps, and none was taken: the
+    // program answers as if that line had not come.
     ensures memory { IsErrOf result Failure.Memory → (input left output line : List ℕ)
         × Consumes (R.remaining reader.old.inner) (R.remaining reader.new.inner) (input ++ left)
         × Appends (W.contents writer.old.inner) (W.contents writer.new.inner) output
-        × AnsweredSome A.IsAnswer program.old input output line }
+        × AnsweredSome A.IsAnswer program.old input output line program.new }
 
     // What was written is a front of the answers.
     ensures output { (error : IoError) → IsErrOf result (Failure.Output error) → (input left output line : List ℕ)
         × Consumes (R.remaining reader.old.inner) (R.remaining reader.new.inner) (input ++ left)
         × AppendsFront (W.contents writer.old.inner) (W.contents writer.new.inner) output
-        × (AnsweredSome A.IsAnswer program.old input output line
+        × (AnsweredSome A.IsAnswer program.old input output line program.new
         ⊎ IsAnswered A.IsAnswer program.old input output program.new) }
     ensures output_fault { (error : IoError) → IsErrOf result (Failure.Output error)
         → Reported writer.old.faults writer.new.faults }
@@ -118,11 +121,11 @@ fn answer_chunk<A: Answer, W: Write>(
         × Advances A.IsAnswer program.old line.old.items bytes.now said line.new.items program.new) }
     ensures memory { IsErrOf result Stop.Memory → (front rest said next : List ℕ) × (bytes.now ≡ front ++ rest)
         × Appends (W.contents writer.old.inner) (W.contents writer.new.inner) said
-        × AdvancesSome A.IsAnswer program.old line.old.items front said next }
+        × AdvancesSome A.IsAnswer program.old line.old.items front said next program.new }
     ensures output { (error : IoError) → IsErrOf result (Stop.Output error)
         → (front rest said next : List ℕ) × (bytes.now ≡ front ++ rest)
         × AppendsFront (W.contents writer.old.inner) (W.contents writer.new.inner) said
-        × AdvancesSome A.IsAnswer program.old line.old.items front said next }
+        × AdvancesSome A.IsAnswer program.old line.old.items front said next program.new }
     ensures faults { Reports writer.old writer.new result }
 {
     text.clear();
@@ -144,7 +147,7 @@ fn push_answers<A: Answer>(
     // If memory is refused, what was appended answers lines before.
     ensures some { (front rest said next : List ℕ) × (bytes.now ≡ front ++ rest)
         × (text.new.items ≡ text.old.items ++ said)
-        × AdvancesSome A.IsAnswer program.old line.old.items front said next }
+        × AdvancesSome A.IsAnswer program.old line.old.items front said next program.new }
 {
     let mut rest = bytes;
     while let Some((end, after)) = split_line(rest) {
@@ -166,6 +169,7 @@ fn push_answer<A: Answer>(
         program.new text.old.items text.new.items) }
     ensures next { OnOk result (line.new.items ≡ []) }
     ensures refused { OnErr result (text.new.items ≡ text.old.items) }
+    ensures kept { OnErr result (AnswersAs A.IsAnswer program.old program.new) }
 {
     if line.is_empty() {
         return program.answer(alloc, strip_return(end), text);
@@ -222,7 +226,8 @@ fn finish<A: Answer, W: Write>(
 ) -> Result<(), Stop>
     ensures ok { OnOk result ((output : List ℕ) × Appends (W.contents writer.old.inner) (W.contents writer.new.inner) output
         × AnswersEach A.IsAnswer program.old (map strip_carriage_return (last_line line.now)) output program.new) }
-    ensures memory { IsErrOf result Stop.Memory → Keeps (W.contents writer.old.inner) (W.contents writer.new.inner) }
+    ensures memory { IsErrOf result Stop.Memory → Keeps (W.contents writer.old.inner) (W.contents writer.new.inner)
+        × AnswersAs A.IsAnswer program.old program.new }
     ensures output { (error : IoError) → IsErrOf result (Stop.Output error) → (output : List ℕ)
         × AppendsFront (W.contents writer.old.inner) (W.contents writer.new.inner) output
         × AnswersEach A.IsAnswer program.old (map strip_carriage_return (last_line line.now)) output program.new }

@@ -6,7 +6,8 @@ ghost use Rattle.tinyvec_array.specs.SliceVec.{slice_name};
 use std::alloc::{AllocError, Global};
 use tinyvec::{ArrayVec, SliceVec, TinyVec};
 use tinyvec_script::{
-    Answer, Call, Driven, End, drive_array_splice, drive_splice, drive_tiny_splice, run_array, run_slice, run_tiny,
+    Answer, Call, Driven, End, drive_array_splice, drive_splice, drive_tiny_splice, run_array,
+    run_slice, run_tiny,
 };
 
 /// The answers of a vector in an array, or an error, if there is no memory for them.

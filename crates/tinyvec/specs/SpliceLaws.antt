@@ -1,5 +1,5 @@
 -- The laws of a splice of a `TinyVec`: what its calls leave of spare slots, place and room.
-use Rattle.std.proofs.Common.{◌≡◌, ℕ, ◌≤◌, List, length, refl, sym, ap, ◌∙◌, arith}
+use Rattle.std.proofs.Common.{◌≡◌, ◌≤◌, List, length, sym, ◌∙◌, arith}
 use Rattle.tinyvec_array.specs.declared.slots.Slots as Storage
 use Rattle.tinyvec.specs.View.{TinyView, view_len, view_capacity, Becomes, StaysInPlace, SameFrame}
 use Rattle.tinyvec.specs.TinyVec.{tiny_view_of, tiny_items_of, tiny_len_of}

@@ -1,27 +1,21 @@
-//! Every row at every capacity, one call a line: `bench/kit.py` leaves out the lines of rows that other vectors lack.
+//! Every row at every capacity.
 ghost use Rattle.std.specs.Prelude.{◌*◌, ◌^◌, ◌<◌};
 
-use crate::cutting::cuts;
 use crate::dates::of_dates;
-use crate::edits::ListBench;
-use crate::form::{of_forms, of_text_forms, of_tiny_forms};
-use crate::growth::{of_arrays, of_lists};
+use crate::form::{of_forms, of_heap_forms};
 use crate::long::of_long_lists;
 use crate::nodes::{Node, of_nodes};
 use crate::report::Report;
-use crate::rows::{of_bytes, of_edits, of_few, of_looks};
-use crate::slices::{of_slice_edits, of_slices};
-use crate::slot_calls::{of_lent, of_slots};
-use crate::sources::pairs;
+use crate::rows::{of_bytes, of_edits, of_looks};
+use crate::slices::of_lent;
+use crate::slot_calls::of_slots;
 use crate::spilling::{of_long, of_spilling};
-use crate::splicing::splices;
 use crate::text_calls::of_text_calls;
 use crate::text_own::{of_front_half, of_text_own};
 use crate::texts::of_texts;
 use crate::tiny_calls::of_tiny_calls;
 use crate::vector::{Place, Vector, Words};
 use std::alloc::Global;
-use std::fmt::Debug;
 use std::hash::Hash;
 use tinyvec::TinyVec;
 use tinyvec_array::ArrayVec;
@@ -35,35 +29,26 @@ macro_rules! at_capacities {
 }
 
 pub fn all_rows<R: Report>(report: &mut R, alloc: Global) {
-    at_capacities!(report, alloc, of_all: 4 16 64 1024);
-    // No other row has arrays of these lengths: LLVM may inline a function otherwise if more rows call it.
-    at_capacities!(report, alloc, of_quarters: 8 32);
+    at_capacities!(report, alloc, of_all: 4 16 64);
     at_capacities!(report, alloc, of_all_nodes: 4 16);
     report.set_prefix("tiny_long_");
-    of_long(report, alloc, 16);
     of_long(report, alloc, 64);
-    of_long(report, alloc, 1024);
     of_long(report, alloc, 16384);
     of_calls(report, alloc);
     report.set_prefix("");
-    at_capacities!(report, alloc, of_forms: 16 64 1024 16384);
-    of_tiny_forms(report, alloc, 64);
-    of_text_forms(report, alloc, 64);
-    of_tiny_forms(report, alloc, 16384);
-    of_text_forms(report, alloc, 16384);
+    at_capacities!(report, alloc, of_forms: 64 16384);
+    of_heap_forms(report, alloc, 64);
+    of_heap_forms(report, alloc, 16384);
     in_texts(report, alloc);
 }
 
-// The calls that other rows leave out.
+// Each call, at 64 and 16384 items.
 fn of_calls<R: Report>(report: &mut R, alloc: Global) {
     report.set_prefix("slice_");
     at_capacities!(report, alloc, of_lent: 64 16384);
     report.set_prefix("");
     at_capacities!(report, alloc, of_slots: 64 16384);
     of_edits::<R, ArrayVec<[u64; 16384]>, 16384>(report, alloc, Place::Inline);
-    of_cuts::<R, ArrayVec<[u64; 16384]>, 16384>(report, alloc, Place::Inline);
-    report.set_prefix("slice_");
-    of_slice_edits::<R, 16384>(report);
     report.set_prefix("tiny_");
     of_tiny_calls::<R, 64>(report, alloc, 64);
     report.set_prefix("tiny_long_");
@@ -79,29 +64,19 @@ fn of_all<R: Report, const N: usize>(report: &mut R, alloc: Global)
 {
     report.set_prefix("");
     of_vectors::<R, ArrayVec<[u64; N]>, ArrayVec<[u8; N]>, N>(report, alloc, Place::Inline);
-    of_cuts::<R, ArrayVec<[u64; N]>, N>(report, alloc, Place::Inline);
-    report.set_prefix("slice_");
-    of_slices::<R, N>(report);
     report.set_prefix("tiny_");
-    of_tiny::<R, N>(report, alloc, Place::Inline);
+    of_vectors::<R, TinyVec<[u64; N]>, TinyVec<[u8; N]>, N>(report, alloc, Place::Inline);
     report.set_prefix("tiny_heap_");
-    of_tiny::<R, N>(report, alloc, Place::Heap);
+    of_vectors::<R, TinyVec<[u64; N]>, TinyVec<[u8; N]>, N>(report, alloc, Place::Heap);
     report.set_prefix("tiny_spill_");
     of_spilling::<R, N>(report, alloc);
-}
-
-fn of_tiny<R: Report, const N: usize>(report: &mut R, alloc: Global, place: Place)
-    requires { N * 64 < 2 ^ 63 }
-{
-    of_vectors::<R, TinyVec<[u64; N]>, TinyVec<[u8; N]>, N>(report, alloc, place);
-    of_cuts::<R, TinyVec<[u64; N]>, N>(report, alloc, place);
 }
 
 // The rows that every vector has.
 fn of_vectors<
     R: Report,
-    V: Words<N> + Debug + Hash + PartialOrd,
-    B: Vector<u8, N> + Debug + Hash + PartialOrd,
+    V: Words<N> + Hash + PartialOrd,
+    B: Vector<u8, N> + Hash + PartialOrd,
     const N: usize,
 >(report: &mut R, alloc: Global, place: Place)
     requires { N * 64 < 2 ^ 63 }
@@ -109,32 +84,6 @@ fn of_vectors<
     of_edits::<R, V, N>(report, alloc, place);
     of_looks::<R, V, N>(report, alloc, place);
     of_bytes::<R, B, N>(report, alloc, place);
-}
-
-// Those that some lack.
-fn of_cuts<R: Report, V: Words<N>, const N: usize>(report: &mut R, alloc: Global, place: Place)
-    requires { N * 64 < 2 ^ 63 }
-{
-    let runs = pairs::<N>();
-    let mut list = ListBench {
-        alloc,
-        vec: &mut V::placed(alloc, place, &runs),
-        odd: &V::placed(alloc, place, &runs),
-        source: runs,
-        runs,
-    };
-    cuts(report, N, &mut list);
-    splices(report, N, &mut list);
-}
-
-// Those of a list that fills a quarter of the slots.
-fn of_quarters<R: Report, const N: usize>(report: &mut R, alloc: Global)
-    requires { N * 64 < 2 ^ 63 }
-{
-    report.set_prefix("few_");
-    of_few::<R, ArrayVec<[u64; N]>, N>(report, alloc);
-    report.set_prefix("tiny_few_");
-    of_few::<R, TinyVec<[u64; N]>, N>(report, alloc);
 }
 
 fn of_all_nodes<R: Report, const N: usize>(report: &mut R, alloc: Global)
@@ -161,21 +110,7 @@ fn in_texts<R: Report>(report: &mut R, alloc: Global) {
     of_text_own::<R, 16>(report, alloc, 64);
     of_front_half(report, alloc, 64);
     report.set_prefix("");
-    of_text_calls::<R, 16>(report, alloc, 1024);
     of_text_calls::<R, 16>(report, alloc, 16384);
     of_text_own::<R, 16>(report, alloc, 16384);
     of_front_half(report, alloc, 16384);
-}
-
-/// The lengths of a list that grows.
-const LENGTHS: [usize; 10] = [4, 16, 64, 256, 1024, 4096, 16384, 65536, 262144, 1048576];
-
-/// The calls whose time is looked at against the number of items.
-pub fn all_growth<R: Report>(report: &mut R, alloc: Global) {
-    report.set_prefix("array_");
-    at_capacities!(report, alloc, of_arrays: 4 16 64 256 1024 4096);
-    report.set_prefix("tiny_");
-    for n in LENGTHS.iter() {
-        of_lists(report, alloc, *n);
-    }
 }

@@ -33,11 +33,6 @@ impl<T: Item + Clone + Default, const N: usize> Vector<T, N> for ArrayVec<[T; N]
     }
 
     #[inline(always)]
-    fn last_of_match(&self, _alloc: Global, odd: &Self, x: u64) -> u64 {
-        last(match_of(self, odd, x).as_slice())
-    }
-
-    #[inline(always)]
     fn len(&self) -> usize {
         self.len()
     }
@@ -80,6 +75,11 @@ impl<T: Item + Clone + Default, const N: usize> Vector<T, N> for ArrayVec<[T; N]
     #[inline(always)]
     fn truncate(&mut self, n: usize) {
         self.truncate(n);
+    }
+
+    #[inline(always)]
+    fn clear(&mut self) {
+        self.clear();
     }
 
     #[inline(always)]
@@ -164,18 +164,4 @@ fn clone_of<T: Item + Clone + Default, const N: usize>(
         return ArrayVec::new();
     };
     copy
-}
-
-// The same, by a `match` of both results.
-#[inline(never)]
-fn match_of<T: Item + Clone + Default, const N: usize>(
-    even: &ArrayVec<[T; N]>,
-    odd: &ArrayVec<[T; N]>,
-    x: u64,
-) -> ArrayVec<[T; N]> {
-    let vec = if x % 2 == 0 { even } else { odd };
-    match vec.clone() {
-        Ok(copy) => copy,
-        Err(_) => ArrayVec::new(),
-    }
 }

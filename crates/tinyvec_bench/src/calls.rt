@@ -1,12 +1,11 @@
 //! Calls that the other rows leave out. Those of a vector are arms of a few functions: a function for each would be proved for
 //! each.
 
-use crate::comparing::{compare, equal, hash, hash_key};
+use crate::comparing::{compare, equal, hash};
 use crate::looks::Look;
-use crate::report::{Bench, Report};
+use crate::report::{Bench, Report, rows};
 use std::alloc::Global;
 use std::cmp::Ordering;
-use std::fmt::Debug;
 use std::hash::Hash;
 
 /// Calls that all vectors have by the same methods, and std's `Vec` too.
@@ -22,7 +21,6 @@ pub enum Call {
     RetainMut,
     DedupBy,
     DedupByKey,
-    DrainDropped,
     DrainBack,
     Append,
     ExtendFromSlice,
@@ -57,6 +55,7 @@ pub enum Own {
     ReserveAndShrink,
     ToVecAndBack,
     WithCapacity,
+    ClearAndPush,
 }
 
 /// The vector, one that is joined or compared to it, runs of numbers that both are filled with, and room for some.
@@ -69,26 +68,16 @@ pub struct CallBench<'a, V> {
     pub numbers: &'a mut Vec<u64>,
 }
 
-impl<V: PartialOrd + Hash + Debug> Bench<Look> for CallBench<'_, V> {
+impl<V: PartialOrd + Hash> Bench<Look> for CallBench<'_, V> {
     #[inline(always)]
     fn round(&mut self, benchmark: Look, x: u64) -> u64 {
         match benchmark {
             Look::Equal => equal(self.vec, self.other, x),
             Look::Hash => hash(self.vec, x),
-            Look::HashKey => hash_key(self.vec, x),
             _ => compare(self.vec, self.other, x),
         }
     }
 }
-
-// A line for each row.
-macro_rules! rows {
-    ($report:ident, $n:ident, $list:ident: $($name:literal $benchmark:expr,)+) => {
-        $($crate::report::run($report, $name, $n, $benchmark, $list);)+
-    };
-}
-
-pub(crate) use rows;
 
 /// The calls that all vectors have.
 pub fn calls<R: Report, S: Bench<Call>>(report: &mut R, n: usize, list: &mut S) {
@@ -107,7 +96,6 @@ pub fn calls<R: Report, S: Bench<Call>>(report: &mut R, n: usize, list: &mut S) 
         "retain_mut" Call::RetainMut,
         "dedup_by" Call::DedupBy,
         "dedup_by_key" Call::DedupByKey,
-        "drop_half" Call::DrainDropped,
         "drain_back" Call::DrainBack,
     );
 }
@@ -153,6 +141,7 @@ pub fn of_tiny_alone<R: Report, S: Bench<Own>>(report: &mut R, n: usize, list: &
         "reserve_and_shrink" Own::ReserveAndShrink,
         "to_vec_and_back" Own::ToVecAndBack,
         "with_capacity" Own::WithCapacity,
+        "clear_and_push" Own::ClearAndPush,
     );
 }
 

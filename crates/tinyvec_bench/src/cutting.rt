@@ -1,7 +1,7 @@
 //! The rows of lists of `u64`.
 
 use crate::edits::{ListBench, extend_from_slice};
-use crate::report::{Bench, Report, run};
+use crate::report::{Bench, Report, rows};
 use crate::vector::Words;
 
 /// What is done with lists of `u64`.
@@ -31,10 +31,21 @@ impl<V: Words<N>, const N: usize> Bench<Cut> for ListBench<'_, u64, V, N> {
     }
 }
 
-/// Those that some vectors lack.
+/// The middle half of a full list, taken out or dropped.
+pub fn drains<R: Report, S: Bench<Cut>>(report: &mut R, n: usize, list: &mut S) {
+    rows!(report, n, list:
+        "drain_taken" Cut::DrainTaken,
+        "drain_dropped" Cut::DrainDropped,
+    );
+}
+
+/// Half of the list, by what its items are.
 pub fn cuts<R: Report, S: Bench<Cut>>(report: &mut R, n: usize, list: &mut S) {
-    run(report, "dedup", n, Cut::Dedup, list);
-    run(report, "extract_half", n, Cut::ExtractHalf, list);
+    rows!(report, n, list:
+        "retain_half" Cut::RetainHalf,
+        "dedup" Cut::Dedup,
+        "extract_half" Cut::ExtractHalf,
+    );
 }
 
 /// Makes the list as many numbers from `x` on as the array has slots.

@@ -1,4 +1,4 @@
-//! Dates that are printed piece by piece into a new text, as the header of a mail has them and as ISO 8601 does.
+//! A date that is printed piece by piece into a new text, as the header of a mail has it.
 ghost use Rattle.std.specs.Prelude.{◌≡◌, length};
 
 use crate::report::{Bench, Report, run};
@@ -9,12 +9,9 @@ use tinyvec_text::InlineText;
 // What a push that finds no room returns.
 type Refused = std::alloc::AllocError;
 
-/// How a date is printed.
+/// A date, printed piece by piece.
 #[derive(Clone, Copy)]
-pub enum Style {
-    Mail,
-    Iso,
-}
+pub struct MailDate;
 
 /// The text that is made.
 #[derive(Drop)]
@@ -23,21 +20,17 @@ pub struct DateBench<const N: usize> {
     pub made: InlineText<N>,
 }
 
-impl<const N: usize> Bench<Style> for DateBench<N> {
+impl<const N: usize> Bench<MailDate> for DateBench<N> {
     #[inline(always)]
-    fn round(&mut self, benchmark: Style, x: u64) -> u64 {
-        match benchmark {
-            Style::Mail => text_mail_date::<N>(self.alloc, &mut self.made, x),
-            Style::Iso => text_iso_date::<N>(self.alloc, &mut self.made, x),
-        }
+    fn round(&mut self, _benchmark: MailDate, x: u64) -> u64 {
+        text_mail_date::<N>(self.alloc, &mut self.made, x)
     }
 }
 
-/// Dates in an array of N bytes.
+/// A date in an array of N bytes.
 pub fn of_dates<R: Report, const N: usize>(report: &mut R, made: InlineText<N>, alloc: Global) {
     let mut bench = DateBench::<N> { alloc, made };
-    run(report, "text_mail_date", N, Style::Mail, &mut bench);
-    run(report, "text_iso_date", N, Style::Iso, &mut bench);
+    run(report, "text_mail_date", N, MailDate, &mut bench);
 }
 
 // Makes a new text, and prints a date as `Sat, 13 Jul 2024 15:09:59 +0000`.
@@ -64,30 +57,6 @@ fn push_mail_date<const N: usize>(made: &mut InlineText<N>, n: u8) -> Result<(),
     made.push(' ')?;
     push_time::<N>(made, n)?;
     made.push_str(" +0000")?;
-    Ok(())
-}
-
-// Makes a new text, and prints a date as `2024-07-13T15:09:59Z`.
-#[inline(never)]
-fn text_iso_date<const N: usize>(alloc: Global, made: &mut InlineText<N>, x: u64) -> u64 {
-    *made = InlineText::new(alloc);
-    match push_iso_date::<N>(made, (x % 8) as u8) {
-        Ok(()) => look_at(made.as_bytes(), x),
-        Err(_) => 0,
-    }
-}
-
-#[inline(never)]
-fn push_iso_date<const N: usize>(made: &mut InlineText<N>, n: u8) -> Result<(), Refused> {
-    push_two::<N>(made, 20)?;
-    push_two::<N>(made, n)?;
-    made.push('-')?;
-    push_two::<N>(made, n)?;
-    made.push('-')?;
-    push_two::<N>(made, n)?;
-    made.push('T')?;
-    push_time::<N>(made, n)?;
-    made.push('Z')?;
     Ok(())
 }
 

@@ -22,16 +22,14 @@ pub enum Edit {
     /// To a new vector at this place.
     TwoPushes(Place),
     FillAndEmpty,
+    Refill,
     InsertFront,
-    InsertMiddle,
     RemoveFront,
     RemoveMiddle,
     SwapRemove,
     TruncateAndRefill,
     ExtendFromSlice,
     Clone,
-    CloneByMatch,
-    Sum,
 }
 
 impl<V: Vector<u64, N>, const N: usize> Bench<Edit> for ListBench<'_, u64, V, N> {
@@ -41,16 +39,14 @@ impl<V: Vector<u64, N>, const N: usize> Bench<Edit> for ListBench<'_, u64, V, N>
         match benchmark {
             Edit::TwoPushes(place) => self.vec.last_of_two_pushes(self.alloc, place, x),
             Edit::FillAndEmpty => fill_and_empty(self.vec, x),
+            Edit::Refill => refill(self.vec, source, x),
             Edit::InsertFront => insert_front(self.vec, x),
-            Edit::InsertMiddle => insert_middle(self.vec, x),
             Edit::RemoveFront => remove_front(self.vec, x),
             Edit::RemoveMiddle => remove_middle(self.vec, x),
             Edit::SwapRemove => swap_remove(self.vec, x),
             Edit::TruncateAndRefill => truncate_and_refill(self.vec, x),
             Edit::ExtendFromSlice => extend_from_slice(self.vec, source, x),
             Edit::Clone => self.vec.last_of_clone(self.alloc, self.odd, x),
-            Edit::CloneByMatch => self.vec.last_of_match(self.alloc, self.odd, x),
-            Edit::Sum => sum(self.vec, x),
         }
     }
 }
@@ -59,11 +55,7 @@ impl<V: Vector<u64, N>, const N: usize> Bench<Edit> for ListBench<'_, u64, V, N>
 #[derive(Clone, Copy)]
 pub enum ByteEdit {
     FillAndEmpty,
-    InsertFront,
-    RemoveFront,
     ExtendFromSlice,
-    Clone,
-    Sum,
 }
 
 impl<V: Vector<u8, N>, const N: usize> Bench<ByteEdit> for ListBench<'_, u8, V, N> {
@@ -71,11 +63,7 @@ impl<V: Vector<u8, N>, const N: usize> Bench<ByteEdit> for ListBench<'_, u8, V, 
     fn round(&mut self, benchmark: ByteEdit, x: u64) -> u64 {
         match benchmark {
             ByteEdit::FillAndEmpty => fill_and_empty(self.vec, x),
-            ByteEdit::InsertFront => insert_front(self.vec, x),
-            ByteEdit::RemoveFront => remove_front(self.vec, x),
             ByteEdit::ExtendFromSlice => extend_from_slice(self.vec, &self.source, x),
-            ByteEdit::Clone => self.vec.last_of_clone(self.alloc, self.odd, x),
-            ByteEdit::Sum => sum(self.vec, x),
         }
     }
 }
@@ -88,11 +76,21 @@ pub fn fill_and_empty<T: Item, V: Vector<T, N>, const N: usize>(vec: &mut V, x: 
     pop_all(vec)
 }
 
-/// Pushes from none until there are `N` items.
+// Pushes from none until there are `N` items.
 #[inline(never)]
-pub fn push_all<T: Item, V: Vector<T, N>, const N: usize>(vec: &mut V, x: u64) -> u64 {
+fn push_all<T: Item, V: Vector<T, N>, const N: usize>(vec: &mut V, x: u64) -> u64 {
     vec.empty();
     push_until_full(vec, x)
+}
+
+/// Clears the list, and makes it the items of `source`.
+#[inline(never)]
+pub fn refill<T: Item, V: Vector<T, N>, const N: usize>(vec: &mut V, source: &[T], x: u64) -> u64 {
+    vec.clear();
+    if !vec.extend_from_slice(source) {
+        return 0;
+    }
+    x.wrapping_add(vec.len() as u64)
 }
 
 /// Cuts the list to its first half, and pushes until there are `N` items.
@@ -131,19 +129,6 @@ pub fn insert_front<T: Item, V: Vector<T, N>, const N: usize>(vec: &mut V, x: u6
         return 0;
     };
     if !vec.insert(0, T::of(x)) {
-        return 0;
-    }
-    last.value()
-}
-
-/// Pops an item, and inserts one in the middle.
-#[inline(never)]
-pub fn insert_middle<T: Item, V: Vector<T, N>, const N: usize>(vec: &mut V, x: u64) -> u64 {
-    let Some(last) = vec.pop() else {
-        return 0;
-    };
-    let middle = vec.len() / 2;
-    if !vec.insert(middle, T::of(x)) {
         return 0;
     }
     last.value()
@@ -202,14 +187,4 @@ pub fn extend_from_slice<T: Item, V: Vector<T, N>, const N: usize>(
         return 0;
     }
     x.wrapping_add(vec.len() as u64)
-}
-
-// The sum of the items and `x`.
-#[inline(never)]
-fn sum<T: Item, V: Vector<T, N>, const N: usize>(vec: &V, x: u64) -> u64 {
-    let mut sum = x;
-    for y in vec.as_slice() {
-        sum = sum.wrapping_add(y.value());
-    }
-    sum
 }

@@ -1,24 +1,31 @@
 //! Long lists, by the functions of the other rows.
 
 use crate::calls::runs_of;
-use crate::cutting::{Cut, cuts, dedup, drain_dropped, drain_taken, extract_half, retain_half};
-use crate::edits::{
-    Edit, extend_from_slice, insert_front, insert_middle, remove_front, remove_middle, swap_remove,
+use crate::cutting::{
+    Cut, cuts, dedup, drain_dropped, drain_taken, drains, extract_half, retain_half,
 };
-use crate::growth::GrowBench;
+use crate::edits::{
+    Edit, extend_from_slice, insert_front, remove_front, remove_middle, swap_remove,
+};
 use crate::report::{Bench, Report, run};
-use crate::rows::{drains, moves};
+use crate::rows::moves;
 use crate::splicing::{Share, replace_range, splice, splices};
 use crate::vector::Words;
 use std::alloc::Global;
 use tinyvec::TinyVec;
 
-impl<V: Words<4>> Bench<Edit> for GrowBench<'_, V> {
+/// A list over four slots, and what it is filled with.
+#[derive(Drop)]
+pub struct LongBench<'a, V: Words<4>> {
+    pub vec: &'a mut V,
+    pub source: &'a [u64],
+}
+
+impl<V: Words<4>> Bench<Edit> for LongBench<'_, V> {
     #[inline(always)]
     fn round(&mut self, benchmark: Edit, x: u64) -> u64 {
         match benchmark {
             Edit::InsertFront => insert_front(self.vec, x),
-            Edit::InsertMiddle => insert_middle(self.vec, x),
             Edit::RemoveFront => remove_front(self.vec, x),
             Edit::RemoveMiddle => remove_middle(self.vec, x),
             Edit::SwapRemove => swap_remove(self.vec, x),
@@ -27,7 +34,7 @@ impl<V: Words<4>> Bench<Edit> for GrowBench<'_, V> {
     }
 }
 
-impl<V: Words<4>> Bench<Cut> for GrowBench<'_, V> {
+impl<V: Words<4>> Bench<Cut> for LongBench<'_, V> {
     #[inline(always)]
     fn round(&mut self, benchmark: Cut, x: u64) -> u64 {
         match benchmark {
@@ -41,7 +48,7 @@ impl<V: Words<4>> Bench<Cut> for GrowBench<'_, V> {
     }
 }
 
-impl<V: Words<4>> Bench<Share> for GrowBench<'_, V> {
+impl<V: Words<4>> Bench<Share> for LongBench<'_, V> {
     #[inline(always)]
     fn round(&mut self, benchmark: Share, x: u64) -> u64 {
         let count = self.source.len() as u64;
@@ -57,23 +64,22 @@ impl<V: Words<4>> Bench<Share> for GrowBench<'_, V> {
 /// A `TinyVec` out of four slots.
 pub fn of_long_lists<R: Report>(report: &mut R, alloc: Global, n: usize) {
     let source = runs_of(alloc, n);
-    let mut list = GrowBench {
-        alloc,
+    let mut list = LongBench {
         vec: &mut TinyVec::<[u64; 4]>::new(alloc),
-        like: &TinyVec::new(alloc),
         source: source.as_slice(),
     };
+    long_edits(report, n, &mut list);
+}
+
+fn long_edits<R: Report, S: Bench<Cut> + Bench<Edit> + Bench<Share>>(
+    report: &mut R,
+    n: usize,
+    list: &mut S,
+) {
     list.round(Edit::ExtendFromSlice, 0);
-    moves(report, n, &mut list);
-    run(
-        report,
-        "extend_from_slice",
-        n,
-        Edit::ExtendFromSlice,
-        &mut list,
-    );
-    drains(report, n, &mut list);
-    run(report, "retain_half", n, Cut::RetainHalf, &mut list);
-    cuts(report, n, &mut list);
-    splices(report, n, &mut list);
+    moves(report, n, list);
+    run(report, "extend_from_slice", n, Edit::ExtendFromSlice, list);
+    drains(report, n, list);
+    cuts(report, n, list);
+    splices(report, n, list);
 }

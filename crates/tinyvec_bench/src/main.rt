@@ -1,6 +1,5 @@
-//! Benchmarks of the vectors. Without arguments, or with `rows`, each runs for few rounds and prints a checksum. With
-//! `rows ROUNDS` each prints its name, capacity, rounds, nanoseconds and checksum. With `growth` in place of `rows` the
-//! same calls run at many lengths.
+//! Benchmarks of the vectors. Each runs for few rounds and prints a checksum. With the words `rows ROUNDS` each prints its
+//! name, capacity, rounds, nanoseconds and checksum.
 #![tactic(auto)]
 
 mod all;
@@ -12,12 +11,10 @@ mod dates;
 mod edits;
 mod fnv;
 mod form;
-mod growth;
 mod long;
 mod looks;
 mod nodes;
 mod number;
-mod printing;
 mod prints;
 mod report;
 mod rows;
@@ -27,7 +24,6 @@ mod sources;
 mod spilling;
 mod splicing;
 mod text_calls;
-mod text_more;
 mod text_own;
 mod texts;
 mod tiny;
@@ -35,7 +31,7 @@ mod tiny_calls;
 mod tiny_own;
 mod vector;
 
-use crate::all::{all_growth, all_rows};
+use crate::all::all_rows;
 use crate::report::Printer;
 use std::{env, io};
 
@@ -45,28 +41,13 @@ const FEW_ROUNDS: u64 = 20;
 fn main(rt: HostRuntime) -> io::Result<()> {
     let mut args = env::args(&rt)?;
     let _program = args.next();
-    let command = args.next();
+    let _rows = args.next();
     let mut report = match args.next() {
         None => Printer::new(&rt, FEW_ROUNDS, false),
         Some(rounds) => Printer::new(&rt, rounds_of(rounds.as_str())?, true),
     };
-    if is_growth(command)? {
-        all_growth(&mut report, rt.alloc());
-    } else {
-        all_rows(&mut report, rt.alloc());
-    }
+    all_rows(&mut report, rt.alloc());
     report.finish()
-}
-
-// Whether to run the rows of `growth`, or else all others.
-fn is_growth(command: Option<String>) -> io::Result<bool> {
-    let Some(word) = command else {
-        return Ok(false);
-    };
-    if word.as_str() != "rows" && word.as_str() != "growth" {
-        return Err(io::Error::from(io::ErrorKind::InvalidInput));
-    }
-    Ok(word.as_str() == "growth")
 }
 
 fn rounds_of(word: &str) -> io::Result<u64> {

@@ -3,7 +3,7 @@ ghost use Rattle.std.specs.Prelude.{◌*◌, ◌^◌, ◌<◌};
 
 use crate::edits::{fill_and_empty, insert_front, remove_front, truncate_and_refill};
 use crate::number::Item;
-use crate::report::{Bench, Report, run};
+use crate::report::{Bench, Report, rows};
 use crate::vector::{Place, Vector};
 use std::alloc::Global;
 
@@ -74,17 +74,15 @@ pub fn of_nodes<R: Report, V: Vector<Node, N>, const N: usize>(report: &mut R, a
 }
 
 fn node_edits<R: Report, S: Bench<NodeEdit>>(report: &mut R, n: usize, list: &mut S) {
-    run(report, "two_pushes", n, NodeEdit::TwoPushes, list);
-    run(report, "fill_and_empty", n, NodeEdit::FillAndEmpty, list);
-    list.round(NodeEdit::TruncateAndRefill, 0);
-    run(report, "insert_front", n, NodeEdit::InsertFront, list);
-    run(report, "remove_front", n, NodeEdit::RemoveFront, list);
-    run(
-        report,
-        "truncate_and_refill",
-        n,
-        NodeEdit::TruncateAndRefill,
-        list,
+    rows!(report, n, list:
+        "two_pushes" NodeEdit::TwoPushes,
+        "fill_and_empty" NodeEdit::FillAndEmpty,
     );
-    run(report, "clone", n, NodeEdit::Clone, list);
+    list.round(NodeEdit::TruncateAndRefill, 0);
+    rows!(report, n, list:
+        "insert_front" NodeEdit::InsertFront,
+        "remove_front" NodeEdit::RemoveFront,
+        "truncate_and_refill" NodeEdit::TruncateAndRefill,
+        "clone" NodeEdit::Clone,
+    );
 }

@@ -1,7 +1,6 @@
-//! Lists of numbers, written as text.
+//! Lists and texts, printed.
 
-use crate::calls::rows;
-use crate::report::{Bench, Report};
+use crate::report::Bench;
 use crate::texts::look_at;
 use std::fmt;
 use std::fmt::Write;
@@ -31,12 +30,4 @@ impl<V: fmt::Debug + fmt::Display> Bench<Print> for PrintBench<'_, V> {
         };
         look_at(self.text.as_bytes(), x)
     }
-}
-
-/// Writes the list into a text.
-pub fn prints<R: Report, S: Bench<Print>>(report: &mut R, n: usize, list: &mut S) {
-    rows!(report, n, list:
-        "debug" Print::Debug,
-        "display" Print::Display,
-    );
 }

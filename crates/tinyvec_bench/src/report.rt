@@ -43,6 +43,15 @@ pub fn run<R: Report, B: Copy, S: Bench<B>>(
     report.end_rounds(name, capacity, sum);
 }
 
+// A line for each row.
+macro_rules! rows {
+    ($report:ident, $n:ident, $list:ident: $($name:literal $benchmark:expr,)+) => {
+        $($crate::report::run($report, $name, $n, $benchmark, $list);)+
+    };
+}
+
+pub(crate) use rows;
+
 // The answers of the rounds so far, and one more.
 #[inline(always)]
 fn mixed(sum: u64, answer: u64) -> u64 {

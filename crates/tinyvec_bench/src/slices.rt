@@ -1,170 +1,63 @@
-//! Vectors in a lent slice.
+//! The rows of a vector in a lent slice: those of any slots, and calls that an `ArrayVec` has as others.
 ghost use Rattle.std.specs.Prelude.{◌*◌, ◌^◌, ◌<◌};
 
-use crate::calls::one;
-use crate::looks::looks_at;
-use crate::number::is_odd;
-use crate::report::{Bench, Report, run};
-use crate::sources::{higher_at, pairs, scattered};
+use crate::calls::{Call, CallBench, Whole, one, runs_of, whole_calls};
+use crate::looks::compared;
+use crate::report::{Bench, Report};
+use crate::slot_calls::of_any_slots;
+use crate::sources::scattered;
 use crate::spilling::look_at;
+use std::alloc::Global;
 use tinyvec_array::SliceVec;
 
-/// What is done with the slice.
-#[derive(Clone, Copy)]
-pub enum SliceEdit {
-    Push,
-    Insert,
-    Remove,
-    Drain,
-    Retain,
-    SplitOff,
-    Resize,
-    ResizeWith,
-}
-
-/// The slots, and what they are filled with: numbers, or runs of them.
+/// The slots.
 #[derive(Drop)]
-pub struct SliceBench<'a, const N: usize> {
+pub struct SliceBench<const N: usize> {
     pub slots: [u64; N],
-    pub source: &'a [u64; N],
-    pub runs: &'a [u64; N],
 }
 
-impl<const N: usize> Bench<SliceEdit> for SliceBench<'_, N> {
+impl<const N: usize> Bench<Whole> for SliceBench<N> {
     #[inline(always)]
-    fn round(&mut self, benchmark: SliceEdit, x: u64) -> u64 {
-        let source = self.source;
-        let runs = self.runs;
+    fn round(&mut self, benchmark: Whole, x: u64) -> u64 {
         match benchmark {
-            SliceEdit::Push => slice_push(&mut self.slots, x),
-            SliceEdit::Insert => slice_insert(&mut self.slots, x),
-            SliceEdit::Remove => slice_remove(&mut self.slots, x),
-            SliceEdit::Drain => slice_drain(&mut self.slots, source, x),
-            SliceEdit::Retain => slice_retain(&mut self.slots, runs, x),
-            SliceEdit::SplitOff => slice_split_off(&mut self.slots, x),
-            SliceEdit::Resize => slice_resize(&mut self.slots, x),
-            SliceEdit::ResizeWith => slice_resize_with(&mut self.slots, x),
+            Whole::SplitOff => slice_split_off(&mut self.slots, x),
+            Whole::Resize => slice_resize(&mut self.slots, x),
+            Whole::ResizeWith => slice_resize_with(&mut self.slots, x),
         }
     }
 }
 
-/// The benchmarks of a vector in a lent slice of `u64`.
-pub fn of_slices<R: Report, const N: usize>(report: &mut R)
+/// The rows of a lent slice of `N` slots.
+pub fn of_lent<R: Report, const N: usize>(report: &mut R, alloc: Global)
     requires { N * 64 < 2 ^ 63 }
 {
-    of_slice_edits::<R, N>(report);
-    looks_at_slices(report, scattered::<u64, N>());
-}
-
-/// Those that change it.
-pub fn of_slice_edits<R: Report, const N: usize>(report: &mut R)
-    requires { N * 64 < 2 ^ 63 }
-{
-    let source = scattered::<u64, N>();
-    let runs = pairs::<N>();
+    let runs = runs_of(alloc, N);
+    let mut numbers = runs_of(alloc, N);
+    let mut slots = [0; N];
+    let mut other_slots = [0; N];
+    let mut vec = SliceVec::from_slice(&mut slots);
+    let mut other = SliceVec::from_slice(&mut other_slots);
+    of_any_slots(
+        report,
+        alloc,
+        &mut vec,
+        &mut other,
+        runs.as_slice(),
+        &mut numbers,
+    );
+    let mut list = CallBench {
+        alloc,
+        vec: &mut vec,
+        other: &mut other,
+        source: runs.as_slice(),
+        numbers: &mut numbers,
+    };
+    list.round(Call::Fill, 0);
+    compared(report, N, &mut list);
     let mut slice = SliceBench {
-        slots: source,
-        source: &source,
-        runs: &runs,
+        slots: scattered::<u64, N>(),
     };
-    edits(report, N, &mut slice);
-}
-
-fn edits<R: Report, S: Bench<SliceEdit>>(report: &mut R, n: usize, slice: &mut S) {
-    run(report, "push", n, SliceEdit::Push, slice);
-    run(report, "insert", n, SliceEdit::Insert, slice);
-    run(report, "remove", n, SliceEdit::Remove, slice);
-    run(report, "drain", n, SliceEdit::Drain, slice);
-    run(report, "retain", n, SliceEdit::Retain, slice);
-    run(report, "split_off", n, SliceEdit::SplitOff, slice);
-    run(report, "resize", n, SliceEdit::Resize, slice);
-    run(report, "resize_with", n, SliceEdit::ResizeWith, slice);
-}
-
-fn looks_at_slices<R: Report, const N: usize>(report: &mut R, source: [u64; N]) {
-    let mut slots = source;
-    let mut same_slots = source;
-    let mut higher_slots = higher_at(source, N.saturating_sub(1));
-    let vec = full_slice(&mut slots);
-    let same = full_slice(&mut same_slots);
-    let last_higher = full_slice(&mut higher_slots);
-    looks_at(report, N, &vec, &same, &last_higher);
-}
-
-// A full vector over the slots.
-fn full_slice(slots: &mut [u64]) -> SliceVec<'_, u64> {
-    let len = slots.len();
-    SliceVec::from_slice_len(slots, len)
-}
-
-// Pushes until the slice is full.
-#[inline(never)]
-fn slice_push(slots: &mut [u64], x: u64) -> u64 {
-    let mut vec = SliceVec::from_slice_len(slots, 0);
-    let mut next = x;
-    while !vec.is_full() {
-        vec.push(next);
-        next = next.wrapping_add(1);
-    }
-    vec.len() as u64
-}
-
-// Pops an item, and inserts one in front.
-#[inline(never)]
-fn slice_insert(slots: &mut [u64], x: u64) -> u64 {
-    let len = slots.len();
-    let mut vec = SliceVec::from_slice_len(slots, len);
-    let Some(last) = vec.pop() else {
-        return 0;
-    };
-    if !vec.is_full() {
-        vec.insert(0, x);
-    }
-    last
-}
-
-// Removes the first item, and pushes one.
-#[inline(never)]
-fn slice_remove(slots: &mut [u64], x: u64) -> u64 {
-    let len = slots.len();
-    let mut vec = SliceVec::from_slice_len(slots, len);
-    if vec.is_empty() {
-        return 0;
-    }
-    let first = vec.remove(0);
-    if !vec.is_full() {
-        vec.push(x);
-    }
-    first
-}
-
-// Takes the middle half out, where the slots hold `source`.
-#[inline(never)]
-fn slice_drain(slots: &mut [u64], source: &[u64], x: u64) -> u64 {
-    if slots.len() != source.len() {
-        return 0;
-    }
-    slots.copy_from_slice(source);
-    let len = slots.len();
-    let mut vec = SliceVec::from_slice_len(slots, len);
-    let mut sum = x;
-    for y in vec.drain(len / 4..len - len / 4) {
-        sum = sum.wrapping_add(y);
-    }
-    sum
-}
-
-// Keeps the odd items, where the slots hold `source`.
-#[inline(never)]
-fn slice_retain(slots: &mut [u64], source: &[u64], x: u64) -> u64 {
-    if slots.len() != source.len() {
-        return 0;
-    }
-    slots.copy_from_slice(source);
-    let len = slots.len();
-    let mut vec = SliceVec::from_slice_len(slots, len);
-    vec.retain(is_odd);
-    x.wrapping_add(vec.len() as u64)
+    whole_calls(report, N, &mut slice);
 }
 
 // Takes the second half off, as a vector of its own.

@@ -7,12 +7,12 @@ use crate::calls::{
 };
 use crate::looks::compared;
 use crate::number::{is_odd_mut, last};
-use crate::prints::{PrintBench, prints};
-use crate::report::{Bench, Report};
+use crate::prints::{Print, PrintBench};
+use crate::report::{Bench, Report, run};
 use crate::sources::pairs;
 use crate::spilling::look_at;
 use std::alloc::Global;
-use tinyvec_array::{ArrayVec, SliceVec, TakesClones};
+use tinyvec_array::{ArrayVec, TakesClones};
 
 /// The rows of an array of `N` slots.
 pub fn of_slots<R: Report, const N: usize>(report: &mut R, alloc: Global)
@@ -37,6 +37,10 @@ pub fn of_slots<R: Report, const N: usize>(report: &mut R, alloc: Global)
         source: runs.as_slice(),
         numbers: &mut numbers,
     };
+    if N > 64 {
+        list.round(Call::Fill, 0);
+        compared(report, N, &mut list);
+    }
     whole_calls(report, N, &mut list);
     owned_calls(report, N, &mut list);
     let mut text = String::new(alloc);
@@ -44,31 +48,11 @@ pub fn of_slots<R: Report, const N: usize>(report: &mut R, alloc: Global)
         vec: &ArrayVec::from_array(pairs::<N>()),
         text: &mut text,
     };
-    prints(report, N, &mut list);
+    run(report, "debug", N, Print::Debug, &mut list);
 }
 
-/// The rows of a lent slice of `N` slots.
-pub fn of_lent<R: Report, const N: usize>(report: &mut R, alloc: Global)
-    requires { N * 64 < 2 ^ 63 }
-{
-    let runs = runs_of(alloc, N);
-    let mut numbers = runs_of(alloc, N);
-    let mut slots = [0; N];
-    let mut other_slots = [0; N];
-    let mut vec = SliceVec::from_slice(&mut slots);
-    let mut other = SliceVec::from_slice(&mut other_slots);
-    of_any_slots(
-        report,
-        alloc,
-        &mut vec,
-        &mut other,
-        runs.as_slice(),
-        &mut numbers,
-    );
-}
-
-// The rows of a vector over slots of any kind, as many as there are numbers.
-fn of_any_slots<'v, R: Report, S: TakesClones<Item = u64>>(
+/// The rows of a vector over slots of any kind, as many as there are numbers.
+pub fn of_any_slots<'v, R: Report, S: TakesClones<Item = u64>>(
     report: &mut R,
     alloc: Global,
     vec: &'v mut ArrayVec<S>,
@@ -85,10 +69,6 @@ fn of_any_slots<'v, R: Report, S: TakesClones<Item = u64>>(
         numbers,
     };
     calls(report, n, &mut list);
-    if n > 64 {
-        list.round(Call::Fill, 0);
-        compared(report, n, &mut list);
-    }
     list.round(Call::Fill, 0);
     own_calls(report, n, &mut list);
     of_slots_alone(report, n, &mut list);
@@ -168,18 +148,11 @@ impl<const N: usize> Bench<Whole> for CallBench<'_, ArrayVec<[u64; N]>> {
                 refill(vec, self.source);
                 let half = vec.len() / 2;
                 let tail = vec.split_off(half);
-                return look_at(tail.as_slice(), x);
+                look_at(tail.as_slice(), x)
             }
-            Whole::Resize => {
-                vec.set_len(0);
-                let _ = vec.resize(N, x);
-            }
-            Whole::ResizeWith => {
-                vec.set_len(0);
-                vec.resize_with(N, one);
-            }
+            Whole::Resize => resize::<N>(vec, x),
+            Whole::ResizeWith => resize_with::<N>(vec, x),
         }
-        x.wrapping_add(vec.len() as u64)
     }
 }
 
@@ -187,14 +160,36 @@ impl<const N: usize> Bench<Owned> for CallBench<'_, ArrayVec<[u64; N]>> {
     #[inline(always)]
     fn round(&mut self, benchmark: Owned, x: u64) -> u64 {
         match benchmark {
-            Owned::CloneFrom => {
-                let _ = self.other.clone_from(self.vec);
-                x.wrapping_add(self.other.len() as u64)
-            }
+            Owned::CloneFrom => clone_from::<N>(self.other, self.vec, x),
             Owned::IntoIter => sum_of_new::<N>(self.vec, self.source, x),
             Owned::FromSlice => last_of_new::<N>(self.vec, self.source, x),
         }
     }
+}
+
+// Not inlined, here and below, or LLVM would leave out what no later round reads.
+#[inline(never)]
+fn resize<const N: usize>(vec: &mut ArrayVec<[u64; N]>, x: u64) -> u64 {
+    vec.set_len(0);
+    let _ = vec.resize(N, x);
+    x.wrapping_add(vec.len() as u64)
+}
+
+#[inline(never)]
+fn resize_with<const N: usize>(vec: &mut ArrayVec<[u64; N]>, x: u64) -> u64 {
+    vec.set_len(0);
+    vec.resize_with(N, one);
+    x.wrapping_add(vec.len() as u64)
+}
+
+#[inline(never)]
+fn clone_from<const N: usize>(
+    vec: &mut ArrayVec<[u64; N]>,
+    source: &ArrayVec<[u64; N]>,
+    x: u64,
+) -> u64 {
+    let _ = vec.clone_from(source);
+    x.wrapping_add(vec.len() as u64)
 }
 
 // The sum of the items of a new list, which is taken apart. By `_like`, here and below, the proof knows that an array of
@@ -295,7 +290,6 @@ fn cut<S: TakesClones<Item = u64>>(
         Call::RetainMut => vec.retain_mut(is_odd_mut),
         Call::DedupBy => vec.dedup_by(is_same),
         Call::DedupByKey => vec.dedup_by_key(key_of),
-        Call::DrainDropped => drop(vec.drain(len / 4..len - len / 4)),
         Call::DrainBack => {
             let mut sum = x;
             for y in vec.drain(len / 4..len - len / 4).rev() {

@@ -42,15 +42,6 @@ pub fn pairs<const N: usize>() -> [u64; N] {
     numbers
 }
 
-/// The numbers from 0 on.
-pub fn counting<const N: usize>() -> [u64; N] {
-    let mut numbers = [0; N];
-    for i in 0..N {
-        numbers[i] = i as u64;
-    }
-    numbers
-}
-
 /// The numbers, of which the one at `i` is higher by one.
 pub fn higher_at<const N: usize>(numbers: [u64; N], i: usize) -> [u64; N] {
     let mut higher = numbers;

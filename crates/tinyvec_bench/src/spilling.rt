@@ -1,7 +1,7 @@
 //! New lists that grow from the array to twice as many items as it has slots, and are dropped.
 ghost use Rattle.std.specs.Prelude.{◌*◌, ◌^◌, ◌<◌};
 
-use crate::report::{Bench, Report, run};
+use crate::report::{Bench, Report, rows, run};
 use crate::sources::scattered;
 use crate::vector::Vector;
 use std::alloc::{AllocError, Global};
@@ -16,13 +16,8 @@ pub enum Spill {
     ReserveAndExtend,
     ExtendExactSize,
     FromIter,
-    Collect,
     Clone,
-    Append,
-    InsertFront,
-    InsertMiddle,
     Resize,
-    SpliceMore,
 }
 
 /// How many numbers the lists get, what they are filled with, and one that is appended or cloned.
@@ -50,18 +45,13 @@ impl<const N: usize> Bench<Spill> for SpillBench<N> {
             Spill::ReserveAndExtend => reserve_and_extend::<N>(self.alloc, &self.other, count, x),
             Spill::ExtendExactSize => extend_exact_size::<N>(self.alloc, &self.other, count, x),
             Spill::FromIter => from_iter::<N>(self.alloc, &self.other, count as u64, x),
-            Spill::Collect => collect::<N>(self.alloc, &self.other, count as u64, x),
             Spill::Clone => Vector::<u64, N>::last_of_clone(
                 &self.other,
                 self.alloc,
                 &self.other,
                 x,
             ),
-            Spill::Append => append(self.alloc, &mut self.other, &self.source, x),
-            Spill::InsertFront => insert(self.alloc, &self.other, &self.source, 0, x),
-            Spill::InsertMiddle => insert(self.alloc, &self.other, &self.source, N / 2, x),
             Spill::Resize => resize(self.alloc, &self.other, &self.source, count, x),
-            Spill::SpliceMore => splice_more(self.alloc, &self.source, N as u64, x),
         }
     }
 }
@@ -82,12 +72,10 @@ pub fn of_spilling<R: Report, const N: usize>(report: &mut R, alloc: Global)
 }
 
 fn spilled<R: Report, S: Bench<Spill>>(report: &mut R, n: usize, list: &mut S) {
-    run(report, "extend_from_slice", n, Spill::ExtendFromSlice, list);
-    run(report, "append", n, Spill::Append, list);
-    run(report, "insert_front", n, Spill::InsertFront, list);
-    run(report, "insert_middle", n, Spill::InsertMiddle, list);
-    run(report, "resize", n, Spill::Resize, list);
-    run(report, "splice_more", n, Spill::SpliceMore, list);
+    rows!(report, n, list:
+        "extend_from_slice" Spill::ExtendFromSlice,
+        "resize" Spill::Resize,
+    );
 }
 
 /// Lists of this many numbers out of four slots.
@@ -104,23 +92,18 @@ pub fn of_long<R: Report>(report: &mut R, alloc: Global, n: usize) {
 }
 
 fn grown<R: Report, S: Bench<Spill>>(report: &mut R, n: usize, list: &mut S) {
-    run(report, "push", n, Spill::Push, list);
-    run(report, "extend_from_range", n, Spill::ExtendFromRange, list);
-    run(
-        report,
-        "reserve_and_extend",
-        n,
-        Spill::ReserveAndExtend,
-        list,
+    rows!(report, n, list:
+        "push" Spill::Push,
+        "extend_from_range" Spill::ExtendFromRange,
+        "reserve_and_extend" Spill::ReserveAndExtend,
+        "extend_exact_size" Spill::ExtendExactSize,
+        "from_iter" Spill::FromIter,
     );
-    run(report, "extend_exact_size", n, Spill::ExtendExactSize, list);
-    run(report, "from_iter", n, Spill::FromIter, list);
-    run(report, "collect", n, Spill::Collect, list);
 }
 
-/// Pushes `count` numbers to a list over as many slots as `_like`.
+// Pushes `count` numbers to a list over as many slots as `_like`.
 #[inline(never)]
-pub fn push<const N: usize>(alloc: Global, _like: &TinyVec<[u64; N]>, count: u64, x: u64) -> u64 {
+fn push<const N: usize>(alloc: Global, _like: &TinyVec<[u64; N]>, count: u64, x: u64) -> u64 {
     let mut vec = TinyVec::<[u64; N]>::new(alloc);
     for k in 0..count {
         if vec.push(x.wrapping_add(k)).is_err() {
@@ -130,26 +113,8 @@ pub fn push<const N: usize>(alloc: Global, _like: &TinyVec<[u64; N]>, count: u64
     look_at(vec.as_slice(), x)
 }
 
-// Inserts a number at `i`, where the array is full. By `_like`, here and below, the proof of the same row over another
-// vector knows that such a list fits in memory.
-#[inline(never)]
-fn insert<const N: usize>(
-    alloc: Global,
-    _like: &TinyVec<[u64; N]>,
-    source: &[u64; N],
-    i: usize,
-    x: u64,
-) -> u64 {
-    let Ok(mut vec) = filled(alloc, source) else {
-        return 0;
-    };
-    if i > vec.len() || vec.insert(i, x).is_err() {
-        return 0;
-    }
-    look_at(vec.as_slice(), x)
-}
-
-// Adds `source` twice, each time by one copy.
+// Adds `source` twice, each time by one copy. By `_like`, here and below, the proof of the same row over another vector
+// knows that such a list fits in memory.
 #[inline(never)]
 fn extend_from_slice<const N: usize>(
     alloc: Global,
@@ -166,9 +131,9 @@ fn extend_from_slice<const N: usize>(
     }
 }
 
-/// Adds `count` numbers from `x` on to a list over as many slots as `_like`.
+// Adds `count` numbers from `x` on to a list over as many slots as `_like`.
 #[inline(never)]
-pub fn extend_from_range<const N: usize>(
+fn extend_from_range<const N: usize>(
     alloc: Global,
     _like: &TinyVec<[u64; N]>,
     count: u64,
@@ -217,7 +182,7 @@ fn extend_exact_size<const N: usize>(
     }
 }
 
-// The same numbers, by the call of the list.
+// The same numbers, as a new list.
 #[inline(never)]
 fn from_iter<const N: usize>(alloc: Global, _like: &TinyVec<[u64; N]>, count: u64, x: u64) -> u64 {
     let start = x % 65536;
@@ -225,33 +190,6 @@ fn from_iter<const N: usize>(alloc: Global, _like: &TinyVec<[u64; N]>, count: u6
         Ok(vec) => look_at(vec.as_slice(), x),
         Err(_) => 0,
     }
-}
-
-// The same numbers, by that of the iterator.
-#[inline(never)]
-fn collect<const N: usize>(alloc: Global, _like: &TinyVec<[u64; N]>, count: u64, x: u64) -> u64 {
-    let start = x % 65536;
-    match (start..start.saturating_add(count)).collect::<TinyVec<[u64; N]>>(alloc) {
-        Ok(vec) => look_at(vec.as_slice(), x),
-        Err(_) => 0,
-    }
-}
-
-// Moves a list of as many items after a full one.
-#[inline(never)]
-fn append<const N: usize>(
-    alloc: Global,
-    other: &mut TinyVec<[u64; N]>,
-    source: &[u64; N],
-    x: u64,
-) -> u64 {
-    let Ok(mut vec) = filled(alloc, source) else {
-        return 0;
-    };
-    if other.extend_from_slice(source).is_err() || vec.append(other).is_err() {
-        return 0;
-    }
-    look_at(vec.as_slice(), x)
 }
 
 // Makes a full list as long as `len`.
@@ -267,20 +205,6 @@ fn resize<const N: usize>(
         return 0;
     };
     if vec.resize(len, x).is_err() {
-        return 0;
-    }
-    look_at(vec.as_slice(), x)
-}
-
-// Puts a quarter more numbers than there were in the place of the second quarter of a full list.
-#[inline(never)]
-fn splice_more<const N: usize>(alloc: Global, source: &[u64; N], n: u64, x: u64) -> u64 {
-    let Ok(mut vec) = filled(alloc, source) else {
-        return 0;
-    };
-    let quarter = vec.len() / 4;
-    let numbers = 0..n.saturating_add(n / 4);
-    if vec.splice(quarter..2 * quarter, numbers).finish().is_err() {
         return 0;
     }
     look_at(vec.as_slice(), x)

@@ -1,6 +1,7 @@
 //! The rows of `splice`, which most vectors of other crates lack.
+
 use crate::edits::{ListBench, extend_from_slice};
-use crate::report::{Bench, Report, run};
+use crate::report::{Bench, Report, rows};
 use crate::vector::Words;
 
 /// How many items a splice puts in the place of a quarter.
@@ -28,10 +29,12 @@ impl<V: Words<N>, const N: usize> Bench<Share> for ListBench<'_, u64, V, N> {
 
 /// The splices of a vector that stays where it is.
 pub fn splices<R: Report, S: Bench<Share>>(report: &mut R, n: usize, list: &mut S) {
-    run(report, "splice_as_many", n, Share::AsMany, list);
-    run(report, "splice_fewer", n, Share::Fewer, list);
-    run(report, "splice_more", n, Share::More, list);
-    run(report, "replace_range", n, Share::Slice, list);
+    rows!(report, n, list:
+        "splice_as_many" Share::AsMany,
+        "splice_fewer" Share::Fewer,
+        "splice_more" Share::More,
+        "replace_range" Share::Slice,
+    );
 }
 
 /// Makes the list the first three quarters of `source`, and puts `count` numbers in the place of the second quarter.

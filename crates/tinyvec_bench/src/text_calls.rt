@@ -1,12 +1,13 @@
 //! Calls of a text that has bytes, in its array or on the heap. Each row leaves the text as it was.
 ghost use Rattle.std.specs.Prelude.{◌*◌, ◌^◌, ◌<◌};
 
+use crate::comparing::hash;
 use crate::prints::{Print, PrintBench};
-use crate::report::{Bench, Report, run};
+use crate::report::{Bench, Report, rows, run};
 use crate::sources::letters_of;
-use crate::text_more::more;
 use crate::texts::look_at;
 use std::alloc::Global;
+use std::fmt::Write;
 use tinyvec_text::InlineText;
 
 /// Calls that change a text, and back.
@@ -16,24 +17,25 @@ pub enum TextEdit {
     PushAndPopWide,
     PopAll,
     InsertFront,
-    InsertMiddle,
-    InsertWide,
     InsertStr,
     ReplaceRange,
-    RetainAll,
     RetainHalf,
     SplitOff,
+    WriteAndTruncate,
+    ExtendFromWithin,
+    ReserveAndShrink,
 }
 
 /// Calls that copy a text, fill it or look at it.
 #[derive(Clone, Copy)]
 pub enum TextCopy {
     Clone,
+    Collect,
     PushStr,
     ExtendChars,
-    ExtendStrs,
     Equal,
     Compare,
+    Hash,
     AsStr,
     IsCharBoundary,
 }
@@ -55,14 +57,14 @@ impl<const N: usize> Bench<TextEdit> for TextCalls<'_, N> {
             TextEdit::PushAndPop => push_and_pop::<N>(text, 'x'),
             TextEdit::PushAndPopWide => push_and_pop::<N>(text, '€'),
             TextEdit::PopAll => pop_all::<N>(text, self.letters),
-            TextEdit::InsertFront => insert_front::<N>(text, 'x'),
-            TextEdit::InsertMiddle => insert_middle::<N>(text),
-            TextEdit::InsertWide => insert_front::<N>(text, '€'),
+            TextEdit::InsertFront => insert_front::<N>(text),
             TextEdit::InsertStr => insert_str::<N>(text),
             TextEdit::ReplaceRange => replace_range::<N>(text),
-            TextEdit::RetainAll => retain_all::<N>(text),
             TextEdit::RetainHalf => retain_half::<N>(text, self.letters),
             TextEdit::SplitOff => split_off::<N>(text, self.letters),
+            TextEdit::WriteAndTruncate => write_and_truncate::<N>(text),
+            TextEdit::ExtendFromWithin => extend_from_within::<N>(text),
+            TextEdit::ReserveAndShrink => reserve_and_shrink::<N>(text, self.letters),
         }
     }
 }
@@ -73,11 +75,12 @@ impl<const N: usize> Bench<TextCopy> for TextCalls<'_, N> {
         let text = &mut self.text;
         match benchmark {
             TextCopy::Clone => cloned::<N>(text, x),
+            TextCopy::Collect => collected::<N>(self.alloc, text, self.letters, x),
             TextCopy::PushStr => push_str::<N>(text, self.letters),
             TextCopy::ExtendChars => extend_chars::<N>(text, self.letters),
-            TextCopy::ExtendStrs => extend_strs::<N>(text, self.letters),
             TextCopy::Equal => equal::<N>(text, &self.like, x),
             TextCopy::Compare => compare::<N>(text, &self.like, x),
+            TextCopy::Hash => hash(text, x),
             TextCopy::AsStr => as_str::<N>(text, x),
             TextCopy::IsCharBoundary => is_char_boundary::<N>(text, x),
         }
@@ -97,7 +100,6 @@ pub fn of_text_calls<R: Report, const N: usize>(report: &mut R, alloc: Global, c
         letters,
     };
     edits(report, count, &mut calls);
-    replacements(report, count, &mut calls);
     copies(report, count, &mut calls);
     let mut out = String::new(alloc);
     let mut list = PrintBench {
@@ -105,7 +107,6 @@ pub fn of_text_calls<R: Report, const N: usize>(report: &mut R, alloc: Global, c
         text: &mut out,
     };
     run(report, "text_display", count, Print::Display, &mut list);
-    more(report, count, &mut calls);
 }
 
 // The text of these letters, with room for some more.
@@ -117,54 +118,32 @@ fn made<const N: usize>(alloc: Global, letters: &str) -> InlineText<N> {
 }
 
 fn edits<R: Report, S: Bench<TextEdit>>(report: &mut R, n: usize, texts: &mut S) {
-    run(report, "text_push_and_pop", n, TextEdit::PushAndPop, texts);
-    run(
-        report,
-        "text_push_and_pop_wide",
-        n,
-        TextEdit::PushAndPopWide,
-        texts,
+    rows!(report, n, texts:
+        "text_push_and_pop" TextEdit::PushAndPop,
+        "text_push_and_pop_wide" TextEdit::PushAndPopWide,
+        "text_pop_all" TextEdit::PopAll,
+        "text_insert_front" TextEdit::InsertFront,
+        "text_insert_str" TextEdit::InsertStr,
+        "text_replace_range" TextEdit::ReplaceRange,
+        "text_retain_half" TextEdit::RetainHalf,
+        "text_split_off" TextEdit::SplitOff,
+        "text_write_and_truncate" TextEdit::WriteAndTruncate,
+        "text_extend_from_within" TextEdit::ExtendFromWithin,
+        "text_reserve_and_shrink" TextEdit::ReserveAndShrink,
     );
-    run(report, "text_pop_all", n, TextEdit::PopAll, texts);
-    run(report, "text_insert_front", n, TextEdit::InsertFront, texts);
-    run(
-        report,
-        "text_insert_middle",
-        n,
-        TextEdit::InsertMiddle,
-        texts,
-    );
-    run(report, "text_insert_wide", n, TextEdit::InsertWide, texts);
-}
-
-fn replacements<R: Report, S: Bench<TextEdit>>(report: &mut R, n: usize, texts: &mut S) {
-    run(report, "text_insert_str", n, TextEdit::InsertStr, texts);
-    run(
-        report,
-        "text_replace_range",
-        n,
-        TextEdit::ReplaceRange,
-        texts,
-    );
-    run(report, "text_retain_all", n, TextEdit::RetainAll, texts);
-    run(report, "text_retain_half", n, TextEdit::RetainHalf, texts);
-    run(report, "text_split_off", n, TextEdit::SplitOff, texts);
 }
 
 fn copies<R: Report, S: Bench<TextCopy>>(report: &mut R, n: usize, texts: &mut S) {
-    run(report, "text_clone", n, TextCopy::Clone, texts);
-    run(report, "text_refill", n, TextCopy::PushStr, texts);
-    run(report, "text_extend_chars", n, TextCopy::ExtendChars, texts);
-    run(report, "text_extend_strs", n, TextCopy::ExtendStrs, texts);
-    run(report, "text_equal", n, TextCopy::Equal, texts);
-    run(report, "text_compare", n, TextCopy::Compare, texts);
-    run(report, "text_as_str", n, TextCopy::AsStr, texts);
-    run(
-        report,
-        "text_is_char_boundary",
-        n,
-        TextCopy::IsCharBoundary,
-        texts,
+    rows!(report, n, texts:
+        "text_clone" TextCopy::Clone,
+        "text_collect" TextCopy::Collect,
+        "text_refill" TextCopy::PushStr,
+        "text_extend_chars" TextCopy::ExtendChars,
+        "text_equal" TextCopy::Equal,
+        "text_compare" TextCopy::Compare,
+        "text_hash" TextCopy::Hash,
+        "text_as_str" TextCopy::AsStr,
+        "text_is_char_boundary" TextCopy::IsCharBoundary,
     );
 }
 
@@ -194,20 +173,11 @@ fn pop_all<const N: usize>(text: &mut InlineText<N>, letters: &str) -> u64 {
 }
 
 #[inline(never)]
-fn insert_front<const N: usize>(text: &mut InlineText<N>, c: char) -> u64 {
-    if text.insert(0, c).is_err() || text.is_empty() {
+fn insert_front<const N: usize>(text: &mut InlineText<N>) -> u64 {
+    if text.insert(0, 'x').is_err() || text.is_empty() {
         return 0;
     }
     text.remove(0) as u64
-}
-
-#[inline(never)]
-fn insert_middle<const N: usize>(text: &mut InlineText<N>) -> u64 {
-    let middle = text.len() / 2;
-    if !text.is_char_boundary(middle) || text.insert(middle, 'x').is_err() {
-        return 0;
-    }
-    code_of(text.pop())
 }
 
 // Inserts six bytes, and cuts off as many.
@@ -233,12 +203,6 @@ fn replace_range<const N: usize>(text: &mut InlineText<N>) -> u64 {
 #[inline(always)]
 fn put_in_front<const N: usize>(text: &mut InlineText<N>, end: usize, with: &str) -> bool {
     text.is_char_boundary(end) && text.replace_range(0..end, with).is_ok()
-}
-
-#[inline(never)]
-fn retain_all<const N: usize>(text: &mut InlineText<N>) -> u64 {
-    text.retain(|c| c != '!');
-    text.len() as u64
 }
 
 // Keeps 40 of 64 letters, in three runs.
@@ -289,13 +253,6 @@ fn extend_chars<const N: usize>(text: &mut InlineText<N>, letters: &str) -> u64 
     text.len() as u64
 }
 
-#[inline(never)]
-fn extend_strs<const N: usize>(text: &mut InlineText<N>, letters: &str) -> u64 {
-    text.clear();
-    let _refused = text.extend([letters].iter().copied());
-    text.len() as u64
-}
-
 // Those that only look use the round's number, or LLVM would look once for all rounds.
 #[inline(never)]
 fn equal<const N: usize>(text: &InlineText<N>, like: &InlineText<N>, x: u64) -> u64 {
@@ -315,4 +272,45 @@ fn as_str<const N: usize>(text: &InlineText<N>, x: u64) -> u64 {
 #[inline(never)]
 fn is_char_boundary<const N: usize>(text: &InlineText<N>, x: u64) -> u64 {
     text.is_char_boundary((x % 64) as usize) as u64
+}
+
+// By `_like` the proof knows that an array of so many slots fits in memory.
+#[inline(never)]
+fn collected<const N: usize>(alloc: Global, _like: &InlineText<N>, letters: &str, x: u64) -> u64 {
+    let Ok(text) = letters.chars().collect::<InlineText<N>>(alloc) else {
+        return 0;
+    };
+    look_at(text.as_bytes(), x)
+}
+
+#[inline(never)]
+fn write_and_truncate<const N: usize>(text: &mut InlineText<N>) -> u64 {
+    let len = text.len();
+    if text.write_str("01234567").is_err() || !text.is_char_boundary(len) {
+        return 0;
+    }
+    text.truncate(len);
+    len as u64
+}
+
+// Appends the first half, and cuts it off.
+#[inline(never)]
+fn extend_from_within<const N: usize>(text: &mut InlineText<N>) -> u64 {
+    let len = text.len();
+    let half = len / 2;
+    if !text.is_char_boundary(half) || text.extend_from_within(0..half).is_err() {
+        return 0;
+    }
+    if text.is_char_boundary(len) {
+        text.truncate(len);
+    }
+    len as u64
+}
+
+// Reserves room for twice as many bytes more, and gives it back.
+#[inline(never)]
+fn reserve_and_shrink<const N: usize>(text: &mut InlineText<N>, letters: &str) -> u64 {
+    let _refused = text.reserve(letters.len().saturating_mul(2));
+    text.shrink_to_fit();
+    text.len() as u64
 }

@@ -3,9 +3,8 @@ ghost use Rattle.std.specs.Prelude.{◌≡◌, ◌+◌, ◌*◌, ◌^◌, ◌<�
 ghost use Rattle.tinyvec.specs.View.{capacity_in};
 ghost use Rattle.tinyvec_text.specs.InlineText.{text_len};
 
-use crate::calls::rows;
 use crate::dates::{month, weekday};
-use crate::report::{Bench, Report};
+use crate::report::{Bench, Report, rows};
 use crate::sources::letters_of;
 use crate::texts::look_at;
 use std::alloc::{AllocError, Global};

@@ -40,11 +40,6 @@ impl<T: Item + Clone + Default, const N: usize> Vector<T, N> for TinyVec<[T; N]>
     }
 
     #[inline(always)]
-    fn last_of_match(&self, alloc: Global, odd: &Self, x: u64) -> u64 {
-        last(match_of::<T, N>(alloc, self, odd, x).as_slice())
-    }
-
-    #[inline(always)]
     fn len(&self) -> usize {
         self.len()
     }
@@ -85,6 +80,11 @@ impl<T: Item + Clone + Default, const N: usize> Vector<T, N> for TinyVec<[T; N]>
     #[inline(always)]
     fn truncate(&mut self, n: usize) {
         self.truncate(n);
+    }
+
+    #[inline(always)]
+    fn clear(&mut self) {
+        self.clear();
     }
 
     #[inline(always)]
@@ -184,19 +184,4 @@ fn clone_of<T: Item + Clone + Default, const N: usize>(
         return TinyVec::new(alloc);
     };
     copy
-}
-
-// The same, by a `match` of both results.
-#[inline(never)]
-fn match_of<T: Item + Clone + Default, const N: usize>(
-    alloc: Global,
-    even: &TinyVec<[T; N]>,
-    odd: &TinyVec<[T; N]>,
-    x: u64,
-) -> TinyVec<[T; N]> {
-    let vec = if x % 2 == 0 { even } else { odd };
-    match vec.clone() {
-        Ok(copy) => copy,
-        Err(_) => TinyVec::new(alloc),
-    }
 }

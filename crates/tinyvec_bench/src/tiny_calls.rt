@@ -7,8 +7,8 @@ use crate::calls::{
 };
 use crate::looks::compared;
 use crate::number::{is_odd_mut, last};
-use crate::prints::{PrintBench, prints};
-use crate::report::{Bench, Report};
+use crate::prints::{Print, PrintBench};
+use crate::report::{Bench, Report, run};
 use crate::spilling::look_at;
 use std::alloc::Global;
 use tinyvec::TinyVec;
@@ -42,7 +42,7 @@ pub fn of_tiny_calls<R: Report, const N: usize>(report: &mut R, alloc: Global, n
         vec: &*list.vec,
         text: &mut text,
     };
-    prints(report, n, &mut list);
+    run(report, "debug", n, Print::Debug, &mut list);
 }
 
 impl<const N: usize> Bench<Call> for CallBench<'_, TinyVec<[u64; N]>> {
@@ -222,7 +222,6 @@ fn cut<const N: usize>(
         Call::RetainMut => vec.retain_mut(is_odd_mut),
         Call::DedupBy => vec.dedup_by(is_same),
         Call::DedupByKey => vec.dedup_by_key(key_of),
-        Call::DrainDropped => drop(vec.drain(len / 4..len - len / 4)),
         Call::DrainBack => {
             let mut sum = x;
             for y in vec.drain(len / 4..len - len / 4).rev() {

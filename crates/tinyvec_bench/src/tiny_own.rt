@@ -50,10 +50,23 @@ impl<const N: usize> Bench<Own> for CallBench<'_, TinyVec<[u64; N]>> {
                 *vec = TinyVec::from_vec(items);
             }
             Own::WithCapacity => return len_of_new::<N>(self.alloc, vec, source, x),
+            Own::ClearAndPush => return clear_and_push::<N>(vec, source.len() as u64, x),
             Own::DrainToVec => {}
         }
         x.wrapping_add(vec.len() as u64)
     }
+}
+
+// Clears the list, and pushes `count` numbers. Here LLVM knows neither the place nor the room.
+#[inline(never)]
+fn clear_and_push<const N: usize>(vec: &mut TinyVec<[u64; N]>, count: u64, x: u64) -> u64 {
+    vec.clear();
+    for k in 0..count {
+        if vec.push(x.wrapping_add(k)).is_err() {
+            return 0;
+        }
+    }
+    x.wrapping_add(vec.len() as u64)
 }
 
 // A new list with room for all numbers, over as many slots as `_like`.

@@ -28,9 +28,6 @@ pub trait Vector<T: Item, const N: usize>: AsSlice<T> + Drop {
     /// That of the vector that the row `clone` makes.
     fn last_of_clone(&self, alloc: Global, odd: &Self, x: u64) -> u64;
 
-    /// That of the vector that the row `clone_by_match` makes.
-    fn last_of_match(&self, alloc: Global, odd: &Self, x: u64) -> u64;
-
     fn len(&self) -> usize
         ensures value { result ≡ length (Self.items self.now) }
         ensures room { result < N → has_room self.now };
@@ -61,6 +58,10 @@ pub trait Vector<T: Item, const N: usize>: AsSlice<T> + Drop {
         ensures { has_room self.new };
 
     fn truncate(&mut self, n: usize);
+
+    /// Empties the list by the vector's own call.
+    fn clear(&mut self)
+        ensures { length (Self.items self.new) ≡ 0 };
 
     /// Appends the items to an empty list, or none where an array has too few slots.
     fn extend_from_slice(&mut self, source: &[T]) -> bool

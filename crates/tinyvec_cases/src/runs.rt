@@ -143,12 +143,7 @@ fn call_slice(v: &mut SliceVec<'_, i32>, call: &str, out: &mut Out) {
     answer_call!(v, call, out, "run" => run_over_slice);
 }
 
-fn run_over_slice(
-    v: &mut SliceVec<'_, i32>,
-    refused: u16,
-    words: &mut Words<'_>,
-    out: &mut Out,
-) {
+fn run_over_slice(v: &mut SliceVec<'_, i32>, refused: u16, words: &mut Words<'_>, out: &mut Out) {
     run!(v, refused, words, out, run_slice);
 }
 

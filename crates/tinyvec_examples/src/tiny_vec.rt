@@ -1,6 +1,6 @@
 //! Callers of a `TinyVec`: one list, and where it is.
-ghost use Rattle.std.specs.Prelude.{◌≡◌, ◌+◌, ◌-◌, ◌<◌, ◌++◌, ◌∷◌, [], pos, slice_get, slice_set, IfOk, OnOk, OnErr};
-ghost use Rattle.tinyvec.specs.Ranges.{IsRangeOf, before, removed, after};
+ghost use Rattle.std.specs.Prelude.{◌≡◌, ◌+◌, ◌-◌, ◌<◌, ◌++◌, ◌∷◌, [], pos, slice_set, IfOk, OnOk, OnErr};
+ghost use Rattle.tinyvec.specs.Ranges.{IsRangeOf, before, after};
 ghost use Rattle.tinyvec.specs.TinyVec.{tiny_items, tiny_items_of, tiny_len_of, tiny_spare, tiny_spare_of, is_inline, IsInline, tiny_capacity, tiny_capacity_of, tiny_view_of};
 ghost use Rattle.tinyvec.specs.View.{Becomes, Unchanged};
 
@@ -65,22 +65,6 @@ pub fn cut<A: Array, R: RangeBounds<usize>>(v: &mut TinyVec<A>, range: R)
         (before (tiny_items_of A.Slots v.old) (R.start_bound range) ++ after (tiny_items_of A.Slots v.old) (R.end_bound range)) }
 {
     drop(v.drain(range));
-}
-
-/// The item at `n` of any range of any vector. Those before it and those after it are gone too.
-pub fn nth_of<A: Array, R: RangeBounds<usize>>(
-    v: &mut TinyVec<A>,
-    range: R,
-    n: usize,
-) -> Option<A::Item>
-    requires not_exhausted { R.has_bounds range }
-    requires in_list { IsRangeOf (tiny_items_of A.Slots v.old) (R.start_bound range) (R.end_bound range) }
-    ensures item { result ≡ slice_get (removed (tiny_items_of A.Slots v.old) (R.start_bound range) (R.end_bound range)) n }
-    ensures left { Becomes A.Item.is_default (tiny_view_of A.Slots v.old) (tiny_view_of A.Slots v.new)
-        (before (tiny_items_of A.Slots v.old) (R.start_bound range) ++ after (tiny_items_of A.Slots v.old) (R.end_bound range)) }
-{
-    let mut d = v.drain(range);
-    d.nth(n)
 }
 
 /// The middle of four, drained: two zeros follow what is left.

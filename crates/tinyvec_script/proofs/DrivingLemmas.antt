@@ -9,13 +9,13 @@ use Rattle.std.specs.declared.iter.Fuse.{Fuse}
 use Rattle.std.specs.Iterator.Adapters.{fuse_steps}
 use Rattle.std.specs.declared.ops.Bound.TheVariants.{Included, Excluded}
 use Rattle.tinyvec_slots.specs.Ranges.{before, removed, after}
-use Rattle.tinyvec_slots.specs.Ends.{front, back, RunsWord, TakesFromEnds, given_items, taken}
+use Rattle.tinyvec_slots.specs.Ends.{front, back, RunsWord, GivenByWord, TakesFromEnds, given_items}
 use Rattle.tinyvec_slots.specs.Fused.{HasTwoEnds, fused_rest}
 use Rattle.tinyvec_slots.specs.Splice.{splice_view, splice_left, SpliceKeeps, SpliceSteps, SpliceStepsBack}
 use Rattle.tinyvec_slots.specs.AnySplice.{SpliceView, FinishesWith}
 use Rattle.tinyvec_slots.specs.SplicedByWord.{IsSpliceRefused, SplicedByWord}
 use Rattle.tinyvec_slots.specs.declared.no_room.NoRoom.{NoRoom}
-use Rattle.tinyvec_slots.proofs.EndsLemmas.{RunsWord-then, taken_within}
+use Rattle.tinyvec_slots.proofs.EndsLemmas.{RunsWord-then, items_given, given_is_taken}
 use Rattle.tinyvec_slots.proofs.Lists.{length-slice_range}
 use Rattle.tinyvec_slots.specs.declared.splice.Splice.{Splice}
 use Rattle.tinyvec_slots.proofs.Fused.{fused_ends}
@@ -56,7 +56,7 @@ module _ {X Z : Type 0} where
 -- a word is given no more items than there are
 pub given_within : {T : Type 0} (xs : List T) (word : _) (answers : List (Option T)) (left : List T) → TakesFromEnds xs word answers left
     → length (given_items answers) ≤ length xs
-given_within xs word answers left takes = rw takes.answered (taken_within word xs)
+given_within xs word answers left takes = let count = (items_given xs word answers left takes).count in omega (arith, count)
 
 -- what calls by a word did to a splice whose replacement is a vector
 module _ {V T Z : Type 0} (items : V → List T) (Kept : V → V → Type 0) (same : (v : V) → Kept v v) (onward : (u v w : V) → Kept u v → Kept v w → Kept u w)
@@ -74,8 +74,9 @@ module _ {S I T : Type 0} (view : S → SpliceView I T) (keeps : S → S → Typ
     (capacity : ℕ) (old new : List T) (start end : ℕ) (replacement : List T) (in_order : start ≤ end) (in_list : end ≤ length old)
     (ahead : (view s).front ≡ before old (Included start)) (left : (view s).left ≡ removed old (Included start) (Excluded end))
     (behind : (view s).back ≡ after old (Excluded end)) (whole : rest (view s).replacement ≡ replacement) where
-  yields_are : given_items answers ≡ taken (word_of word) (removed old (Included start) (Excluded end))
-  yields_are = ap given_items takes.answered ∙ ap (taken (word_of word)) left
+  yields_are : GivenByWord (removed old (Included start) (Excluded end)) (word_of word) (given_items answers)
+  yields_are =
+      subst (λ xs. GivenByWord xs (word_of word) (given_items answers)) left (items_given (view s).left (word_of word) answers (view t).left takes)
 
   sum : length (view t).front + length (rest (view t).replacement) + length (view t).back ≡ start + length replacement + (length old - end)
   sum =
@@ -154,13 +155,14 @@ module _ {T : Type 0} (capacity : ℕ) (old new : List T) (start end : ℕ) (wor
       let run = slice_range replacement at to in
       let cut = A ++ take at replacement ++ drop to replacement ++ E in
       let whole = A ++ replacement ++ E in
+      let given = given_is_taken (removed xs (Included start) (Excluded end)) (word_of word) yields h.yields_are in
       elim (cases_lt capacity sum) [
         | inl over ↦
             (let r = (h.refused over).0 in
             let is = cut_at r.at new (h.refused over).1 r.below r.list_is in
             let yes = sym (lt-ltb capacity sum over) in
             record {
-              yields_are = h.yields_are;
+              yields_are = given;
               rest_is = r.rest_is ∙ ap (λ n. slice_range replacement n to) is ∙ ap (λ b. if b then run else []) yes;
               list_is = r.list_is ∙ ap (λ n. A ++ take n replacement ++ drop to replacement ++ E) is ∙ ap (λ b. if b then cut else whole) yes;
             })
@@ -168,7 +170,7 @@ module _ {T : Type 0} (capacity : ℕ) (old new : List T) (start end : ℕ) (wor
             (let placed = h.placed fits in
             let no = sym (le-ltb capacity sum fits) in
             record {
-              yields_are = h.yields_are;
+              yields_are = given;
               rest_is = placed.0 ∙ ap (λ b. if b then run else []) no;
               list_is = placed.1 ∙ ap (λ b. if b then cut else whole) no;
             })

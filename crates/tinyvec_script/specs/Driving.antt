@@ -2,7 +2,7 @@
 use Rattle.std.specs.Prelude.{◌≡◌, ℕ, ◌+◌, ◌-◌, ◌<◌, ◌≤◌, List, [], ◌∷◌, ◌++◌, length, map, take, drop, slice_range, Option, Bool, nat_lt, if◌then◌else◌, Result, Ok, Err}
 use Rattle.std.specs.declared.ops.Bound.TheVariants.{Included, Excluded}
 use Rattle.tinyvec_slots.specs.Ranges.{IsRangeOf, before, removed, after}
-use Rattle.tinyvec_slots.specs.Ends.{front, back, taken}
+use Rattle.tinyvec_slots.specs.Ends.{front, back, GivenByWord, taken}
 use Rattle.tinyvec_slots.specs.Ends as ends
 use Rattle.tinyvec_slots.specs.SplicedByWord.{IsSpliceRefused, placed_back}
 use Rattle.tinyvec_slots.specs.declared.no_room.NoRoom.{NoRoom}
@@ -35,7 +35,7 @@ refused_items rest (Err refused) = refused.item ∷ rest refused.rest
 -- replacement fits, the list is full, and rest is the one run that was not placed.
 pub record ListSplices {T : Type 0} (capacity : ℕ) (old : List T) (start end : ℕ) (word : List End)
     (replacement yields rest new : List T) : Type 0 where
-  pub yields_are : yields ≡ taken (word_of word) (removed old (Included start) (Excluded end))
+  pub yields_are : GivenByWord (removed old (Included start) (Excluded end)) (word_of word) yields
   pub placed : start + length replacement + (length old - end) ≤ capacity
       → (rest ≡ []) × (new ≡ before old (Included start) ++ replacement ++ after old (Excluded end))
   pub refused : capacity < start + length replacement + (length old - end)

@@ -1,5 +1,5 @@
 //! A script, read and answered.
-ghost use Rattle.std.specs.Prelude.{◌≡◌, ◌⊎◌, ◌≤◌, ◌^◌, ◌-◌, ◌++◌, ◌∷◌, List, ℕ, [], Some, OnOk, IsErrOf, length};
+ghost use Rattle.std.specs.Prelude.{◌≡◌, ◌⊎◌, ◌≤◌, ◌^◌, ◌-◌, ◌++◌, ◌∷◌, List, ℕ, [], Some, OnOk, IsErrOf, length, true};
 ghost use Rattle.std.specs.Io.KnownBytes.{Appends, Consumes, IsAtEnd};
 ghost use Rattle.tinyvec_io.specs.Counted.{AppendsFront, CountsEnds, Reported};
 ghost use Rattle.tinyvec_script.specs.Failed.{is_read, is_write};
@@ -51,6 +51,7 @@ pub fn run<R: Read, W: Write>(
         × IsAtEnd (R.remaining reader.new.inner)
         × Appends (W.contents writer.old.inner) (W.contents writer.new.inner) output
         × Script input output) }
+    ensures flushed { OnOk result (writer.new.flushed ≡ true) }
     // One call of the reader failed exactly at `Read`, one of the writer exactly at `Write`.
     ensures failed { CountsEnds is_read is_write reader.old reader.new writer.old writer.new result }
 
@@ -140,8 +141,9 @@ fn finish<W: Write, B: Slots<Item = i32>>(
     writer: &mut Counted<W>,
 ) -> io::Result<()>
     requires { gathered.old ≡ Some [] }
-    ensures { (output : List ℕ) × Writes W.contents writer.old writer.new result output
+    ensures writes { (output : List ℕ) × Writes W.contents writer.old writer.new result output
         × Ends (state_of B.Slots vectors.old) line.now output }
+    ensures flushed { OnOk result (writer.new.flushed ≡ true) }
 {
     answer_last(alloc, vectors, line, gathered, writer);
     match gathered.send(writer) {

@@ -25,41 +25,50 @@ fn eight(order: &Cell<u32>) -> Eight<'_> {
     [1, 2, 3, 4, 5, 6, 7, 8].map(noted)
 }
 
-// Whether calls, the end of an iterator that owns its items, and the end of a vector drop each item once and, except for a drain
-// and `retain`, in the order of the list. The three vectors have eight items.
-macro_rules! drop_in_order {
-    ($order:ident, $cut:expr, $taken:expr, $ended:expr) => {{
-        let mut cut = $cut;
-        cut.truncate(6);
+// Whether calls drop each of eight items once and, except for a drain and `retain`, in the order of the list.
+macro_rules! cut_in_order {
+    ($order:ident, $eight:expr) => {{
+        let mut v = $eight;
+        v.truncate(6);
         let truncated = $order.replace(0);
-        cut.drain(..cut.len().min(2));
+        v.drain(..v.len().min(2));
         let drained = $order.replace(0);
-        cut.retain(|it| matches!(it, Some(Noted { digit: 5.., .. })));
+        v.retain(|it| matches!(it, Some(Noted { digit: 5.., .. })));
         let filtered = $order.replace(0);
-        cut.clear();
-        let cleared = $order.replace(0);
-        let mut items = $taken.into_iter();
+        v.clear();
+        let is_drained = (drained == 12) | (drained == 21);
+        let is_filtered = (filtered == 34) | (filtered == 43);
+        (truncated == 78) & is_drained & is_filtered & ($order.replace(0) == 56)
+    }};
+}
+
+// The same of the end of an iterator that owns its items, and of the end of a vector.
+macro_rules! end_in_order {
+    ($order:ident, $eight:expr, $others:expr) => {{
+        let mut items = $eight.into_iter();
         let first = items.next();
         drop(items);
         drop(first);
         let taken = $order.replace(0);
-        drop($ended);
-        let in_order = [truncated, cleared, taken, $order.replace(0)];
-        in_order == [78, 56, 23456781, 12345678]
-            && matches!(drained, 12 | 21)
-            && matches!(filtered, 34 | 43)
+        drop($others);
+        (taken == 23456781) & ($order.replace(0) == 12345678)
     }};
 }
 
+fn array(order: &Cell<u32>) -> ArrayVec<Eight<'_>> {
+    ArrayVec::from_array(eight(order))
+}
+
 #[test]
-fn by_an_array(rt: HostRuntime) -> Result<(), Fail> {
+fn cut_of_an_array(rt: HostRuntime) -> Result<(), Fail> {
     let order = Cell::new(0);
-    all_steps(&[drop_in_order!(
-        order,
-        ArrayVec::from_array(eight(&order)),
-        ArrayVec::from_array(eight(&order)),
-        ArrayVec::from_array(eight(&order))
-    )])
+    all_steps(&[cut_in_order!(order, array(&order))])
+}
+
+#[test]
+fn end_of_an_array(rt: HostRuntime) -> Result<(), Fail> {
+    let order = Cell::new(0);
+    all_steps(&[end_in_order!(order, array(&order), array(&order))])
 }
 
 fn tiny(alloc: Global, order: &Cell<u32>, inline: bool) -> TinyVec<Eight<'_>> {
@@ -69,22 +78,28 @@ fn tiny(alloc: Global, order: &Cell<u32>, inline: bool) -> TinyVec<Eight<'_>> {
 }
 
 #[test]
-fn by_a_tiny_vec(rt: HostRuntime) -> Result<(), Fail> {
+fn cut_of_a_tiny_vec(rt: HostRuntime) -> Result<(), Fail> {
     let (order, alloc) = (Cell::new(0), rt.alloc());
     let mut is_right = true;
     for inline in [true, false] {
-        is_right &= drop_in_order!(
-            order,
-            tiny(alloc, &order, inline),
-            tiny(alloc, &order, inline),
-            tiny(alloc, &order, inline)
-        );
+        is_right &= cut_in_order!(order, tiny(alloc, &order, inline));
     }
     all_steps(&[is_right])
 }
 
 #[test]
-fn by_lent_slots(rt: HostRuntime) -> Result<(), Fail> {
+fn end_of_a_tiny_vec(rt: HostRuntime) -> Result<(), Fail> {
+    let (order, alloc) = (Cell::new(0), rt.alloc());
+    let mut is_right = true;
+    for inline in [true, false] {
+        let (taken, ended) = (tiny(alloc, &order, inline), tiny(alloc, &order, inline));
+        is_right &= end_in_order!(order, taken, ended);
+    }
+    all_steps(&[is_right])
+}
+
+#[test]
+fn end_of_lent_slots(rt: HostRuntime) -> Result<(), Fail> {
     let order = Cell::new(0);
     let mut slots = eight(&order);
     let mut v = SliceVec::from_slice_len(&mut slots, 8);

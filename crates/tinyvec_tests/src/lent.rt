@@ -20,31 +20,35 @@ fn of_all_slots(rt: HostRuntime) -> Result<(), Fail> {
     let is_array = slots == [21, 22, 23];
     write(SliceVec::try_from_slice_len(&mut slots, 2).unwrap_or_default());
     let is_front = slots == [31, 32, 23];
+    SliceVec::from_slice_len(&mut slots, 1).as_mut_inner()[2] = 33;
+    let is_inner = slots == [31, 32, 33];
     let is_refused = SliceVec::try_from_slice_len(&mut slots[..2], 3).is_none();
     all_steps(&[
         is_slice,
         is_array,
         is_front,
+        is_inner,
         is_refused,
-        slots == [31, 32, 23],
+        slots == [31, 32, 33],
     ])
 }
 
-/// A part over slots of the other, and a call that writes a slot, would pass it too: each item of each part is written, and one
-/// is pushed to the second.
+/// A part over slots of the other would pass it too: each item of each part is written, and one is pushed to the second.
 #[test]
 fn split_off_parts_write_their_own_slots(rt: HostRuntime) -> Result<(), Fail> {
     let mut is_right = true;
     for at in 0..5 {
-        let mut slots = [1, 2, 3, 4, 9];
+        let mut slots = [0, 0, 0, 0, 0];
         let mut first = SliceVec::from_slice_len(&mut slots, 4);
         let mut second = first.split_off(at);
-        write(first);
+        first.as_mut_slice().fill(1);
+        second.as_mut_slice().fill(2);
         if !second.is_full() {
-            second.push(5);
+            second.push(3);
         }
-        write(second);
-        is_right &= slots == [11, 12, 13, 14, 15];
+        let mut wanted = [2, 2, 2, 2, 3];
+        wanted[..at].fill(1);
+        is_right &= slots == wanted;
     }
     all_steps(&[is_right])
 }

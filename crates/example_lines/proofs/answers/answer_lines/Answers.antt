@@ -29,7 +29,8 @@ returns-in-Err-Memory-clause-memory g c = λ _.
     let all = rw append-nil at (Consumes-trans _ _ _ s.0 [] s.2 last) in
     let before = g.R.Read.remaining c.args.reader.now.inner in
     let after = g.R.Read.remaining c.read_some.new.self.inner in
-    (s.0, [], s.1, c.loop-piece.line.items, subst (Consumes before after) (sym (append-nil s.0)) all, Appends-kept _ _ _ s.1 s.3 (c.finish.ensures.memory was), (c.loop-piece.program, s.4))
+    let f = c.finish.ensures.memory was in
+    (s.0, [], s.1, c.loop-piece.line.items, subst (Consumes before after) (sym (append-nil s.0)) all, Appends-kept _ _ _ s.1 s.3 f.0, (c.loop-piece.program, s.4, f.1))
 
 pub returns-in-Err-Output-clause-output : goal.returns-in-Err-Output-clause-output
 returns-in-Err-Output-clause-output g c = λ error is.
@@ -60,7 +61,7 @@ returns-in-Err-Memory-answer_chunk-clause-memory g c = λ _.
       f.3,
       subst (Consumes before after) (ap (λ read. s.0 ++ read) f.4 ∙ sym (append_assoc s.0 f.0 f.1)) all,
       Appends-trans _ _ _ s.1 f.2 s.3 f.5,
-      (f.6.0, f.6.1 c.args.program.now s.0 s.1 s.4),
+      (f.6.0, f.6.1 c.args.program.now s.0 s.1 s.4, f.6.2),
     )
 
 pub returns-in-Err-Output-answer_chunk-clause-output : goal.returns-in-Err-Output-answer_chunk-clause-output
@@ -78,7 +79,7 @@ returns-in-Err-Output-answer_chunk-clause-output g c = λ error is.
       f.3,
       subst (Consumes before after) (ap (λ read. s.0 ++ read) f.4 ∙ sym (append_assoc s.0 f.0 f.1)) all,
       AppendsFront-then _ _ _ s.1 f.2 s.3 f.5,
-      inl (f.6.0, f.6.1 c.args.program.now s.0 s.1 s.4),
+      inl (f.6.0, f.6.1 c.args.program.now s.0 s.1 s.4, f.6.2),
     )
 
 pub loop-piece-preserved : goal.loop-piece-preserved

@@ -8,12 +8,12 @@ loop-end-init g c = ([], [], refl, sym (append-nil c.args.text.now.items), advan
 pub returns-in_err-push_answer-clause-some : goal.returns-in_err-push_answer-clause-some
 returns-in_err-push_answer-clause-some g c =
     let s = c.loop-end.invariant in
-    (s.0, c.loop-end.rest.now, s.1, c.loop-end.line.items, s.2, c.in_err-push_answer.ensures.refused ∙ s.3, (c.loop-end.program, s.4))
+    (s.0, c.loop-end.rest.now, s.1, c.loop-end.line.items, s.2, c.in_err-push_answer.ensures.refused ∙ s.3, (c.loop-end.program, s.4, c.in_err-push_answer.ensures.kept))
 
 pub returns-in_err-extend_from_slice-clause-some : goal.returns-in_err-extend_from_slice-clause-some
 returns-in_err-extend_from_slice-clause-some g c =
     let s = c.loop-end.invariant in
-    (s.0, c.loop-end.rest.now, s.1, c.loop-end.line.items, s.2, s.3, (c.loop-end.program, s.4))
+    (s.0, c.loop-end.rest.now, s.1, c.loop-end.line.items, s.2, s.3, (c.loop-end.program, s.4, λ _ _ _ is. is))
 
 pub loop-end-preserved : goal.loop-end-preserved
 loop-end-preserved g c =
@@ -42,4 +42,4 @@ returns-clause-some g c =
     let bytes = c.args.bytes.now in
     let next = c.extend_from_slice.new.self.items in
     let read = advances_rest g.A.Answer.IsAnswer c.args.program.now c.loop-end.program c.args.line.now.items c.loop-end.line.items next bytes s.0 s.1 c.loop-end.rest.now s.2 s.4 c.in_default.ensures.none c.in_ok-extend_from_slice.ensures.items in
-    (bytes, [], s.1, next, sym (append-nil bytes), s.3, (c.loop-end.program, read))
+    (bytes, [], s.1, next, sym (append-nil bytes), s.3, (c.loop-end.program, read, λ _ _ _ is. is))

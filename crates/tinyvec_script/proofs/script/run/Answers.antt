@@ -47,12 +47,12 @@ pub returns-in-Err-clause-read_fault : goal.returns-in-Err-clause-read_fault
 returns-in-Err-clause-read_fault g c = λ _. reported_since _ _ _ c.loop-piece.invariant.read_grows c.in-Err.ensures.faults.fault
 
 pub returns-in-Err-finish-clause-write_fault : goal.returns-in-Err-finish-clause-write_fault
-returns-in-Err-finish-clause-write_fault g c = λ _. reported_since _ _ _ c.loop-piece.invariant.write_grows c.in-Err-finish.ensures.1.fault
+returns-in-Err-finish-clause-write_fault g c = λ _. reported_since _ _ _ c.loop-piece.invariant.write_grows c.in-Err-finish.ensures.writes.1.fault
 
 pub returns-in-Err-finish-clause-write : goal.returns-in-Err-finish-clause-write
 returns-in-Err-finish-clause-write g c =
     let s = c.loop-piece.invariant.so_far in
-    let f = c.in-Err-finish.ensures in
+    let f = c.in-Err-finish.ensures.writes in
     let none : c.in-Ok.count ≡ 0 = c.if-count-eq0.true in
     let last = rw none at c.in-Ok.ensures.bytes in
     λ _. (s.0, s.1 ++ f.0, rw append-nil at (Consumes-trans _ _ _ s.0 [] s.2 last), AppendsFront-then _ _ _ s.1 f.0 s.3 f.1.err, inr (whole_script s.4 f.2))
@@ -70,7 +70,7 @@ returns-in-Err-answer_chunk-clause-write_fault g c = λ _. reported_since _ _ _ 
 pub returns-in-Ok-finish-clause-ok : goal.returns-in-Ok-finish-clause-ok
 returns-in-Ok-finish-clause-ok g c =
     let s = c.loop-piece.invariant.so_far in
-    let f = c.in-Ok-finish.ensures in
+    let f = c.in-Ok-finish.ensures.writes in
     let none : c.in-Ok.count ≡ 0 = c.if-count-eq0.true in
     let last = rw none at c.in-Ok.ensures.bytes in
     (s.0, s.1 ++ f.0, rw append-nil at (Consumes-trans _ _ _ s.0 [] s.2 last), c.in-Ok.ensures.end none, Appends-trans _ _ _ s.1 f.0 s.3 f.1.ok, whole_script s.4 f.2)
