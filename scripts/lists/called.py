@@ -1,7 +1,7 @@
 """Whether calls that docs/reference/costs.txt says never allocate are shown to, and bench/calls.txt names each public call.
 
 A call of a type with an allocator that costs.txt says never allocates, and that does not only read, has a row of its name
-that wants `0 requests`, which `tests/answers` counts, or a test in a module `no_memory`. bench/calls.txt has the row of the
+that wants `0 requests`, which `tests/rows/compare` counts, or a test in a module `no_memory`. bench/calls.txt has the row of the
 benchmarks of each call at 64 and 16,384 items. What the vectors share, the crate of slots and the traits of slots and arrays,
 is measured by the vectors' calls.
 """
@@ -33,7 +33,7 @@ def faults():
 
 def faults_of_requests(signatures):
     tests = "".join(it.read_text(encoding="utf-8") for it in (exports.TOP / "crates").glob("*_tests/src/**/no_memory.rt"))
-    chains = [it for path in (exports.TOP / "tests/cases").glob("*.txt") for it in rows.read_file(path)]
+    chains = [it for path in (exports.TOP / "tests/rows").glob("*.txt") for it in rows.read_file(path)]
     asked = ((it.kind, call) for it in chains for _, call, wanted in it.calls if wanted.endswith("; 0 requests"))
     shown = {(re.match(r"\w+", kind)[0], call.split(" ")[0]) for kind, call in asked}
     for call in (it for it, (_, how) in reference.costs() if how == "never" and it in signatures):

@@ -90,7 +90,7 @@ def tests_of(top):
     below = {it: {one.name for one in (*it.below, it)} for it in crates.read_crates().values()}
     answering = set().union(*(below[it] for it in below if it.name.endswith("_cases")))
     yield "random calls", answering | {"tv", "example_dns_query"}, [top / "tests/random", "--try"]
-    yield "rows", answering, [top / "tests/answers", "--try"]
+    yield "rows", answering, [top / "tests/rows/compare", "--try"]
     for it in sorted(below, key=crates.Crate.has_tests):
         if it.has_tests() or it.files.get("stdout"):
             yield it.name, below[it], [top / "tests/quick", it.name]

@@ -1,1 +1,1 @@
-"""Reads and runs the rows of tests/cases, and refuses requests for memory."""
+"""Reads and runs the rows of tests/rows, and refuses requests for memory."""

@@ -160,7 +160,10 @@ fn put_in<A: Array>(v: &mut ArrayVec<A>, x: A::Item, out: &mut Out) {
 
 // What is in the brackets around a word.
 fn inside(word: &str) -> &str {
-    word.strip_prefix('[').unwrap_or(word).strip_suffix(']').unwrap_or("?")
+    word.strip_prefix('[')
+        .unwrap_or(word)
+        .strip_suffix(']')
+        .unwrap_or("?")
 }
 
 fn parsed<T: FromStr + Default + Drop>(word: &str, out: &mut Out) -> T

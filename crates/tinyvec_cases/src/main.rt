@@ -1,4 +1,4 @@
-//! Answers the rows on standard input, a line each. `tests/cases/README.md` has their form.
+//! Answers the rows on standard input, a line each. `tests/rows/README.md` has their form.
 #![tactic(auto)]
 
 mod borsh;

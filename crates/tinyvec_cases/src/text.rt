@@ -67,7 +67,11 @@ const TEXT_CALLS: [(&str, Name, &str); 41] = [
 pub(crate) fn answer(words: &mut Words<'_>, calls: &mut Calls<'_>) {
     let mut t = Text::new(words.alloc);
     let mut text = String::new(words.alloc);
-    let room = if words.word() == "heap" { words.index() } else { 0 };
+    let room = if words.word() == "heap" {
+        words.index()
+    } else {
+        0
+    };
     words.add_text(&mut text);
     words.end();
     start(&mut t, text.as_str(), room, calls.out);

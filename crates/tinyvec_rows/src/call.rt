@@ -4,8 +4,8 @@ use std::alloc::Global;
 use std::ops::Bound;
 use std::{mem, str};
 
-/// The calls of vectors, and the kinds of their words: an index, a number, an item (`t`), a list, one that is reversed (`v`), slots, a range, a closure,
-/// steps (`w`), bytes; and whether the list has room for many more items.
+/// The calls of vectors, and the kinds of their words: an index, a number, an item (`t`), a list, one that is reversed
+/// (`v`), slots, a range, a closure, steps (`w`), bytes; and whether the list has room for many more items.
 pub const VECTOR_CALLS: [(&str, Name, &str); 79] = [
     ("pop", Name::Pop, ""),
     ("pop_at", Name::PopAt, "i"),

@@ -1,4 +1,4 @@
-//! The tests of what neither a contract nor a row of `tests/cases` can say: drops and their order, sizes, what crosses threads,
+//! The tests of what neither a contract nor a row of `tests/rows` can say: drops and their order, sizes, what crosses threads,
 //! the stack, endless iterators, hints that lie, forgotten drains, blocks that are lost, and what the owner of lent slots sees.
 #![tactic(auto)]
 

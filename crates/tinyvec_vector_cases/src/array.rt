@@ -114,11 +114,13 @@ pub fn set_collected<V: Drop, T: Item>(
 ) {
     match made {
         Ok(made) => set(v, made),
-        Err(FromIterRest {
-            vec,
-            item,
-            mut rest,
-        }) => {
+        Err(
+            FromIterRest {
+                vec,
+                item,
+                mut rest,
+            },
+        ) => {
             set(v, vec);
             out.say_refused(&item, &rest.next());
         }

@@ -141,7 +141,11 @@ fn move_out<T: Item, S: Slots<Item = T>>(v: &mut ArrayVec<S>, call: &mut Call<T>
         }
         Name::DrainToVec => set_made(&mut call.items, v.drain_to_vec(alloc), out),
         Name::DrainToVecAndReserve => {
-            set_made(&mut call.items, v.drain_to_vec_and_reserve(alloc, call.index), out);
+            set_made(
+                &mut call.items,
+                v.drain_to_vec_and_reserve(alloc, call.index),
+                out,
+            );
         }
         _ => return out.fail(Wrong::Place),
     }
