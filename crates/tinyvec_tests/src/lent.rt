@@ -44,17 +44,6 @@ fn a_refused_slice_is_as_it_was(rt: HostRuntime) {
     }
 }
 
-/// A write past the vector, to other slots, would pass the check: its owner and the vector have to see it.
-#[test]
-fn as_mut_inner_writes_the_lent_slots(rt: HostRuntime) {
-    let mut slots = [1, 2, 3, 4];
-    let mut v = SliceVec::from_slice_len(&mut slots, 2);
-    v.as_mut_inner()[1] = 7;
-    v.as_mut_inner()[3] = 9;
-    let is_seen = lends(&v, &[1, 7], &[3, 9]);
-    assert!(rt; is_seen & (slots == [1, 7, 3, 9]));
-}
-
 const NUMBERS: [i32; 5] = [1, 2, 3, 4, 5];
 
 /// A call that writes a slot would pass the check. Every length of the list and of the parts.
