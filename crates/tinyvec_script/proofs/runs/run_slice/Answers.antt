@@ -11,7 +11,7 @@ either (Ok x) made refused = made
 either (Err e) made refused = refused
 
 -- which slots these are, and how many
-slots_are : {T : Type 0} → ArrayVec (MutBor (List T)) ℕ → GName × ℕ
+abbrev slots_are : {T : Type 0} → ArrayVec (MutBor (List T)) ℕ → GName × ℕ
 slots_are v = (slice_name v, length (slice_slots v))
 
 pub returns-clause-run : goal.returns-clause-run
