@@ -4,6 +4,8 @@
 #[cfg(test)]
 mod aliases;
 #[cfg(test)]
+mod answers;
+#[cfg(test)]
 mod asked;
 #[cfg(test)]
 mod clones;
@@ -35,6 +37,8 @@ mod no_memory;
 mod ordered;
 #[cfg(test)]
 mod pages;
+#[cfg(test)]
+mod records;
 #[cfg(test)]
 mod refusals;
 #[cfg(test)]
