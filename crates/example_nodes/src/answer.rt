@@ -25,9 +25,12 @@ impl Answer for Reader {
     ghost IsAnswer = { λ old line text new. (new.line ≡ later old.line) × AnswersLine new.line line text };
 
     fn answer(&mut self, alloc: Global, line: &[u8], text: &mut Vec<u8>) -> Result<(), AllocError> {
-        self.line = self.line.saturating_add(1);
-        answer_to(alloc, self.line, line, &mut self.said)?;
-        Ok(text.extend_from_slice(self.said.as_bytes())?)
+        let number = self.line.saturating_add(1);
+        answer_to(alloc, number, line, &mut self.said)?;
+        text.extend_from_slice(self.said.as_bytes())?;
+        // A line that memory is refused for does not count.
+        self.line = number;
+        Ok(())
     }
 }
 

@@ -6,15 +6,15 @@ use Rattle.std.proofs.lemmas.Bool.{ltb-true}
 use Rattle.example_records.specs.Commands.{Answers, AreNumbers, AreSamples, Command, Does, HasTag, IsDecimal, IsRead, IsReadOfCopy, IsRecord, Says, behind_comma, part_of, rest_of, word_of}
 use Rattle.example_records.specs.Commands.Command.{Add, Hex, Cut, Read, Copy}
 use Rattle.example_records.specs.Hex.{HasByte, bytes_of}
-use Rattle.example_records.specs.Readings.{ReadingFits, Said, SamplesFit, said}
-use Rattle.example_records.specs.Stream.{BeginsWith, Gives, IsEnd, SpellsFrame, SpellsStream, StandsBehind}
-use Rattle.example_records.specs.declared.stream.Recovered.{Recovered}
+use Rattle.example_stream.specs.Readings.{ReadingFits, Said, SamplesFit, said}
+use Rattle.example_stream.specs.Stream.{BeginsWith, Gives, IsEnd, SpellsFrame, SpellsStream, StandsBehind}
+use Rattle.example_stream.specs.declared.stream.Recovered.{Recovered}
 use Rattle.example_records.specs.declared.command_error.CommandError.{CommandError}
 use Rattle.example_records.specs.declared.command_error.CommandError.TheVariants.{Hex as NoHex, Memory}
-use Rattle.example_records.specs.declared.stream_error.StreamError.{StreamError}
-use Rattle.example_records.specs.declared.stream_error.StreamError.TheVariants.{Io, WrongTag}
+use Rattle.example_stream.specs.declared.stream_error.StreamError.{StreamError}
+use Rattle.example_stream.specs.declared.stream_error.StreamError.TheVariants.{Io, WrongTag}
 use Rattle.example_records.proofs.HexLaws.{bytes_more}
-use Rattle.example_records.proofs.WholeStreams.{gives-all}
+use Rattle.example_stream.proofs.WholeStreams.{gives-all}
 
 -- ---- numbers
 

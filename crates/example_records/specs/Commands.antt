@@ -4,13 +4,13 @@ use Rattle.std.specs.List.{AllByRecursion, after_first, before_first, position_o
 use Rattle.std.specs.Str.{IsUtf8}
 use Rattle.std.specs.Str.Parse.{IsNumeral, digits_value, without_leading_plus}
 use Rattle.example_records.specs.Hex.{HasByte, bytes_of}
-use Rattle.example_records.specs.Readings.{ReadingFits, Said, said}
-use Rattle.example_records.specs.Stream.{BeginsWith, Gives, IsCopy, IsEnd, SpellsFrame, SpellsStream, StandsBehind, tag}
+use Rattle.example_stream.specs.Readings.{ReadingFits, Said, said}
+use Rattle.example_stream.specs.Stream.{BeginsWith, Gives, IsCopy, IsEnd, SpellsFrame, SpellsStream, StandsBehind, tag}
 use Rattle.example_records.specs.declared.command_error.CommandError.{CommandError}
 use Rattle.example_records.specs.declared.command_error.CommandError.TheVariants.{Hex as NoHex, Length, Memory, Samples, Station, Text, Unknown, Words}
-use Rattle.example_records.specs.declared.stream.Recovered.{Recovered}
-use Rattle.example_records.specs.declared.stream_error.StreamError.{StreamError}
-use Rattle.example_records.specs.declared.stream_error.StreamError.TheVariants.{Io, Memory as NoMemory}
+use Rattle.example_stream.specs.declared.stream.Recovered.{Recovered}
+use Rattle.example_stream.specs.declared.stream_error.StreamError.{StreamError}
+use Rattle.example_stream.specs.declared.stream_error.StreamError.TheVariants.{Io, Memory as NoMemory}
 
 -- ---- the words of a line
 

@@ -4,10 +4,10 @@ use Rattle.std.specs.Fmt.{◌++?◌, debug_list, debug_str, decimal}
 use Rattle.std.specs.Str.{IsUtf8}
 use Rattle.example_records.specs.Commands.{Answer, Answers, Commands, IsCommand, Tells, rest_of, word_of}
 use Rattle.example_records.specs.Errors.{command_error_text, end_text}
-use Rattle.example_records.specs.Readings.{Said, said}
-use Rattle.example_records.specs.Stream.{SpellsStream}
+use Rattle.example_stream.specs.Readings.{Said, said}
+use Rattle.example_stream.specs.Stream.{SpellsStream}
 use Rattle.example_records.specs.declared.command_error.CommandError.TheVariants.{Text, Unknown}
-use Rattle.example_records.specs.declared.stream_error.StreamError.{StreamError}
+use Rattle.example_stream.specs.declared.stream_error.StreamError.{StreamError}
 
 -- the station, the samples and a note that is shown so, with a blank between two, and a line feed
 abbrev pub line_text : Said → Option (List ℕ) → Option (List ℕ)

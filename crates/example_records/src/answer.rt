@@ -1,19 +1,25 @@
 //! The answer to a line.
-ghost use Rattle.std.specs.Prelude.{◌≡◌, ◌++◌, ◌∷◌, [], ℕ, List, OnOk, codes};
+ghost use Rattle.std.specs.Prelude.{◌≡◌, ◌+◌, ◌≤◌, ◌++◌, ◌∷◌, [], ℕ, List, OnErr, OnOk, codes, map, vec_capacity, vec_len};
+ghost use Rattle.example_stream.specs.Readings.{said};
 ghost use Rattle.example_records.specs.Errors.{command_error_text};
-ghost use Rattle.example_records.specs.Shown.{IsAnswered, len_text};
+ghost use Rattle.example_records.specs.Shown.{IsAnswered, IsShown, len_text};
 
 use crate::command::{push_shown, run};
 use crate::command_error::CommandError;
 use example_lines::Answer;
+use example_stream::Recovered;
+use itoa::Buffer;
 use std::alloc::{AllocError, Global};
+
+// How many bytes say how long a stream is: 20 digits, a word and a line feed.
+const LEN_BYTES: usize = 27;
 
 /// The stream of records, which the commands on lines change.
 #[derive(Drop)]
 pub struct Records {
     pub stream: Vec<u8>,
-    /// The last answer. The next takes its memory, as a piece of it takes that of the last.
-    pub said: Vec<u8>,
+    /// The records that were shown last. The next take their memory, as a piece of them takes that of the last.
+    pub shown: Vec<u8>,
     pub piece: String,
 }
 
@@ -21,59 +27,61 @@ impl Answer for Records {
     ghost IsAnswer = { λ old line text new. IsAnswered line old.stream.items new.stream.items text };
 
     fn answer(&mut self, alloc: Global, line: &[u8], text: &mut Vec<u8>) -> Result<(), AllocError> {
-        self.said.clear();
-        answer_to(
-            alloc,
-            line,
-            &mut self.stream,
-            &mut self.piece,
-            &mut self.said,
-        )?;
-        Ok(text.extend_from_slice(self.said.as_slice())?)
-    }
-}
-
-// Appends what the command on the line recovers, how long the stream then is, or why it is refused.
-fn answer_to(
-    alloc: Global,
-    line: &[u8],
-    stream: &mut Vec<u8>,
-    piece: &mut String,
-    text: &mut Vec<u8>,
-) -> Result<(), AllocError>
-    ensures { OnOk result ((said : List ℕ) × (text.new.items ≡ text.old.items ++ said)
-        × IsAnswered line.now stream.old.items stream.new.items said) }
-{
-    match run(alloc, line, stream) {
-        Ok(Some(recovered)) => {
-            push_shown(text, piece, &recovered)?;
-            Ok(text.push(b'\n')?)
+        // Room first, so that each change of the stream is answered.
+        text.reserve(LEN_BYTES)?;
+        match run(alloc, line, &mut self.stream) {
+            Ok(None) => {
+                push_len(text, self.stream.len());
+                Ok(())
+            }
+            Ok(Some(recovered)) => {
+                push_recovered(&recovered, &mut self.piece, &mut self.shown, text)
+            }
+            Err(error) => push_refusal(text, error),
         }
-        Ok(None) => push_len(text, piece, stream.len()),
-        Err(error) => push_refusal(text, error),
     }
 }
 
 // Appends how long the stream is.
-fn push_len(text: &mut Vec<u8>, piece: &mut String, len: usize) -> Result<(), AllocError>
-    ensures { OnOk result (text.new.items ≡ text.old.items ++ (len_text len ++ 10 ∷ [])) }
+fn push_len(text: &mut Vec<u8>, len: usize)
+    requires { vec_len text.old + 27 ≤ vec_capacity text.old }
+    ensures { text.new.items ≡ text.old.items ++ (len_text len ++ 10 ∷ []) }
 {
     if len == 1 {
-        text.extend_from_slice(b"1 byte\n")?;
-        return Ok(());
+        let _done = text.extend_from_slice(b"1 byte\n");
+        return;
     }
-    piece.clear();
-    write!(piece, "{len} bytes\n")?;
-    text.extend_from_slice(piece.as_bytes())?;
-    Ok(())
+    let mut digits = Buffer::new();
+    let _done = text.extend_from_slice(digits.format(len).as_bytes());
+    let _done = text.extend_from_slice(b" bytes\n");
+}
+
+// Appends the records and where they end. They are shown apart first.
+fn push_recovered(
+    recovered: &Recovered,
+    piece: &mut String,
+    shown: &mut Vec<u8>,
+    text: &mut Vec<u8>,
+) -> Result<(), AllocError>
+    ensures ok { OnOk result ((lines : List ℕ) × IsShown (map said recovered.now.records.items) recovered.now.end lines
+        × (text.new.items ≡ text.old.items ++ (lines ++ 10 ∷ []))) }
+    ensures refused { OnErr result (text.new.items ≡ text.old.items) }
+{
+    shown.clear();
+    push_shown(shown, piece, recovered)?;
+    shown.push(b'\n')?;
+    text.extend_from_slice(shown.as_slice())
 }
 
 // Appends why a command is refused.
 fn push_refusal(text: &mut Vec<u8>, error: CommandError) -> Result<(), AllocError>
-    ensures { OnOk result
+    ensures ok { OnOk result
         (text.new.items ≡ text.old.items ++ (codes "refused: " ++ (command_error_text error ++ 10 ∷ []))) }
+    ensures refused { OnErr result (text.new.items ≡ text.old.items) }
 {
+    let reason = error.text().as_bytes();
+    text.reserve(reason.len() + 10)?;
     text.extend_from_slice(b"refused: ")?;
-    text.extend_from_slice(error.text().as_bytes())?;
+    text.extend_from_slice(reason)?;
     Ok(text.push(b'\n')?)
 }

@@ -5,17 +5,16 @@ ghost use Rattle.tinyvec_array.specs.ArrayVec.{items};
 ghost use Rattle.example_records.specs.Commands.{Answers, AreSamples, Commands, HasTag, IsCommand, IsMemoryOr, IsRecord, IsTold, Says, Tells};
 ghost use Rattle.example_records.specs.Commands.{behind_comma, part_of, rest_of, word_of};
 ghost use Rattle.example_records.specs.Errors.{end_text};
-ghost use Rattle.example_records.specs.Readings.{ReadingFits, Said, SamplesFit, said};
+ghost use Rattle.example_stream.specs.Readings.{ReadingFits, Said, SamplesFit, said};
 ghost use Rattle.example_records.specs.Shown.{IsLineOf, IsShown};
-ghost use Rattle.example_records.specs.Stream.{SpellsStream};
+ghost use Rattle.example_stream.specs.Stream.{SpellsStream};
 ghost use Rattle.example_records.specs.declared.command_error.CommandError.TheVariants.{Samples, Text, Unknown};
 
 use crate::command_error::CommandError;
 use crate::hex::bytes_of_hex;
-use crate::length::stream_len;
-use crate::reading::Reading;
-use crate::stream::{Recovered, TAG, append_to, copied, read_all};
-use crate::stream_error::StreamError;
+use example_stream::{
+    Reading, Recovered, StreamError, TAG, append_to, copied, read_all, stream_len,
+};
 use std::alloc::{AllocError, Global};
 use std::str;
 use tinyvec::{ArrayVec, TinyVec};

@@ -5,10 +5,6 @@ mod answer;
 mod command;
 mod command_error;
 mod hex;
-mod length;
-mod reading;
-mod stream;
-mod stream_error;
 
 use answer::Records;
 use example_lines::{Failure, answer_lines};
@@ -33,7 +29,7 @@ fn answer_input(rt: &HostRuntime) -> Result<(), Failure> {
     let writer = BufWriter::new(rt.alloc(), rt.stdout()).map_err(Failure::Output)?;
     let mut records = Records {
         stream: Vec::new(rt.alloc()),
-        said: Vec::new(rt.alloc()),
+        shown: Vec::new(rt.alloc()),
         piece: String::new(rt.alloc()),
     };
     answer_lines(

@@ -3,6 +3,8 @@
 #![tactic(auto)]
 
 #[cfg(test)]
+mod answers;
+#[cfg(test)]
 mod asked;
 #[cfg(test)]
 mod drops;
@@ -26,6 +28,8 @@ mod many;
 mod no_memory;
 #[cfg(test)]
 mod pages;
+#[cfg(test)]
+mod records;
 #[cfg(test)]
 mod refusals;
 #[cfg(test)]

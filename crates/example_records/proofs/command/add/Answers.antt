@@ -2,7 +2,7 @@ use Rattle.std.proofs.Common.{◌<◌, ◌^◌, inl, refl, rules}
 use Rattle.std.proofs.lemmas.Result.{err_from_is_err_and}
 use Rattle.example_records.specs.Commands.{IsRecord}
 use Rattle.example_records.specs.Commands.Command.{Add}
-use Rattle.example_records.specs.Readings.{said}
+use Rattle.example_stream.specs.Readings.{said}
 use Rattle.example_records.proofs.CommandLaws.{added}
 use Rattle.example_records.proofs.command.add.Goals as goal
 

@@ -2,8 +2,8 @@ use Rattle.std.proofs.Common.{◌≡◌, [], Ok, refl, rules, length, map, subst
 use Rattle.std.proofs.lemmas.List.{nil_from_length}
 use Rattle.example_records.specs.Commands.{HasTag, IsRead, IsReadOfCopy, IsTold}
 use Rattle.example_records.specs.Commands.Command.{Copy}
-use Rattle.example_records.specs.Readings.{said}
-use Rattle.example_records.specs.Stream.{IsCopy}
+use Rattle.example_stream.specs.Readings.{said}
+use Rattle.example_stream.specs.Stream.{IsCopy}
 use Rattle.example_records.proofs.CommandLaws.{copied_as, copy_none, is_read}
 use Rattle.example_records.proofs.command.copy.Goals as goal
 

@@ -1,7 +1,7 @@
 use Rattle.std.proofs.Common.{◌≡◌, ◌∙◌, ◌+◌, ◌<◌, ◌≤◌, [], ◌∷◌, ◌++◌, ap, append-nil, append_assoc, get_or, length, map, refl, take, sym, subst, rules}
 use Rattle.std.specs.Prelude.{string_bytes}
 use Rattle.std.proofs.lemmas.List.{map-append, take_all, take_more}
-use Rattle.example_records.specs.Readings.{said}
+use Rattle.example_stream.specs.Readings.{said}
 use Rattle.example_records.proofs.Showing.{GrewBy, GrewBy-push}
 use Rattle.example_records.proofs.command.push_shown.Goals as goal
 

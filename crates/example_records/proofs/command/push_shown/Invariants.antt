@@ -1,5 +1,5 @@
 use Rattle.std.proofs.Common.{map, take}
-use Rattle.example_records.specs.Readings.{said}
+use Rattle.example_stream.specs.Readings.{said}
 use Rattle.example_records.proofs.Showing.{GrewBy}
 use Rattle.example_records.proofs.command.push_shown.Given as goal
 

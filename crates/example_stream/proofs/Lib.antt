@@ -1,0 +1,5 @@
+pub mod CutStreams
+pub mod FrameLaws
+pub mod Frames
+pub mod Lengths
+pub mod WholeStreams
