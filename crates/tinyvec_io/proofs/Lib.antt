@@ -1,3 +1,4 @@
+mod Faults
 mod Filled
 pub mod LineLemmas
 pub mod Pieces

@@ -1,10 +1,13 @@
 //! `Counted`.
-ghost use Rattle.std.specs.Prelude.{◌≡◌, true};
+ghost use Rattle.std.specs.Prelude.{◌≡◌, None, false, true};
 ghost use Rattle.tinyvec_io.specs.Counted.{CountedView, CountsFault};
 
+mod end;
 mod reading;
 mod writing;
 
+use end::End;
+use std::io::ErrorKind;
 use std::marker::Model;
 
 /// A reader or writer, and the number of its faults.
@@ -15,15 +18,20 @@ use std::marker::Model;
 /// `read_some`, `fill` or `write_all` tried again is a fault, but no call that failed.
 #[derive(Debug, Drop)]
 pub struct Counted<E> {
-    inner: E,
-    faults: u64,
+    end: End<E>,
     failed: u64,
 }
 
 impl<E> Model for Counted<E> {
     ghost Value = { CountedView E };
 
-    ghost view = { λ c. record { inner = c.inner; faults = c.faults; failed = c.failed } };
+    ghost view = { λ c. record {
+      inner = c.end.inner;
+      faults = c.end.faults;
+      last_fault = c.end.last_fault;
+      failed = c.failed;
+      flushed = c.end.flushed;
+    } };
 }
 
 impl<E> Counted<E> {
@@ -31,11 +39,12 @@ impl<E> Counted<E> {
     pub fn new(inner: E) -> Self
         ensures inner { result.inner ≡ inner }
         ensures faults { result.faults ≡ 0 }
+        ensures last_fault { result.last_fault ≡ None }
         ensures failed { result.failed ≡ 0 }
+        ensures flushed { result.flushed ≡ false }
     {
         Counted {
-            inner,
-            faults: 0,
+            end: End::new(inner),
             failed: 0,
         }
     }
@@ -44,33 +53,30 @@ impl<E> Counted<E> {
     pub fn faults(&self) -> u64
         ensures { result ≡ self.now.faults }
     {
-        self.faults
+        self.end.faults()
+    }
+
+    /// The kind of the last fault: of the error that was returned, or `WriteZero` of a write that took nothing.
+    pub fn last_fault(&self) -> Option<ErrorKind>
+        ensures { result ≡ self.now.last_fault }
+    {
+        self.end.last_fault()
     }
 
     /// Returns the reader or writer, and drops the number.
     pub fn into_inner(self) -> E
         ensures { result ≡ self.inner }
     {
-        let Counted {
-            inner,
-            faults: _,
-            failed: _,
-        } = self;
-        inner
-    }
-
-    fn count_fault(&mut self)
-        ensures inner { self.new.inner ≡ self.old.inner }
-        ensures faults { CountsFault true self.old.faults self.new.faults }
-        ensures failed { self.new.failed ≡ self.old.failed }
-    {
-        self.faults = self.faults.saturating_add(1);
+        let Counted { end, failed: _ } = self;
+        end.into_inner()
     }
 
     fn count_failed(&mut self)
         ensures inner { self.new.inner ≡ self.old.inner }
         ensures faults { self.new.faults ≡ self.old.faults }
+        ensures last_fault { self.new.last_fault ≡ self.old.last_fault }
         ensures failed { CountsFault true self.old.failed self.new.failed }
+        ensures flushed { self.new.flushed ≡ self.old.flushed }
     {
         self.failed = self.failed.saturating_add(1);
     }

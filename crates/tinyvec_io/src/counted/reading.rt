@@ -1,9 +1,9 @@
 //! `Counted` as a reader.
-ghost use Rattle.std.specs.Prelude.{◌≡◌, ◌<◌, OnErr, IfOk, is_err, length, take};
+ghost use Rattle.std.specs.Prelude.{◌≡◌, ◌<◌, OnErr, IfOk, is_err, length, take, true};
 ghost use Rattle.std.specs.List.{AllByRecursion};
 ghost use Rattle.std.specs.Io.{ReadsAtMost};
 ghost use Rattle.std.specs.Io.KnownBytes.{Keeps, Consumes, IsAtEnd, ReadConsumes};
-ghost use Rattle.tinyvec_io.specs.Counted.{ConsumesFront, CountsFault, Retries};
+ghost use Rattle.tinyvec_io.specs.Counted.{ConsumesFront, CountsFault, LeavesFault, Retries, fault_after};
 
 use super::Counted;
 use std::io;
@@ -18,10 +18,11 @@ impl<R: Read> Read for Counted<R> {
             result buf.new }
         ensures faults { CountsFault (is_err result) self.old.faults self.new.faults }
         ensures failed { CountsFault (is_err result) self.old.failed self.new.failed }
+        ensures last_fault { self.new.last_fault ≡ fault_after result self.old.last_fault }
+        ensures flushed { self.new.flushed ≡ self.old.flushed }
     {
-        let result = self.inner.read(buf);
+        let result = self.end.read(buf);
         if result.is_err() {
-            self.count_fault();
             self.count_failed();
         }
         result
@@ -41,12 +42,13 @@ impl<R: Read> Counted<R> {
         ensures err { OnErr result (Keeps (R.remaining self.old.inner) (R.remaining self.new.inner)) }
         ensures faults { Retries self.old.faults self.new.faults result }
         ensures failed { CountsFault (is_err result) self.old.failed self.new.failed }
+        ensures last_fault { LeavesFault self.old.last_fault self.new.last_fault result }
+        ensures flushed { self.new.flushed ≡ self.old.flushed }
     {
         for _tries in 0..u64::MAX {
-            match self.inner.read(buf) {
+            match self.end.read(buf) {
                 Ok(count) => return Ok(count),
                 Err(e) => {
-                    self.count_fault();
                     if e.kind() != ErrorKind::Interrupted {
                         self.count_failed();
                         return Err(e);
@@ -54,6 +56,7 @@ impl<R: Read> Counted<R> {
                 }
             }
         }
+        self.end.time_out();
         self.count_failed();
         Err(io::Error::from(ErrorKind::TimedOut))
     }
@@ -70,6 +73,8 @@ impl<R: Read> Counted<R> {
         ensures small { IfOk result (λ n. AllByRecursion (λ byte. byte < 256) (take n buf.new)) }
         ensures faults { Retries self.old.faults self.new.faults result }
         ensures failed { CountsFault (is_err result) self.old.failed self.new.failed }
+        ensures last_fault { LeavesFault self.old.last_fault self.new.last_fault result }
+        ensures flushed { self.new.flushed ≡ self.old.flushed }
     {
         let mut filled = 0;
         while filled < buf.len() {

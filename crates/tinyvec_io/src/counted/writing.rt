@@ -1,8 +1,8 @@
 //! `Counted` as a writer.
-ghost use Rattle.std.specs.Prelude.{◌<◌, OnOk, OnErr, IfOk, is_err, length};
+ghost use Rattle.std.specs.Prelude.{◌≡◌, ◌<◌, OnOk, OnErr, IfOk, false, is_err, is_ok, length, true};
 ghost use Rattle.std.specs.Io.{WritesAtMost};
 ghost use Rattle.std.specs.Io.KnownBytes.{Keeps, Appends, WriteAppends};
-ghost use Rattle.tinyvec_io.specs.Counted.{AppendsFront, CountsFault, Retries, is_write_fault};
+ghost use Rattle.tinyvec_io.specs.Counted.{AppendsFront, CountsFault, LeavesFault, Retries, fault_after, is_write_fault, write_fault_after};
 
 use super::Counted;
 use std::io;
@@ -17,14 +17,15 @@ impl<W: Write> Write for Counted<W> {
             result buf.now }
         ensures faults { CountsFault (is_write_fault result buf.now) self.old.faults self.new.faults }
         ensures failed { CountsFault (is_write_fault result buf.now) self.old.failed self.new.failed }
+        ensures last_fault { self.new.last_fault ≡ write_fault_after result buf.now self.old.last_fault }
+        ensures flushed { self.new.flushed ≡ false }
     {
-        let result = self.inner.write(buf);
+        let result = self.end.write(buf);
         let is_fault = match &result {
             Ok(count) => *count == 0 && !buf.is_empty(),
             Err(_) => true,
         };
         if is_fault {
-            self.count_fault();
             self.count_failed();
         }
         result
@@ -34,10 +35,11 @@ impl<W: Write> Write for Counted<W> {
         ensures bytes { Keeps (W.contents self.old.inner) (W.contents self.new.inner) }
         ensures faults { CountsFault (is_err result) self.old.faults self.new.faults }
         ensures failed { CountsFault (is_err result) self.old.failed self.new.failed }
+        ensures last_fault { self.new.last_fault ≡ fault_after result self.old.last_fault }
+        ensures flushed { self.new.flushed ≡ is_ok result }
     {
-        let result = self.inner.flush();
+        let result = self.end.flush();
         if result.is_err() {
-            self.count_fault();
             self.count_failed();
         }
         result
@@ -54,6 +56,8 @@ impl<W: Write> Write for Counted<W> {
             (W.contents self.new.inner) buf.now) }
         ensures faults { Retries self.old.faults self.new.faults result }
         ensures failed { CountsFault (is_err result) self.old.failed self.new.failed }
+        ensures last_fault { LeavesFault self.old.last_fault self.new.last_fault result }
+        ensures flushed { 0 < length buf.now → self.new.flushed ≡ false }
     {
         let mut rest = buf;
         while !rest.is_empty() {
@@ -74,17 +78,17 @@ impl<W: Write> Counted<W> {
             result buf.now }
         ensures faults { Retries self.old.faults self.new.faults result }
         ensures failed { CountsFault (is_err result) self.old.failed self.new.failed }
+        ensures last_fault { LeavesFault self.old.last_fault self.new.last_fault result }
+        ensures flushed { 0 < length buf.now → self.new.flushed ≡ false }
     {
         for _tries in 0..u64::MAX {
-            match self.inner.write(buf) {
+            match self.end.write(buf) {
                 Ok(0) => {
-                    self.count_fault();
                     self.count_failed();
                     return Err(io::Error::from(ErrorKind::WriteZero));
                 }
                 Ok(count) => return Ok(count),
                 Err(e) => {
-                    self.count_fault();
                     if e.kind() != ErrorKind::Interrupted {
                         self.count_failed();
                         return Err(e);
@@ -92,6 +96,7 @@ impl<W: Write> Counted<W> {
                 }
             }
         }
+        self.end.time_out();
         self.count_failed();
         Err(io::Error::from(ErrorKind::TimedOut))
     }

@@ -1,6 +1,7 @@
-use Rattle.std.proofs.Common.{◌≡◌, ◌≤◌, rules, sym, subst, arith, ◌-◌, length}
+use Rattle.std.proofs.Common.{◌≡◌, ◌∙◌, ◌≤◌, rules, sym, subst, arith, ◌-◌, length}
 use Rattle.std.specs.Io.KnownBytes.{Consumes}
 use Rattle.std.proofs.KnownBytes.{Consumes-trans}
+use Rattle.tinyvec_io.proofs.Faults.{fault-then}
 use Rattle.tinyvec_io.proofs.Filled.{take-part, length-part, small-front}
 use Rattle.tinyvec_io.proofs.counted.Counted.fill.Goals as goal
 
@@ -15,5 +16,7 @@ loop-filled-preserved g c =
       small = small-front _ _ (λ i. omega (arith, c.type_inv.buf i));
       bound = omega (arith, length-part c.loop-filled.filled room c.loop-filled.buf c.read_some.new.buf (omega arith) long);
       failed = search rules;
+      last_fault = fault-then c.loop-filled.invariant.last_fault c.in_ok-count.ensures.last_fault;
+      flushed = c.in_ok-count.ensures.flushed ∙ c.loop-filled.invariant.flushed;
       grows = omega arith;
     }
