@@ -1,11 +1,8 @@
-use Rattle.std.proofs.Common.{◌≡◌, ◌∙◌, ◌+◌, ◌≤◌, [], ap, inl, inr, length, length-append, arith, le_refl, refl, rules}
+use Rattle.std.proofs.Common.{◌≡◌, ◌∙◌, ◌+◌, ◌≤◌, inl, length, arith, rules}
 use Rattle.tinyvec.specs.TinyVec.{tiny_items_of, tiny_len_of, tiny_view_of}
 use Rattle.tinyvec.specs.Lends.{tiny_with_items}
 use Rattle.tinyvec.proofs.TinyLemmas.{tiny_framed-with, tiny_items-with, tiny_slots_then_framed}
-use Rattle.tinyvec_borsh.specs.TwoParts.{joined}
-use Rattle.tinyvec_borsh.proofs.AtFaults.{some-cut}
-use Rattle.tinyvec_borsh.proofs.ItemByItem.{fails-like, maybe-any, maybe-so, none-failed}
-use Rattle.std.proofs.KnownBytes.{Consumes-nil}
+use Rattle.tinyvec_borsh.proofs.ItemByItem.{fails-like}
 use Rattle.tinyvec_borsh.proofs.Blocks.{grown, of-more}
 use Rattle.std.proofs.lemmas.Result.{on_ok_weaker}
 use Rattle.tinyvec_borsh.proofs.Place.{place-framed, room-grown}
@@ -55,12 +52,3 @@ pub returns-clause-fails : goal.returns-clause-fails
 returns-clause-fails g c =
     let so = of-more g.A.Item.BorshForm.Spells g.A.Item.BorshForm.Fits g.A.Item.BorshDeserialize.Reason _ _ (search rules) in
     fails-like c.read_items.result (λ e input why. inl (so e input why)) c.read_items.ensures.fails
-
-pub returns-in_default-clause-fails : goal.returns-in_default-clause-fails
-returns-in_default-clause-fails g c = record {
-  err = maybe-so _ _ _ (λ input _. inr (refl, search rules)) (maybe-any _);
-  taken = some-cut _ _ [] (Consumes-nil _) (λ front back some is. absurd (omega (arith, some, ap length is, length-append front back)))
-      (inl (record { items = []; fewer = search rules; fit = tt; parts = joined [] [] refl g.met.A.Item.BorshDeserialize.apart.none_is_cut }));
-  grows = le_refl _;
-  failed = none-failed refl;
-}
