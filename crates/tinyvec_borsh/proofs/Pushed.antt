@@ -17,9 +17,9 @@ module _ {C : Type 0} (Spells : C → List ℕ → Type 0) (Fits : C → Type 0)
   abbrev pub WantsItem : BorshError → List ℕ → Type 0
   WantsItem error input = AfterItems Spells Fits Reason n error input ⊎ ((error ≡ Memory) × IsFull × IsBehind Spells Fits (λ _. Unit {0}) input)
 
-  module _ {R T U : Type 0} {remaining : R → Option (List ℕ)} {old new : CountedView R} (some : 0 < n) where
+  module _ {R U : Type 0} {remaining : R → Option (List ℕ)} {old new : CountedView R} (some : 0 < n) where
     -- the first was not read
-    pub fails-first-item : {e : BorshError} → FailsFor {T = T} remaining Reason old new (Err e) → FailsFor {T = U} remaining WantsItem old new (Err e)
+    pub fails-first-item : {T : Type 0} {e : BorshError} → FailsFor {T = T} remaining Reason old new (Err e) → FailsFor {T = U} remaining WantsItem old new (Err e)
     fails-first-item failed = fails-as (λ f input why. inl (record { items = []; fewer = some; fit = tt; parts = joined [] input refl why })) failed
 
     -- it was read, and found no room
