@@ -25,5 +25,5 @@ returns-in-Err-clause-fails g c =
 
 pub returns-in-Ok-clause-front : goal.returns-in-Ok-clause-front
 returns-in-Ok-clause-front g c =
-    let count = c.in-Ok.field-0 in
+    let count = c.in-Ok.count in
     (take count c.fill.new.buf, drop count c.fill.new.buf, sym (take-append-drop count c.fill.new.buf), omega (arith, length-drop count c.fill.new.buf, c.fill.auto.buf), c.in-Ok.ensures.bytes)

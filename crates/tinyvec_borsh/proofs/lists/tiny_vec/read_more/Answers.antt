@@ -66,7 +66,7 @@ returns-in_err-item-clause-fails g c =
     let p = err_from_is_err_and c.from_residual.result c.from_residual.ensures.1 in
     rw (p.1, p.2) (fails-first-item g.A.Item.BorshForm.Spells g.A.Item.BorshForm.Fits g.A.Item.BorshDeserialize.Reason _ _ (omega arith) c.in_err-item.ensures.fails)
 
-pub returns-then-room-eq0-clause-fails : goal.returns-then-room-eq0-clause-fails
-returns-then-room-eq0-clause-fails g c =
+pub returns-in_default-clause-fails : goal.returns-in_default-clause-fails
+returns-in_default-clause-fails g c =
     refused-item g.A.Item.BorshForm.Spells g.A.Item.BorshForm.Fits g.A.Item.BorshDeserialize.Reason _ _ (omega arith) (g.A.Item.BorshForm.content_of c.in_ok-item.item) g.met.A.Item.BorshDeserialize.apart.front_is_cut
     (search rules) c.in_ok-item.ensures.ok c.in_ok-item.ensures.valid c.in_ok-item.ensures.fails.grows c.in_ok-item.ensures.fails.failed.exact
