@@ -188,12 +188,6 @@ module _ {C : Type 0} (Spells : C → List ℕ → Type 0) where
         → (input : List ℕ) → HasParts (HasParts (IsCount n) (SpellsItems Spells cs)) P input → InItem Spells Fits P room input
     in-item P room n cs fit fewer few input p = record { has = has-items n cs input fit p; fewer = fewer; few = few; left = p.is_rest }
 
-    -- an input that ends after its count is cut
-    pub cut-after-count : (Reason : BorshError → List ℕ → Type 0) → Reason Ended [] → (room n : ℕ) (bytes : List ℕ) → 0 < n → IsCount n bytes → InItem Spells Fits (Reason Ended) room bytes
-    cut-after-count Reason none room n bytes some counted =
-        let count : HasParts (IsCount n) (SpellsItems Spells []) bytes = record { first = bytes; rest = []; is_first = counted; is_rest = refl; whole = sym (append-nil bytes) } in
-        in-item (Reason Ended) room n [] tt some (omega arith) bytes (record { first = bytes; rest = []; is_first = count; is_rest = none; whole = sym (append-nil bytes) })
-
     -- of a block of k items one was not read
     in-block : (Reason : BorshError → List ℕ → Type 0) (e : BorshError) (room n k : ℕ) (cs : List C) → AllByRecursion Fits cs → length cs + k ≤ n → length cs + k ≤ room + 1
         → (input : List ℕ) → HasParts (HasParts (IsCount n) (SpellsItems Spells cs)) (AfterItems Spells Fits Reason k e) input → InItem Spells Fits (Reason e) room input
@@ -224,7 +218,7 @@ module _ {C : Type 0} (Spells : C → List ℕ → Type 0) where
     outgrows slots n cs fit most more input p =
         let next = p.is_rest in
         let q : HasParts (HasParts (HasParts (IsCount n) (SpellsItems Spells cs)) (SpellsItems Spells (next.content ∷ []))) (λ _. Unit {0}) input =
-            group-first (rest-so p (first-so next.parts (one-item next.content next.first next.is_first))) in
+        group-first (rest-so p (first-so next.parts (one-item next.content next.first next.is_first))) in
         let long = length-append cs (next.content ∷ []) in
         inr (record {
           has = has-items n (cs ++ next.content ∷ []) input (fit-more Fits cs next.content fit next.valid) (first-so q (list-join n cs (next.content ∷ []) q.first q.is_first));

@@ -8,6 +8,7 @@ pub mod Lengths
 pub mod NumberBlocks
 pub mod Outcomes
 pub mod Place
+mod Pushed
 pub mod ReadBack
 pub mod ReadItems
 pub mod Tagged

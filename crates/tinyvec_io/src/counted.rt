@@ -56,7 +56,7 @@ impl<E> Counted<E> {
         self.end.faults()
     }
 
-    /// The kind of the last fault: of the error that was returned, or `WriteZero` of a write that took nothing.
+    /// The kind of the last fault. That of a write that took nothing is `ErrorKind::WriteZero`.
     pub fn last_fault(&self) -> Option<ErrorKind>
         ensures { result ≡ self.now.last_fault }
     {

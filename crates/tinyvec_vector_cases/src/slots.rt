@@ -135,9 +135,9 @@ fn move_out<T: Item, S: Slots<Item = T>>(v: &mut ArrayVec<S>, call: &mut Call<T>
         Name::DrainEach
             if is_within(call.range, v.len())
                 && v.len() <= call.items.capacity() - call.items.len() => {
-            let items = &mut call.items;
-            v.drain_each(call.range, &mut |x| items.push(x).unwrap_or(()));
-            return out.say(&call.items.as_slice());
+            let (range, mut given) = (call.range, call.take_items());
+            v.drain_each(range, &mut |x| given.push(x).unwrap_or(()));
+            return out.say(&given.as_slice());
         }
         Name::DrainToVec => set_made(&mut call.items, v.drain_to_vec(alloc), out),
         Name::DrainToVecAndReserve => {

@@ -97,9 +97,22 @@ where
     for step in steps {
         match step.name {
             Name::Last => return out.say(&it.last()),
-            Name::Count => return out.say(&it.count()),
+            Name::Count => return say_count(it, out),
             _ => iterate(&mut it, *step, out),
         }
+    }
+}
+
+// Writes by `count` how many items are left, if `len` says so too.
+fn say_count<V: OwnsItems>(it: OwnedItems<V>, out: &mut Out)
+where
+    V::Item: Item,
+{
+    let len = it.len();
+    let count = it.count();
+    out.say(&count);
+    if count != len {
+        out.say_word("but not by `len`");
     }
 }
 

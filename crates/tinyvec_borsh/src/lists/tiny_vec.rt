@@ -133,10 +133,10 @@ where
     let room = v.capacity() - start;
     if room == 0 {
         let item = A::Item::deserialize_reader(alloc, reader)?;
-        return match v.push(item) {
-            Ok(()) => Ok(()),
-            Err(_) => Err(BorshError::Memory),
+        let Ok(()) = v.push(item) else {
+            return Err(BorshError::Memory);
         };
+        return Ok(());
     }
     let many = room.min(items_in_block::<A::Item>());
     let end = start + (count - start as u64).min(many as u64) as usize;

@@ -1,4 +1,4 @@
-use Rattle.std.proofs.Common.{◌<◌, ap, subst, length, length-append, arith, refl}
+use Rattle.std.proofs.Common.{◌<◌, ap, subst, sym, length, length-append, length-drop, take, drop, take-append-drop, arith, refl}
 use Rattle.std.specs.List.{AllByRecursion}
 use Rattle.tinyvec_borsh.proofs.AtFaults.{few-front, small-first}
 use Rattle.tinyvec_borsh.proofs.NumberBlocks.{small_bytes}
@@ -22,3 +22,8 @@ returns-in-Err-clause-fails g c =
       grows = c.in-Err.ensures.faults.grows;
       failed = c.in-Err.ensures.failed;
     }
+
+pub returns-in-Ok-clause-front : goal.returns-in-Ok-clause-front
+returns-in-Ok-clause-front g c =
+    let count = c.in-Ok.count in
+    (take count c.fill.new.buf, drop count c.fill.new.buf, sym (take-append-drop count c.fill.new.buf), omega (arith, length-drop count c.fill.new.buf, c.fill.auto.buf), c.in-Ok.ensures.bytes)

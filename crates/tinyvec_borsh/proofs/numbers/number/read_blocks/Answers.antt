@@ -1,4 +1,4 @@
-use Rattle.std.proofs.Common.{◌≡◌, ◌∙◌, ◌+◌, ◌-◌, ◌*◌, ◌++◌, ap, arith, drop, length, length-append, length-drop, length-take-le, rules, subst, sym, take}
+use Rattle.std.proofs.Common.{◌≡◌, ◌∙◌, ◌+◌, ◌-◌, ◌*◌, ◌++◌, ap, arith, drop, length, length-append, length-drop, length-take-le, rules, subst, sym, take, false}
 use Rattle.std.specs.Int.{byte_len}
 use Rattle.std.specs.List.{AllByRecursion}
 use Rattle.std.proofs.lemmas.List.{map-id, take_all}
@@ -56,6 +56,6 @@ whole_as_front-bytes g c = (block_within g.row.MOST c.min-count.result c.CAPACIT
 pub returns-in_err-read_bytes-clause-left : goal.returns-in_err-read_bytes-clause-left
 returns-in_err-read_bytes-clause-left g c =
     let told = c.in_err-read_bytes.ensures.fails.taken in
-    let read = subst (λ xs. TookItems g.T.FixedWidth.form.Spells g.T.FixedWidth.form.Fits xs _ _) (sym (map-id (take c.loop-start.start c.loop-start.slots))) c.loop-start.invariant.read in
-    on_err c.from_residual.result (left-at (λ n. n) g.T.FixedWidth.form.Spells g.T.FixedWidth.form.Fits _ c.loop-start.start c.args.slots.now c.loop-start.slots _ _ _ read (told.bytes, tt, told.taken)
+    let read = subst (λ xs. TookItems g.T.FixedWidth.form.Spells g.T.FixedWidth.form.Fits xs (g.R.Read.remaining c.args.reader.now.inner) (g.R.Read.remaining c.loop-start.reader.inner)) (sym (map-id (take c.loop-start.start c.loop-start.slots))) c.loop-start.invariant.read in
+    on_err c.from_residual.result (left-at (λ n. n) g.T.FixedWidth.form.Spells g.T.FixedWidth.form.Fits false c.loop-start.start c.args.slots.now c.loop-start.slots _ _ _ read (told.bytes, tt, told.taken)
     c.loop-start.invariant.many (omega (arith, c.loop-start.invariant.many)) c.loop-start.invariant.kept)

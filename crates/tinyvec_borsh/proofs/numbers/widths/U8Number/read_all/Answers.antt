@@ -28,15 +28,15 @@ pub returns-clause-left : goal.returns-clause-left
 returns-clause-left g c =
     let same : length c.read_bytes.new.buf ≡ length c.args.slots.now = search rules in
     on_err_weaker c.read_bytes.result (λ front.
-        let whole = subst (AllByRecursion (λ byte. byte < 256)) front.2 (small_bytes c.read_bytes.new.buf (λ i. omega (arith, c.type_inv.slots i))) in
-        let small = small-first front.0 front.1 whole in
-        record {
-          read = front.0;
-          rest = front.1;
-          slots = front.2;
-          same_len = same;
-          some_left = omega (arith, same, ap length front.2, length-append front.0 front.1, front.3);
-          kept = λ is. cc;
-          fit = subst (AllByRecursion (λ n. n < 2 ^ 8)) (sym (map-id front.0)) small;
-          taken = (_, (front.0, subst (λ xs. SpellsItems (SpellsNumber 1) xs front.0) (sym (map-id front.0)) (spells-bytes front.0 small), front.4), ([], tt, Consumes-nil _));
-        }) c.read_bytes.ensures.front
+    let whole = subst (AllByRecursion (λ byte. byte < 256)) front.2 (small_bytes c.read_bytes.new.buf (λ i. omega (arith, c.type_inv.slots i))) in
+    let small = small-first front.0 front.1 whole in
+    record {
+      read = front.0;
+      rest = front.1;
+      slots = front.2;
+      same_len = same;
+      some_left = omega (arith, same, ap length front.2, length-append front.0 front.1, front.3);
+      kept = λ is. cc;
+      fit = subst (AllByRecursion (λ n. n < 2 ^ 8)) (sym (map-id front.0)) small;
+      taken = (_, (front.0, subst (λ xs. SpellsItems (SpellsNumber 1) xs front.0) (sym (map-id front.0)) (spells-bytes front.0 small), front.4), ([], tt, Consumes-nil _));
+    }) c.read_bytes.ensures.front

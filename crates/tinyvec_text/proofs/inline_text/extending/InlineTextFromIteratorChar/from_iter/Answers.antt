@@ -18,4 +18,5 @@ pub returns-in_err-extend-clause-full : goal.returns-in_err-extend-clause-full
 returns-in_err-extend-clause-full g c =
     let t = c.new-text.ensures in
     let full = c.in_err-extend.ensures.full in
-    on_err c.from_residual.result (full.0, full.1, full.2, full.3, full.4, full.5, lacked by_chars g.row.N t.bytes t.place t.capacity c.in_err-extend.ensures.grows full.1 full.2 (full.6, full.7, full.8))
+    let no_room = lacked by_chars g.row.N t.bytes t.place t.capacity c.in_err-extend.ensures.grows full.1 full.2 (full.6, full.7, full.8) in
+    on_err c.from_residual.result (full.0, full.1, full.2, full.3, full.4, full.5, no_room.0, no_room.1)
