@@ -1,5 +1,5 @@
 -- Bytes that are read as a text.
-use Rattle.std.proofs.Common.{◌≢◌, ℕ, ◌-◌, ◌^◌, ◌<◌, inl, inr, List, Option, None, Some}
+use Rattle.std.proofs.Common.{◌≢◌, ℕ, ◌^◌, ◌<◌, inl, inr, List, Option, None, Some}
 use Rattle.tinyvec_borsh.specs.declared.borsh_error.BorshError.{BorshError}
 use Rattle.tinyvec_borsh.specs.declared.borsh_error.BorshError.TheVariants.{Ended, InvalidLength, InvalidUtf8, Io, Memory}
 use Rattle.tinyvec_borsh.specs.Both.{IsBehind}
