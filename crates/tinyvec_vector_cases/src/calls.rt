@@ -23,8 +23,8 @@ pub fn say_spliced<T: Item>(
     spliced: Result<(), SpliceRest<T, Fuse<vec::IntoIter<T>>>>,
     out: &mut Out,
 ) {
-    if let Err(mut refused) = spliced {
-        out.say_refused(&refused.item, &refused.rest.next());
+    if let Err(NoRoom { item, mut rest }) = spliced {
+        out.say_refused(&item, &rest.next());
     }
 }
 
