@@ -1,5 +1,5 @@
 -- Records that are shown one after another, and the text of an answer.
-use Rattle.std.proofs.Common.{◌≡◌, ◌∙◌, List, ℕ, [], ◌∷◌, ◌++◌, length, Some, Ok, Err, IfErr, OnOk, ap, refl, subst, sym, append_assoc, append-nil}
+use Rattle.std.proofs.Common.{◌≡◌, ◌∙◌, List, ℕ, [], ◌∷◌, ◌++◌, length, Some, Ok, Err, IfErr, OnOk, ap, inl, inr, refl, subst, sym, append_assoc, append-nil}
 use Rattle.std.specs.Str.{IsUtf8}
 use Rattle.example_records.specs.Commands.{Answer, Answers, Command, Commands, Does, IsCommand, Tells, rest_of, word_of}
 use Rattle.example_records.specs.Commands.Command.{Add, Copy, Cut, Hex, Read}
@@ -38,10 +38,10 @@ answered line old new text answer said answers no_text unknown tells is says = r
 -- what reads the stream leaves it as it was
 does-keep : (command : Command) (old new : List ℕ) (answer : Answer) (recovered : Recovered) → answer ≡ Ok (Some recovered) → Does command old new answer → new ≡ old
 does-keep (Add c) old new answer recovered is does = elim does [ inl done ↦ cc (done.0, is) | inr refused ↦ cc (refused.0, is) ]
-does-keep (Hex bytes) old new answer recovered is does = elim does [ inl done ↦ cc (done.0, is) | inr refused ↦ cc (refused.1, is) ]
+does-keep (Hex bytes) old new answer recovered is does = elim does [ inl done ↦ cc (done.0, is) | inr refused ↦ cc (refused.1.0, is) ]
 does-keep (Cut len) old new answer recovered is does = elim does [ inl done ↦ cc (done.1, is) | inr refused ↦ cc (refused.1, is) ]
 does-keep Read old new answer recovered is does = does.0
-does-keep Copy old new answer recovered is does = elim does [ inl done ↦ done.0 | inr refused ↦ cc (refused.1, is) ]
+does-keep Copy old new answer recovered is does = elim does [ inl done ↦ done.0 | inr refused ↦ cc (refused.1.0, is) ]
 
 pub shown-keep : (line old new : List ℕ) (answer : Answer) (recovered : Recovered) → answer ≡ Ok (Some recovered) → Answers (Commands line) old new answer → new ≡ old
 shown-keep line old new answer recovered is answers =

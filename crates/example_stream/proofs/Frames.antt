@@ -1,5 +1,5 @@
 -- A record behind its tag, written, read or not.
-use Rattle.std.proofs.Common.{◌≡◌, ◌≢◌, ◌∙◌, ap, sym, subst, lit<, ℕ, ◌^◌, ◌<◌, inl, inr, List, [], ◌∷◌, ◌++◌, length, refl, arith, length-append, map, Option, None, Some, Result, Ok, Err}
+use Rattle.std.proofs.Common.{◌≡◌, ◌≢◌, ◌∙◌, ap, sym, subst, lit<, ℕ, Bool, true, ◌^◌, ◌<◌, inl, inr, List, [], ◌∷◌, ◌++◌, length, refl, arith, length-append, map, Option, None, Some, Result, Ok, Err}
 use Rattle.tinyvec_io.specs.Counted.{CountedView}
 use Rattle.tinyvec_borsh.specs.declared.borsh_error.BorshError.{BorshError}
 use Rattle.tinyvec_borsh.specs.declared.borsh_error.BorshError.TheVariants.{Ended, InvalidLength, InvalidUtf8, Io, Memory}
@@ -11,13 +11,15 @@ use Rattle.tinyvec_borsh.specs.Items.{MayAllocate}
 use Rattle.tinyvec_borsh.specs.Tagged.{SpellsTagged}
 use Rattle.tinyvec_borsh.proofs.AtFaults.{length_is_other, utf8_is_other}
 use Rattle.tinyvec_borsh.proofs.Counts.{never-too-long}
-use Rattle.tinyvec_borsh.proofs.ItemByItem.{maybe-any, maybe-behind, maybe-so, some-then, takes-then}
+use Rattle.tinyvec_borsh.proofs.ItemByItem.{maybe-any, maybe-behind, maybe-so, takes-then}
 use Rattle.tinyvec_borsh.proofs.ReadItems.{ReadItems}
 use Rattle.tinyvec_borsh.proofs.Tagged.{behind-byte, behind-tag, one-byte}
 use Rattle.std.specs.List.{AllByRecursion}
+use Rattle.std.proofs.KnownBytes.{Consumes-trans}
+use Rattle.tinyvec_borsh.specs.FrontsLaws.{cut-place}
 use Rattle.example_stream.specs.Errors.{stream_error}
-use Rattle.example_stream.specs.Readings.{IsReadingCut, IsReadingTooLong, ReadingFits, ReadingReason, SpellsReading, reading_apart, said}
-use Rattle.example_stream.specs.Stream.{BeginsWith, EndsBy, HasTooManySamples, IsFrameFront, ShowsEnd, SpellsFrame, StandsBehind, Takes, tag}
+use Rattle.example_stream.specs.Readings.{IsReadingCut, IsReadingTooLong, ReadingFits, ReadingReason, reading_apart, said}
+use Rattle.example_stream.specs.Stream.{BeginsWith, EndsBy, HasTooManySamples, IsFrameFront, NextIs, SpellsFrame, StandsBehind, Takes, tag}
 use Rattle.example_stream.specs.declared.reading.Reading.{Reading}
 use Rattle.example_stream.specs.declared.stream_error.StreamError.{StreamError}
 use Rattle.example_stream.specs.declared.stream_error.StreamError.TheVariants as stream
@@ -46,8 +48,8 @@ no-text input given = elim given [
 ]
 
 maybe-not : (old : Option (List ℕ)) (P : List ℕ → Type 0) → ((input : List ℕ) → P input → ⊥) → MayBe old P → ⊥
-maybe-not None P no may = no may.0 may.1
-maybe-not (Some x) P no may = no x may
+maybe-not None P never may = never may.0 may.1
+maybe-not (Some x) P never may = never x may
 
 no-byte : (bytes : List ℕ) → length bytes < 1 → bytes ≡ []
 no-byte [] few = refl
@@ -78,16 +80,32 @@ pub tag-fails : (old new : Option (List ℕ)) (before after : ℕ) (e : BorshErr
 tag-fails old new before after Ended other f t = absurd (other refl)
 tag-fails old new before after InvalidLength other f t = absurd (maybe-not old (TooFewBytes 1 InvalidLength) (λ input few. other few.0) f)
 tag-fails old new before after InvalidUtf8 other f t = absurd (maybe-not old (TooFewBytes 1 InvalidUtf8) (λ input few. other few.0) f)
-tag-fails old new before after Io other f t = (maybe-any old, (t.bytes, inl (no-byte t.bytes (t.short (λ no. no)).1), t.taken))
+tag-fails old new before after Io other f t = (maybe-any old, (t.bytes, inl (no-byte t.bytes (t.short (λ none. none)).1), t.taken))
 tag-fails old new before after Memory other f t = absurd (maybe-not old (TooFewBytes 1 Memory) (λ input few. other few.0) f)
+
+-- there is one
+pub tag-next : (old new : Option (List ℕ)) (next : Bool) → next ≡ true → NextIs old new (Ok next) → ReadsSpelling (SpellsNumber 1 tag) old new
+tag-next old new next is given = subst (λ b. NextIs old new (Ok b)) is given
 
 -- ---- what is behind it
 
 module _ (old mid : Option (List ℕ)) (byte : ReadsSpelling (SpellsNumber 1 tag) old mid) where
+  frame-cut : (rest : List ℕ) → IsReadingCut rest → IsFrameFront (byte.0 ++ rest)
+  frame-cut rest cut = inr (rest, ap (λ l. l ++ rest) (one-byte tag byte.0 byte.1), cut)
+
   -- a record was not read: of it and its tag no more bytes were taken than show the error
   frame-some : (new : Option (List ℕ)) (e : BorshError) → TakesSome IsReadingCut mid new e → TakesSome IsFrameFront old new e
   frame-some new e t =
-      some-then old mid new byte.0 e byte.2 (λ front back some is. inl (no-front byte.0 front back byte.1.many some is)) (λ rest cut. inr (rest, ap (λ l. l ++ rest) (one-byte tag byte.0 byte.1), cut)) t
+      record {
+        bytes = byte.0 ++ t.bytes;
+        taken = Consumes-trans old mid new byte.0 t.bytes byte.2 t.taken;
+        end = t.end;
+        needed = λ front back some is. elim (cut-place byte.0 t.bytes front back is) [
+          | inl f ↦ inl (no-front byte.0 front f.0 byte.1.many f.2 f.1)
+          | inr s ↦ subst IsFrameFront (sym s.1) (frame-cut s.0 (t.needed s.0 back some s.2))
+        ];
+        short = λ fault. frame-cut t.bytes (t.short fault);
+      }
 
   pub record-fails : (new : Option (List ℕ)) (before after : ℕ) (e : BorshError) → Fails ReadingReason mid before after e → TakesSome IsReadingCut mid new e → EndsBy (Err (stream_error e)) old new
   record-fails new before after Ended f t = let s = frame-some new Ended t in (behind-tag tag old mid byte tag refl IsReadingCut f, (s.bytes, (s.needed, s.end refl), s.taken))
@@ -95,8 +113,8 @@ module _ (old mid : Option (List ℕ)) (byte : ReadsSpelling (SpellsNumber 1 tag
       let s = frame-some new InvalidLength t in
       (behind-tag tag old mid byte tag refl HasTooManySamples (maybe-so mid IsReadingTooLong HasTooManySamples too-many f), (s.bytes, s.needed, s.taken))
   record-fails new before after InvalidUtf8 f t = absurd (maybe-not mid (ReadingReason InvalidUtf8) no-text f)
-  record-fails new before after Io f t = let s = frame-some new Io t in (maybe-any old, (s.bytes, s.short (λ no. no), s.taken))
-  record-fails new before after Memory f t = let s = frame-some new Memory t in (behind-tag tag old mid byte tag refl (λ rest. Unit {0}) (maybe-any mid), (s.bytes, s.short (λ no. no), s.taken))
+  record-fails new before after Io f t = let s = frame-some new Io t in (maybe-any old, (s.bytes, s.short (λ none. none), s.taken))
+  record-fails new before after Memory f t = let s = frame-some new Memory t in (behind-tag tag old mid byte tag refl (λ rest. Unit {0}) (maybe-any mid), (s.bytes, s.short (λ none. none), s.taken))
 
   -- there is no room for a record
   pub no-room : EndsBy (Err stream.Memory) old mid
@@ -105,11 +123,11 @@ module _ (old mid : Option (List ℕ)) (byte : ReadsSpelling (SpellsNumber 1 tag
 -- ---- records before it
 
 -- these records were read, and then the reading ends
-pub ends-then : (before now : List Reading) (end : Result (Unit {0}) StreamError) (old mid new : Option (List ℕ)) → ReadItems said SpellsFrame ReadingFits before now old mid → EndsBy end mid new
-    → (more : List Reading) × (now ≡ before ++ more) × AllByRecursion ReadingFits (map said more) × MayBe old (BeginsWith (map said more) (StandsBehind end)) × Takes (map said more) end old new
-ends-then before now end old mid new r ends = (
+pub ends-then : (before now kept : List Reading) (end : Result (Unit {0}) StreamError) (old mid new : Option (List ℕ)) → kept ≡ now → ReadItems said SpellsFrame ReadingFits before now old mid → EndsBy end mid new
+    → (more : List Reading) × (kept ≡ before ++ more) × AllByRecursion ReadingFits (map said more) × MayBe old (BeginsWith (map said more) (StandsBehind end)) × Takes (map said more) end old new
+ends-then before now kept end old mid new same r ends = (
   r.more,
-  r.grown,
+  same ∙ r.grown,
   r.fit,
   maybe-behind old mid (StandsBehind end) (BeginsWith (map said r.more) (StandsBehind end)) r.taken (λ input p. p) ends.0,
   takes-then old mid new r.taken ends.1,

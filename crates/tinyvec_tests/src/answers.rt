@@ -20,7 +20,7 @@ impl Answer for Echo {
         line: &[u8],
         text: &mut Vec<u8>,
     ) -> Result<(), AllocError> {
-        if line == b"!" {
+        if line == b"!".as_slice() {
             return Err(AllocError);
         }
         text.extend_from_slice(line)?;
@@ -46,7 +46,7 @@ fn go_on_after_a_refused_line(rt: HostRuntime) -> Result<(), Fail> {
             matches!(refused, Err(Failure::Memory)),
             lines == 2,
             echo.lines == 3,
-            written.as_slice() == b"abce",
+            written.as_slice() == b"abce".as_slice(),
         ],
     )
 }

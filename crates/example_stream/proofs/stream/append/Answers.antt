@@ -2,7 +2,7 @@ use Rattle.std.proofs.lemmas.Result.{err_from_is_err_and}
 use Rattle.tinyvec_borsh.specs.NumberLaws.{number_code}
 use Rattle.tinyvec_borsh.proofs.AtFaults.{writes-both, writes-first}
 use Rattle.std.proofs.Common.{lit<}
-use Rattle.example_stream.specs.Readings.{SpellsReading, said}
+use Rattle.example_stream.specs.Readings.{SpellsReading}
 use Rattle.example_stream.specs.Stream.{tag}
 use Rattle.example_stream.proofs.Frames.{writes-tagged}
 use Rattle.example_stream.proofs.stream.append.Goals as goal

@@ -1,5 +1,5 @@
 use Rattle.std.proofs.Common.{rules}
-use Rattle.example_stream.proofs.Frames.{tag-ended, tag-fails, wrong-tag}
+use Rattle.example_stream.proofs.Frames.{wrong-tag}
 use Rattle.example_stream.proofs.stream.has_next.Goals as goal
 
 pub returns-then-tag-ne-TAG-clause-next : goal.returns-then-tag-ne-TAG-clause-next

@@ -1,8 +1,8 @@
-use Rattle.std.proofs.Common.{◌≡◌, ◌∙◌, ◌++◌, ◌∷◌, [], None, Some, Ok, Err, ap, length, refl, rules, subst}
+use Rattle.std.proofs.Common.{◌≡◌, ◌∙◌, ◌++◌, ◌∷◌, [], None, Some, Ok, Err, ap, codes, length, refl, rules}
 use Rattle.std.proofs.lemmas.Result.{on_ok_weaker}
 use Rattle.example_records.specs.Errors.{command_error_text}
-use Rattle.example_records.specs.Shown.{IsAnswered, len_text}
-use Rattle.example_records.proofs.Showing.{answered, shown-keep}
+use Rattle.example_records.specs.Shown.{len_text}
+use Rattle.example_records.proofs.Showing.{answered}
 use Rattle.example_records.proofs.answer.RecordsAnswer.answer.Goals as goal
 
 pub returns-in-Ok-None-clause-answered : goal.returns-in-Ok-None-clause-answered
@@ -32,10 +32,11 @@ returns-in-Ok-Some-clause-answered c =
 pub returns-in-Err-clause-answered : goal.returns-in-Err-clause-answered
 returns-in-Err-clause-answered c =
     let run = c.run.ensures in
+    let said = codes "refused: " ++ (command_error_text c.in-Err.error ++ 10 ∷ []) in
     on_ok_weaker c.push_refusal.result
     (λ grown. (
-      _,
-      grown ∙ ap (λ text. text ++ _) c.reserve.ensures.items,
+      said,
+      grown ∙ ap (λ text. text ++ said) c.reserve.ensures.items,
       answered c.args.line.now c.args.self.now.stream.items c.run.new.stream.items _ c.run.result (Err c.in-Err.error) run.answers run.text run.unknown run.tells c.in-Err.is refl,
     ))
     c.push_refusal.ensures.ok
