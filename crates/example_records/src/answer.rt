@@ -1,5 +1,6 @@
 //! The answer to a line.
-ghost use Rattle.std.specs.Prelude.{◌≡◌, ◌+◌, ◌≤◌, ◌++◌, ◌∷◌, [], ℕ, List, OnErr, OnOk, codes, map, vec_capacity, vec_len};
+ghost use Rattle.std.specs.Prelude.{◌≡◌, ◌+◌, ◌≤◌, ◌++◌, ◌∷◌, [], ℕ, List, OnErr, OnOk, codes, length, map, vec_capacity, vec_len};
+ghost use Rattle.std.specs.Fmt.{decimal};
 ghost use Rattle.example_stream.specs.Readings.{said};
 ghost use Rattle.example_records.specs.Errors.{command_error_text};
 ghost use Rattle.example_records.specs.Shown.{IsAnswered, IsShown, len_text};
@@ -8,7 +9,6 @@ use crate::command::{push_shown, run};
 use crate::command_error::CommandError;
 use example_lines::Answer;
 use example_stream::Recovered;
-use itoa::Buffer;
 use std::alloc::{AllocError, Global};
 
 // How many bytes say how long a stream is: 20 digits, a word and a line feed.
@@ -51,9 +51,22 @@ fn push_len(text: &mut Vec<u8>, len: usize)
         let _done = text.extend_from_slice(b"1 byte\n");
         return;
     }
-    let mut digits = Buffer::new();
-    let _done = text.extend_from_slice(digits.format(len).as_bytes());
+    push_digits(text, len);
     let _done = text.extend_from_slice(b" bytes\n");
+}
+
+// Appends the digits of a number to a text that has room for them, which `write!` does not state that it uses.
+fn push_digits(text: &mut Vec<u8>, number: usize)
+    requires { vec_len text.old + length (decimal number) ≤ vec_capacity text.old }
+    ensures items { text.new.items ≡ text.old.items ++ decimal number }
+    ensures capacity { vec_capacity text.new ≡ vec_capacity text.old }
+{
+    if number < 10 {
+        text.push_reserved(b'0' + number as u8);
+        return;
+    }
+    push_digits(text, number / 10);
+    text.push_reserved(b'0' + (number % 10) as u8);
 }
 
 // Appends the records and where they end. They are shown apart first.

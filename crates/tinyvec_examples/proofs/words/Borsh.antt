@@ -2,7 +2,7 @@
 use Rattle.std.proofs.Common.{◌≡◌, ℕ, ◌<◌, List, [], ◌∷◌, Option, Some, None, false, Ok, Err, inl, refl, ap, length, length-append, rules, arith}
 use Rattle.std.specs.Prelude.{IsUtf8}
 use Rattle.tinyvec_borsh.specs.Failed.{CountsIo}
-use Rattle.tinyvec_borsh.specs.Items.{SpellsItems, SpellsList, ListFits, AfterItems, InItem, HasMoreItems, ListReason, CountsAbove, MayAllocate, TinyReason}
+use Rattle.tinyvec_borsh.specs.Items.{SpellsItems, SpellsList, ListFits, AfterItems, InItem, ListReason, CountsAbove, MayAllocate, TinyReason}
 use Rattle.tinyvec_borsh.specs.Reading.{ReadsSpelling, FailsFor, LeavesRest, LeavesSlots}
 use Rattle.tinyvec_borsh.specs.Writing.{WritesValue}
 use Rattle.tinyvec_io.specs.Counted.{CountedView}
@@ -81,14 +81,12 @@ example-InItem = record {
 pub example-ListReason : ListReason Spells Fits Reason IsNever 4 Ended (1 ∷ 0 ∷ [])
 example-ListReason = inl (omega arith)
 
-pub example-CountsAbove : CountsAbove 4 (5 ∷ 0 ∷ 0 ∷ 0 ∷ 0 ∷ 0 ∷ 0 ∷ 0 ∷ 7 ∷ [])
-example-CountsAbove = (5, omega arith, record { first = 5 ∷ 0 ∷ 0 ∷ 0 ∷ 0 ∷ 0 ∷ 0 ∷ 0 ∷ []; rest = 7 ∷ []; is_first = search rules; is_rest = _; whole = refl })
+-- this count is above 4
+counts_above : CountsAbove 4 (5 ∷ 0 ∷ 0 ∷ 0 ∷ 0 ∷ 0 ∷ 0 ∷ 0 ∷ 7 ∷ [])
+counts_above = (5, omega arith, record { first = 5 ∷ 0 ∷ 0 ∷ 0 ∷ 0 ∷ 0 ∷ 0 ∷ 0 ∷ []; rest = 7 ∷ []; is_first = search rules; is_rest = _; whole = refl })
 
 pub example-MayAllocate : MayAllocate Spells Fits 4 (5 ∷ 0 ∷ 0 ∷ 0 ∷ 0 ∷ 0 ∷ 0 ∷ 0 ∷ 7 ∷ [])
-example-MayAllocate = inl (omega arith, example-CountsAbove)
-
-pub example-HasMoreItems : HasMoreItems Spells Fits 0 (2 ∷ 0 ∷ 0 ∷ 0 ∷ 0 ∷ 0 ∷ 0 ∷ 0 ∷ 7 ∷ [])
-example-HasMoreItems = record { has = example-InItem.has; over = omega arith; few = omega arith }
+example-MayAllocate = inl (omega arith, counts_above)
 
 pub example-TinyReason : TinyReason Spells Fits Reason 4 Memory (5 ∷ 0 ∷ 0 ∷ 0 ∷ 0 ∷ 0 ∷ 0 ∷ 0 ∷ 7 ∷ [])
 example-TinyReason = inl example-MayAllocate

@@ -36,7 +36,7 @@ pub example-is_write_fault : is_write_fault (wrote 0) (7 ∷ []) ≡ true
 example-is_write_fault = refl
 
 -- a read that returned nothing, and a write that took nothing
-pub example-fault_after : fault_after (Ok 0) (Some BrokenPipe) ≡ Some BrokenPipe
+pub example-fault_after : fault_after {T = ℕ} (Ok 0) (Some BrokenPipe) ≡ Some BrokenPipe
 example-fault_after = refl
 
 pub example-write_fault_after : write_fault_after (Ok 0) (7 ∷ []) (Some BrokenPipe) ≡ Some WriteZero

@@ -62,7 +62,7 @@ example-untaken = refl
 
 -- the third letter finds nothing
 pub example-TakesFromEnds : TakesFromEnds (nums (1 ∷ 2 ∷ [])) (back ∷ front ∷ back ∷ []) (Some 2 ∷ Some 1 ∷ None ∷ []) []
-example-TakesFromEnds = record { answered = refl; still_left = refl }
+example-TakesFromEnds = record { given = 2 ∷ 1 ∷ []; by_word = record { count = refl; first = refl; last = refl }; answered = refl; middle = refl }
 
 pub example-GivesFromEnds : GivesFromEnds (nums (1 ∷ 2 ∷ [])) → RunsWord GivesFirst GivesLast (nums (1 ∷ 2 ∷ [])) (back ∷ []) (Some 2 ∷ []) (1 ∷ []) → TakesFromEnds (nums (1 ∷ 2 ∷ [])) (back ∷ []) (Some 2 ∷ []) (1 ∷ [])
 example-GivesFromEnds h asked = h _ _ _ asked

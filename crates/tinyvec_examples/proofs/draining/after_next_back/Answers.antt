@@ -1,6 +1,7 @@
 use Rattle.std.proofs.Common.{◌≡◌, ◌∷◌, [], None, pos, get_or, slice_range, refl, ap, ◌∙◌, rules}
 use Rattle.tinyvec_slots.specs.Ends.{back, answered_by}
 use Rattle.tinyvec_slots.specs.Slots.{items_in}
+use Rattle.tinyvec_slots.proofs.EndsLemmas.{TakesFromEnds-computes}
 use Rattle.tinyvec_array.specs.ArrayVec.{all_slots}
 use Rattle.tinyvec_examples.proofs.DrainEnded.{middle_left}
 use Rattle.tinyvec_examples.proofs.draining.after_next_back.Goals as goal
@@ -10,7 +11,7 @@ returns-clause-item c =
     let begins = c.drain-d.ensures.begins in
     let took = begins.both_ends (back ∷ []) (c.next_back-x.result ∷ []) c.next_back-x.new.self (c.next_back-x.new.self, c.next_back-x.ensures.steps, refl) in
     let two = begins.rest ∙ ap (λ s. slice_range (items_in s) 1 3) c.from_array_len-v.ensures.value in
-    ap (λ l. get_or l 0 None) (took.0.answered ∙ ap (answered_by (back ∷ [])) two)
+    ap (λ l. get_or l 0 None) ((TakesFromEnds-computes _ _ _ _ took.0).0 ∙ ap (answered_by (back ∷ [])) two)
 
 pub returns-clause-left : goal.returns-clause-left
 returns-clause-left c =
