@@ -185,9 +185,10 @@ module _ {T : Type 0} where
       → TakesFromEnds xs word answers left → (answers ≡ answered_by word xs) × (left ≡ untaken word xs)
   TakesFromEnds-computes xs word answers left h =
       let by = takes_by word xs in
-      let same : h.given ≡ by.given = one_given xs word h.given by.given h.by_word by.by_word in
-      (h.answered ∙ ap (λ given. map Some given ++ replicate (length word - length given) None) same ∙ sym by.answered,
-        h.middle ∙ ap (λ given. slice_range xs (fronts (take (length given) word)) (length xs - backs (take (length given) word))) same ∙ sym by.middle)
+      let same : h.given ≡ by.given = one_given xs word h.given by.given h.by_word by.by_word in (
+        h.answered ∙ ap (λ given. map Some given ++ replicate (length word - length given) None) same ∙ sym by.answered,
+        h.middle ∙ ap (λ given. slice_range xs (fronts (take (length given) word)) (length xs - backs (take (length given) word))) same ∙ sym by.middle,
+      )
 
   -- what a word takes, computed
   pub given_is_taken : (xs : List T) (word : List End) (given : List T) → GivenByWord xs word given → given ≡ taken word xs
