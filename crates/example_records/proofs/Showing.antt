@@ -1,12 +1,10 @@
 -- Records that are shown one after another, and the text of an answer.
-use Rattle.std.proofs.Common.{◌≡◌, ◌∙◌, List, ℕ, [], ◌∷◌, ◌++◌, length, Some, Ok, Err, IfErr, OnOk, ap, inl, inr, refl, subst, sym, append_assoc, append-nil}
+use Rattle.std.proofs.Common.{◌≡◌, ◌∙◌, List, ℕ, [], ◌∷◌, ◌++◌, length, Err, IfErr, ap, refl, subst, sym, append_assoc, append-nil}
 use Rattle.std.specs.Str.{IsUtf8}
-use Rattle.example_records.specs.Commands.{Answer, Answers, Command, Commands, Does, IsCommand, Tells, rest_of, word_of}
-use Rattle.example_records.specs.Commands.Command.{Add, Copy, Cut, Hex, Read}
+use Rattle.example_records.specs.Commands.{Answer, Answers, Commands, IsCommand, Tells, rest_of, word_of}
 use Rattle.example_stream.specs.Readings.{Said}
 use Rattle.example_records.specs.Shown.{AreLinesOf, IsAnswered, IsLineOf, IsTextOf}
 use Rattle.example_records.specs.declared.command_error.CommandError.TheVariants.{Text, Unknown}
-use Rattle.example_stream.specs.declared.stream.Recovered.{Recovered}
 
 -- a record more is shown
 pub AreLinesOf-push : (cs : List Said) (c : Said) (lines line : List ℕ) → AreLinesOf cs lines → IsLineOf c line → AreLinesOf (cs ++ c ∷ []) (lines ++ line)
@@ -34,16 +32,3 @@ answered line old new text answer said answers no_text unknown tells is says = r
   tells = tells;
   says = subst (λ a. IsTextOf a (length new) text) (sym is) says;
 }
-
--- what reads the stream leaves it as it was
-does-keep : (command : Command) (old new : List ℕ) (answer : Answer) (recovered : Recovered) → answer ≡ Ok (Some recovered) → Does command old new answer → new ≡ old
-does-keep (Add c) old new answer recovered is does = elim does [ inl done ↦ cc (done.0, is) | inr refused ↦ cc (refused.0, is) ]
-does-keep (Hex bytes) old new answer recovered is does = elim does [ inl done ↦ cc (done.0, is) | inr refused ↦ cc (refused.1.0, is) ]
-does-keep (Cut len) old new answer recovered is does = elim does [ inl done ↦ cc (done.1, is) | inr refused ↦ cc (refused.1, is) ]
-does-keep Read old new answer recovered is does = does.0
-does-keep Copy old new answer recovered is does = elim does [ inl done ↦ done.0 | inr refused ↦ cc (refused.1.0, is) ]
-
-pub shown-keep : (line old new : List ℕ) (answer : Answer) (recovered : Recovered) → answer ≡ Ok (Some recovered) → Answers (Commands line) old new answer → new ≡ old
-shown-keep line old new answer recovered is answers =
-    let asked : (command : Command) × Commands line command = subst (λ a. OnOk a ((command : Command) × Commands line command)) is answers.is_command in
-    does-keep asked.0 old new answer recovered is (answers.carried_out asked.0 asked.1)

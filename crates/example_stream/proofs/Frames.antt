@@ -18,7 +18,7 @@ use Rattle.std.specs.List.{AllByRecursion}
 use Rattle.std.proofs.KnownBytes.{Consumes-trans}
 use Rattle.tinyvec_borsh.specs.FrontsLaws.{cut-place}
 use Rattle.example_stream.specs.Errors.{stream_error}
-use Rattle.example_stream.specs.Readings.{IsReadingCut, IsReadingTooLong, ReadingFits, ReadingReason, reading_apart, said}
+use Rattle.example_stream.specs.Readings.{IsReadingCut, IsReadingTooLong, ReadingFits, ReadingReason, said}
 use Rattle.example_stream.specs.Stream.{BeginsWith, EndsBy, HasTooManySamples, IsFrameFront, NextIs, SpellsFrame, StandsBehind, Takes, tag}
 use Rattle.example_stream.specs.declared.reading.Reading.{Reading}
 use Rattle.example_stream.specs.declared.stream_error.StreamError.{StreamError}
@@ -69,20 +69,6 @@ module _ (n : ℕ) (old mid : Option (List ℕ)) (byte : ReadsSpelling (SpellsNu
     (byte.0, (n, other, one-byte n byte.0 byte.1), byte.2),
   )
 
--- no byte is left
-pub tag-ended : (old new : Option (List ℕ)) → MayBe old (TooFewBytes 1 Ended) → TakesSome (TooFewBytes 1 Ended) old new Ended → EndsBy (Ok tt) old new
-tag-ended None new f t = (([], refl), ([], (refl, t.end refl), tt))
-tag-ended (Some x) None f t = absurd t.taken
-tag-ended (Some x) (Some y) f t = (no-byte x f.1, ([], (refl, t.end refl), no-byte x f.1 ∙ sym (t.end refl)))
-
--- the reader failed
-pub tag-fails : (old new : Option (List ℕ)) (before after : ℕ) (e : BorshError) → e ≢ Ended → Fails (TooFewBytes 1) old before after e → TakesSome (TooFewBytes 1 Ended) old new e → EndsBy (Err (stream_error e)) old new
-tag-fails old new before after Ended other f t = absurd (other refl)
-tag-fails old new before after InvalidLength other f t = absurd (maybe-not old (TooFewBytes 1 InvalidLength) (λ input few. other few.0) f)
-tag-fails old new before after InvalidUtf8 other f t = absurd (maybe-not old (TooFewBytes 1 InvalidUtf8) (λ input few. other few.0) f)
-tag-fails old new before after Io other f t = (maybe-any old, (t.bytes, inl (no-byte t.bytes (t.short (λ none. none)).1), t.taken))
-tag-fails old new before after Memory other f t = absurd (maybe-not old (TooFewBytes 1 Memory) (λ input few. other few.0) f)
-
 -- there is one
 pub tag-next : (old new : Option (List ℕ)) (next : Bool) → next ≡ true → NextIs old new (Ok next) → ReadsSpelling (SpellsNumber 1 tag) old new
 tag-next old new next is given = subst (λ b. NextIs old new (Ok b)) is given
@@ -113,12 +99,12 @@ module _ (old mid : Option (List ℕ)) (byte : ReadsSpelling (SpellsNumber 1 tag
       let s = frame-some new InvalidLength t in
       (behind-tag tag old mid byte tag refl HasTooManySamples (maybe-so mid IsReadingTooLong HasTooManySamples too-many f), (s.bytes, s.needed, s.taken))
   record-fails new before after InvalidUtf8 f t = absurd (maybe-not mid (ReadingReason InvalidUtf8) no-text f)
-  record-fails new before after Io f t = let s = frame-some new Io t in (maybe-any old, (s.bytes, s.short (λ none. none), s.taken))
-  record-fails new before after Memory f t = let s = frame-some new Memory t in (behind-tag tag old mid byte tag refl (λ rest. Unit {0}) (maybe-any mid), (s.bytes, s.short (λ none. none), s.taken))
+  record-fails new before after Io f t = let s = frame-some new Io t in (maybe-any old, (s.bytes, s.short refl, s.taken))
+  record-fails new before after Memory f t = let s = frame-some new Memory t in (behind-tag tag old mid byte tag refl (λ rest. Unit {0}) (maybe-any mid), (s.bytes, s.needed, s.taken))
 
   -- there is no room for a record
   pub no-room : EndsBy (Err stream.Memory) old mid
-  no-room = (behind-tag tag old mid byte tag refl (λ rest. Unit {0}) (maybe-any mid), (byte.0, inr ([], one-byte tag byte.0 byte.1, reading_apart.none_is_cut), byte.2))
+  no-room = (behind-tag tag old mid byte tag refl (λ rest. Unit {0}) (maybe-any mid), (byte.0, λ front back some is. inl (no-front byte.0 front back byte.1.many some is), byte.2))
 
 -- ---- records before it
 

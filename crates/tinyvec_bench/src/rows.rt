@@ -24,11 +24,7 @@ pub fn of_edits<R: Report, V: Words<N>, const N: usize>(report: &mut R, alloc: G
         source,
         runs,
     };
-    match place {
-        Place::Inline => made(report, N, &mut list),
-        Place::Heap => {}
-    }
-    edits(report, N, &mut list);
+    edits(report, N, place, &mut list);
 }
 
 /// Those that are looked at as a whole.
@@ -77,18 +73,24 @@ pub fn of_bytes<R: Report, V: Vector<u8, N> + Hash + PartialOrd, const N: usize>
     byte_looks(report, N, &mut look);
 }
 
-// Of an array of 64 slots or more, most of the time goes into its defaults, and into the moves of the vector. Like those
-// below it takes a reference: if the caller owns the list, LLVM copies each vector that a row makes once more.
-fn made<R: Report, S: Bench<Edit>>(report: &mut R, n: usize, list: &mut S) {
+// Of an array of 64 slots or more, most of the time goes into its defaults, and into the moves of the vector.
+fn made<R: Report, S: Bench<Edit>>(report: &mut R, n: usize, place: Place, list: &mut S) {
     let name = if n < 64 { "two_pushes" } else { "returned" };
-    run(report, name, n, Edit::TwoPushes, list);
+    match place {
+        Place::Inline => run(report, name, n, Edit::TwoPushes, list),
+        Place::Heap => {}
+    }
 }
 
+// These rows and those below take a reference: if the caller owns the list, LLVM copies each vector that a row makes once
+// more.
 fn edits<R: Report, S: Bench<Cut> + Bench<Edit> + Bench<Share>>(
     report: &mut R,
     n: usize,
+    place: Place,
     list: &mut S,
 ) {
+    made(report, n, place, list);
     run(report, "fill_and_empty", n, Edit::FillAndEmpty, list);
     list.round(Edit::ExtendFromSlice, 0);
     moves(report, n, list);

@@ -1,4 +1,4 @@
-use Rattle.std.proofs.Common.{lit<, subst}
+use Rattle.std.proofs.Common.{lit<, subst, false, None}
 use Rattle.std.proofs.lemmas.Result.{err_from_is_err_and}
 use Rattle.std.proofs.lemmas.List.{map-id}
 use Rattle.tinyvec_array.specs.ArrayVec.{items}
@@ -28,7 +28,7 @@ returns-in_err-note-clause-fails g c =
     let station = c.in_ok-station.ensures in
     let samples = c.in_ok-samples.ensures in
     let same = map-id (items c.in_ok-samples.samples) in
-    rw (p.1, p.2) (fails-second (SpellsNumber 4) StationFits (TooFewBytes 4) ListsReason (number_apart 4 (lit< tt) StationFits).front_is_cut _ {mid = record { inner = _; faults = _; failed = _ }} station.ok station.valid station.fails.grows station.fails.failed.exact
+    rw (p.1, p.2) (fails-second (SpellsNumber 4) StationFits (TooFewBytes 4) ListsReason (number_apart 4 (lit< tt) StationFits).front_is_cut _ {mid = record { inner = _; faults = _; last_fault = None; failed = _; flushed = false }} station.ok station.valid station.fails.grows station.fails.failed.exact
     (fails-second SpellsSamples SamplesFit SamplesReason NoteReason {U = Unit {0}} samples_apart.front_is_cut _ (rw same at samples.ok) (subst SamplesFit same samples.valid) samples.fails.grows samples.fails.failed.exact c.in_err-note.ensures.fails))
 
 pub returns-clause-ok : goal.returns-clause-ok
