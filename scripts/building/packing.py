@@ -31,7 +31,7 @@ def head_of(chosen):
 
 def pack(file, chosen):
     """Writes the libraries of the crates into the file, and returns its sum."""
-    with open(file, "wb") as out, zstd([*ZSTD, "-9", "-T0"], stdin=subprocess.PIPE, stdout=out) as pipe:
+    with open(file, "wb") as out, zstd([*ZSTD, "-9", "--threads=0"], stdin=subprocess.PIPE, stdout=out) as pipe:
         with tarfile.open(fileobj=pipe.stdin, mode="w|", format=tarfile.PAX_FORMAT) as tar:
             add(tar, HEAD, json.dumps(head_of(chosen), indent=1).encode())
             found = [(path.relative_to(it.format.parent), it.name, path) for it in chosen for path in it.format.parent.rglob("*")]
