@@ -39,7 +39,7 @@ def pack(file, chosen):
                 add(tar, f"{name}/out/rlib/{name}.rlib/{inside}", path.read_bytes())
             for it in chosen:
                 add(tar, f"{it.name}/out/{it.mark}", (it.out / it.mark).read_bytes())
-    return crates.sum_of_file(file)
+    return crates.sum_of_file(pathlib.Path(file))
 
 
 def add(tar, path, text):
