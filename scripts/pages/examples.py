@@ -15,7 +15,7 @@ CRATE = "tinyvec_examples"
 HEAD = """//! What the pages of the reference show.
 #![tactic(auto)]
 
-use std::io::Write;
+use std::io::{ErrorKind, Write};
 use std::test::Fail;
 use tinyvec::{ArrayVec, FromIterRest, NoRoom, SliceVec, TinyVec, array_vec, tiny_vec};
 use tinyvec_borsh::{BorshDeserialize, BorshSerialize};
