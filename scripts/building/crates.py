@@ -164,9 +164,8 @@ def text_of(file):
 
 def telling(said):
     """The lines that say what is wrong, or the last ones."""
-    lines = "\n".join(it[0].rstrip() for it in TELLING.finditer(said)).splitlines() or said.splitlines()[-MOST_LINES:]
-    more = len(lines) - MOST_LINES
-    return lines[:MOST_LINES] + [f"and {more} lines more"] * (more > 0)
+    lines = "\n".join(it[0].rstrip() for it in TELLING.finditer(said)).splitlines()
+    return lines[:MOST_LINES] or said.splitlines()[-MOST_LINES:]
 
 
 def statements_of(library):

@@ -1,7 +1,8 @@
 """What was proved of some crates as one file, which another repository of the same sources takes in place of proving them.
 
-It is a tar compressed by zstd: HEAD first, a JSON of the kit and of each crate's line and sources, then the files of each library and
-rt's stamp. Files are sorted by their path inside a library, so that what one repeats of another is within zstd's window.
+It is a tar compressed by zstd: HEAD first, a JSON of the kit and of each crate's line and sources, then the files of each
+library and rt's stamp. Files are sorted by their path inside a library, so that what one repeats of another is within zstd's
+window.
 """
 import contextlib
 import hashlib

@@ -33,10 +33,6 @@ class Stopped(Exception):
     """Nothing more is to be done."""
 
 
-class Interrupted(BaseException):
-    """As KeyboardInterrupt, but what was started is waited for."""
-
-
 def start(words, cwd=crates.TOP, **how):
     """Starts a command that ends where this process is told to end."""
     with GUARD:
@@ -74,22 +70,17 @@ def ask(words, given=b"", limit=LIMIT, cwd=crates.TOP, **how):
 
 
 def run_main(main):
-    """Calls main so that it can put things in order where it is told to end, and then ends as the signal asks."""
+    """Calls main so that it can put things in order where it is told to end. A second signal would cut that off."""
 
     def interrupt(number, _):
-        # What follows is short, and a second signal would cut it off.
         for it in signals:
             signal.signal(it, signal.SIG_IGN)
-        raise Interrupted(number)
+        sys.exit(128 + number)
 
     signals = [it for it in (signal.SIGINT, signal.SIGTERM, signal.SIGHUP) if signal.getsignal(it) != signal.SIG_IGN]
     for it in signals:
         signal.signal(it, interrupt)
-    try:
-        sys.exit(main())
-    except Interrupted as interrupted:
-        signal.signal(interrupted.args[0], signal.SIG_DFL)
-        os.kill(os.getpid(), interrupted.args[0])
+    sys.exit(main())
 
 
 def say(text):

@@ -1,7 +1,7 @@
 """Has `rt try` compile programs with checks, before any proof, and keeps them as long as the sources are the same.
 
-`rt try` itself keeps none. A program that is kept answers at once: `./tv` in place of 20 seconds, the rows and random calls in
-place of a minute or two, and `tests/mutants --tests` makes thousands of runs of one, each with its variable PLANTED."""
+`rt try` itself keeps none. A program that is kept answers at once: `./tv` in place of 20 seconds, the rows and random calls
+in place of a minute or two, and `tests/mutants --tests` makes thousands of runs of one, each with its variable PLANTED."""
 import contextlib
 import os
 import pathlib

@@ -1,21 +1,25 @@
-"""Whether calls that docs/reference/costs.txt says never allocate are shown to, and bench/calls.txt names each public call.
+"""Whether what docs/reference/costs.txt says of each call is shown, and bench/calls.txt names each public call.
 
-A call of a type with an allocator that costs.txt says never allocates, and that does not only read, has a row of its name
-that wants `0 requests`, which `tests/rows/compare` counts, or a test in a module `no_memory`. bench/calls.txt has the row of the
-benchmarks of each call at 64 and 16,384 items. What the vectors share, the crate of slots and the traits of slots and arrays,
-is measured by the vectors' calls.
+A call that never allocates returns no error that says so. If its type has an allocator and it does not only read, it has a
+row of its name that wants `0 requests`, which `tests/rows/compare` counts, or a test in a module `no_memory`.
+bench/calls.txt has the row of the benchmarks of each call at 64 and 16,384 items; that of a call whose time is constant, if
+it has the call's name, counts at most CONSTANT more at 16,384. What the vectors share, the crate of slots and the traits of
+slots and arrays, is measured by the vectors' calls.
 """
 import re
 
+from measuring import tables
 from pages import reference
 from reading import exports
 from rows import rows
 
 WITH_ALLOCATOR = ("TinyVec", "InlineText")
 BENCH = exports.TOP / "bench/calls.txt"
+CONSTANT = 2
 SHARED = {
-    *("tinyvec_slots", "CanCut", "CanDrain", "CanSplice", "Gap", "Touches", "OwnsItems", "ItemText", "Plain", "Array", "Slots", "TakesClones", "[T]"),
-    *("[T; N]", "InBinary", "InOctal", "InHex", "InUpperHex", "AllocError", "Error", "AllocFailed", "NoMemory"),
+    *("tinyvec_slots", "CanCut", "CanDrain", "CanPut", "CanSplice", "Gap", "Touches", "OwnsItems", "ItemText", "Plain", "Array"),
+    *("Slots", "Vec", "TakesClones", "[T]", "[T; N]", "InBinary", "InOctal", "InHex", "InUpperHex", "AllocError", "Error"),
+    *("AllocFailed", "NoMemory"),
 }
 # By type the beginnings that the names of its rows have at 64, and at 16,384.
 PREFIXES = {
@@ -27,7 +31,7 @@ PREFIXES = {
 def faults():
     found = [it for crate in exports.LIBRARIES for it in exports.Crate(crate).exports()]
     functions = [(it.holder(), f"{it.holder()}::{one.name}", one.signature()) for it in found for one in it.functions()]
-    yield from faults_of_requests({call: signature for holder, call, signature in functions if holder in WITH_ALLOCATOR})
+    yield from faults_of_requests({call: signature for _, call, signature in functions})
     yield from faults_of_bench({call for holder, call, _ in functions if holder not in SHARED})
 
 
@@ -41,12 +45,13 @@ def faults_of_requests(signatures):
         yield from [f"costs.txt: {call} never allocates, but may fail for memory"] * bool(may_fail)
         kind, name = call.split("::")
         is_shown = (kind, name) in shown or re.search(rf"\b{name}\(", tests) or "(&self" in signatures[call]
-        yield from [f"no row or test shows that {call} makes no request for memory"] * (not is_shown)
+        yield from [f"no row or test shows that {call} makes no request for memory"] * (kind in WITH_ALLOCATOR and not is_shown)
 
 
 def faults_of_bench(calls):
+    counts, named = tables.counts(tables.read(tables.RESULTS / "rust.md")), []
     printed = (exports.TOP / "crates/tinyvec_bench/stdout").read_text(encoding="utf-8").splitlines()
-    measured, named = {tuple(it.split()[:2]) for it in printed}, []
+    measured, costs = {tuple(it.split()[:2]) for it in printed}, dict(reference.costs())
     for kind, how, names, reason in exports.lines_of(BENCH):
         yield from [f"bench/calls.txt: no reason why {names} have no row"] * (how == "none" and not reason)
         for call, _, row in (it.partition("=") for it in names.split()):
@@ -55,4 +60,7 @@ def faults_of_bench(calls):
                 its = [row if row.startswith("borsh_") else prefix + (row or call) for prefix in prefixes.split(" ")]
                 if not any((it, size) in measured for it in its):
                     yield f"no row of the benchmarks is {its[-1]} {size}, which bench/calls.txt names"
+            few, many = (counts.get((its[-1], it), 0) for it in (64, 16384)) if how != "none" and not row else (0, 0)
+            if costs.get(named[-1], ("",))[0] == "constant" and many > few + CONSTANT:
+                yield f"costs.txt: {named[-1]} is constant, but {its[-1]} counts {few:g} at 64 and {many:g} at 16384"
     yield from exports.table_faults(BENCH, named, calls)

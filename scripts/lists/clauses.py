@@ -1,13 +1,11 @@
 """Writes tests/clauses.txt, the lock: what each public call states.
 
-A line `CALL: SUM NAMES` has the names of the call's clauses, each also with the relations that it cites, as `room.Grows`, and
-a sum of what they state: of the clauses and ghost items, and of the definitions in `specs/` that these cite, and those that
-those cite, without comments and white space. std's words count by their names. A line `CRATE.specs.FILE.WORD: NAMES` has the
-fields of a relation that one of these reaches.
+A line `CALL: SUM NAMES` has the names of the call's clauses, each also with the relations that it cites, as `room.Grows`,
+and a sum of what they state: of the clauses and ghost items, and of the definitions in `specs/` that these reach, without
+comments and white space. A line `CRATE.specs.FILE.WORD: NAMES` has the fields of a relation that one of these reaches.
 
 `tests/docs` names what the lock lacks and each sum that differs, which this writes, and each name that the sources lack,
-unless a line of the first part of CHANGELOG.md has it and its call or relation in backticks (of one that is gone, that
-alone). This keeps the names of those.
+which this keeps, unless a line of the first part of CHANGELOG.md has it and its call or relation in backticks.
 """
 import functools
 import hashlib
@@ -78,17 +76,14 @@ def found():
         reached = scope.reached(texts)
         text = "\n".join([*map(squeezed, texts), *sorted({squeezed(word.whole) for word in reached})])
         sums |= {key: hashlib.sha256(text.encode()).hexdigest()[:8]} if text else {}
-        relations = ((f"{path(home.file)}.{it.name}", it.fields) for it, home in reached.items() if it.fields)
-        names |= {name: [field for field, _ in fields] for name, fields in relations}
+        for it, home in ((it, home) for it, home in reached.items() if it.fields):
+            path = ".".join(home.file.relative_to(TOP / "crates").with_suffix("").parts)
+            names[f"{path}.{it.name}"] = [field for field, _ in it.fields]
     return names, sums
 
 
 def squeezed(text):
     return " ".join(text.split())
-
-
-def path(file):
-    return ".".join(file.relative_to(TOP / "crates").with_suffix("").parts)
 
 
 def stated(crate):

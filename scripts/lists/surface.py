@@ -1,16 +1,11 @@
 """Holds what a caller can name to tests/surface.txt, which no change shortens unseen.
 
-The list has a line for each type, call, impl, derived trait, macro, variant, public field and feature of the Rust crate, and
-for each that only these crates have:
-
-    NAME in CRATE             it is here
-    NAME is OTHER in CRATE    it is here, by another name
-    NAME not TEXT             it is not here: a line of docs/DIFFERENCES.md, without its bar, begins with this text, or its
-                              last column names this call
-
-What `pub use` passes on is there as of the crate that passes it on. Below the heading FIXED a line has a whole form: a
-function with the types of its arguments and of its result, as `Splice::touches (&self) -> u128`, a variant or a public field
-with its type, or an alias. Nothing here takes a line away, lowers the number of a heading or writes below FIXED.
+It has a line for each type, call, impl, derived trait, macro, variant, public field and feature of the Rust crate, and for
+each that only these crates have: `NAME in CRATE`, `NAME is OTHER in CRATE` if it is here by another name, or `NAME not
+TEXT`, where a line of docs/DIFFERENCES.md begins with the text, or its last column names this call. What `pub use` passes on
+is of the crate that does. Below the heading FIXED a line has a whole form: a function with the types of its arguments and of
+its result, as `Splice::touches (&self) -> u128`, a variant or a public field with its type, or an alias. Nothing here takes
+a line away or writes below FIXED.
 """
 import functools
 import re
@@ -24,27 +19,19 @@ LIST = TOP / "tests/surface.txt"
 NAME = LIST.relative_to(TOP)
 
 LINE = re.compile(r"(?P<name>.+?) (?:(?:is (?P<other>.+) )?in (?P<crate>\w+)|not (?P<why>.+))$")
-HEADING = re.compile(r"# (.*): (\d+) names$")
-OWN = "Of these crates alone"
-FIXED = "Forms that are fixed"
+OWN, FIXED = "# Of these crates alone", "# Forms that are fixed"
 CLAUSES = re.compile(r" (?:requires|ensures\*?|ghost|where)\b| //")
 SELF = re.compile(r"&?(?:'\w+ )?(?:mut )?self$")
 
 
 def write():
     lines = LIST.read_text(encoding="utf-8").splitlines()
-    at = next(at for at, it in enumerate(lines) if it.startswith(f"# {OWN}: "))
-    own = sorted({*lines[at + 1 :], *lacking(lines)})
-    count = max(len(own), int(HEADING.match(lines[at])[2]))
-    LIST.write_text("\n".join([*lines[:at], f"# {OWN}: {count} names", *own]) + "\n", encoding="utf-8")
+    at = lines.index(OWN) + 1
+    LIST.write_text("\n".join([*lines[:at], *sorted({*lines[at:], *lacking(lines)})]) + "\n", encoding="utf-8")
 
 
 def faults():
     lines = LIST.read_text(encoding="utf-8").splitlines()
-    for heading, *inside in (f"# {it}".splitlines() for it in "\n".join(lines).split("\n# ")[1:]):
-        found, count = HEADING.match(heading), sum(bool(it) for it in inside)
-        if not found or int(found[2]) != count:
-            yield f"{NAME}: {count} lines stand below this heading: {heading}"
     yield from (f"{NAME}: {it}" for it in gone(lines))
     yield from (f"{NAME}: run tests/docs --write: it lacks {it}" for it in lacking(lines))
 
@@ -54,10 +41,8 @@ def gone(lines):
     known = here()
     told = [it.removeprefix("| ") for it in crates.text_of(TOP / "docs/DIFFERENCES.md").splitlines()]
     for line in filter(None, lines):
-        if heading := HEADING.match(line):
-            known = forms() if heading[1] == FIXED else here()
-        elif line.startswith("#"):
-            continue
+        if line.startswith("#"):
+            known = forms() if line == FIXED else here()
         elif not (found := LINE.match(line)):
             yield f"this line says neither where a name is nor why it is not here: {line}"
         elif found["why"]:

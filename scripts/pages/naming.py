@@ -1,5 +1,5 @@
-"""Resolves the words of contracts that pages write in code: each is imported on its page, or linked there to the page of words, and
-takes as many arguments as it is given. `tests/docs` tells which are not.
+"""Resolves the words of contracts that pages write in code: each is imported on its page, or linked there to the page of
+words, and takes as many arguments as it is given. `tests/docs` tells which are not.
 """
 import functools
 import re

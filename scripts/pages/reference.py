@@ -1,14 +1,16 @@
-"""Writes the reference, docs/reference/*.md: all that the libraries export, with comments, examples, contracts and what differs in Rust.
+"""Writes the reference, docs/reference/*.md: all that the libraries export, with comments, examples, contracts and what
+differs in Rust.
 
-`tests/docs` names the pages that differ from what this would write or have more than MOST lines, comments and examples that are
-missing, and costs and errors that are not those of the sources. What precedes the line MARK of a page is written by hand.
+`tests/docs` names the pages that differ from what this would write or have more than MOST lines, comments and examples that
+are missing, and costs and errors that are not those of the sources. What precedes the line MARK of a page is written by
+hand.
 """
 import functools
 import re
 
 from building.crates import text_of
 from pages import examples
-from reading import contracts, exports
+from reading import contracts, definitions, exports
 from reading.exports import PAGES
 
 TOP = exports.TOP
@@ -56,8 +58,6 @@ def faults():
         if below != text:
             yield f"{file.relative_to(TOP)}: not as scripts/pages/reference.py writes it: run tests/docs --write"
     library = Library()
-    for crate in library.crates:
-        yield from crate.lost()
     for page, it in library.entries():
         where, key = it.source.path, it.key()
         unended = (said[-60:] for said in it.prose() if not said.endswith((".", ":")))
@@ -113,6 +113,7 @@ class Library:
         made = [Entry(export, self) for crate in self.crates for export in crate.exports()]
         self.pages = {page: [it for it in made if it.page == page] for page in PAGES}
         self.keys = {it.key() for _, it in self.entries()}
+        is_call = lambda key: ": " not in key and ("::" in key or key.endswith("!") or key.islower())
         self.calls = {it.key() for _, it in self.entries() if is_call(it.key()) and not it.is_part}
         self.costs, self.examples = dict(costs()), dict(examples.examples())
         # Where a note is shown.
@@ -146,10 +147,6 @@ class Library:
             title = text_of(FOLDER / f"{page}.md").partition("\n")[0].removeprefix("# ")
             lines += [f"\n| [{title}]({page}.md) | {', '.join(links)} |"] * bool(links)
         return "".join(lines) + "\n"
-
-
-def is_call(key):
-    return ": " not in key and ("::" in key or key.endswith("!") or key.islower())
 
 
 def costs():
@@ -280,9 +277,10 @@ class Entry(exports.Export):
 
 
 def cited(file, text):
-    """The words that a text of a file cites, with the path that defines each, but for operators, variants, proofs and std's prelude."""
+    """The words that a text of a file cites, with the path that defines each, but for operators, variants, proofs and std's prelude.
+    Of a variant that `specs/` define it is the type."""
     known = exports.imported(text_of(file))
-    found = (known[it] for it in dict.fromkeys(re.findall(r"[^\s(){}.,;:\[\]]+", text)) if it in known)
+    found = dict.fromkeys(definitions.whole(*known[it]) for it in re.findall(r"[^\s(){}.,;:\[\]]+", text) if it in known)
     return [it for it in found if re.fullmatch(r"[\w-]+", it[1]) and not NO_WORDS.search(it[0])]
 
 
@@ -327,15 +325,12 @@ class Page:
         title = SECTIONS.get(section) or self.sections[section][0].source.title.replace("`", "")
         return title.partition(". ")[0]
 
-    def link(self, section, page=""):
-        """A link to a section of this page, on a page, and those to what it has."""
-        title, found = self.title(section), [it for it in self.sections[section] if not it.is_part]
-        return f"[{title}]({page and f'{page}.md'}#{anchor(title)})", found
-
     def contents(self, page=""):
         """A row for each section, for this page or another."""
-        for title, found in (self.link(it, page) for it in self.order):
-            yield f"| {title} | {', '.join(it.link(page, it.trait) for it in found)} |\n"
+        for section in self.order:
+            title, found = self.title(section), [it for it in self.sections[section] if not it.is_part]
+            links = ", ".join(it.link(page, it.trait) for it in found)
+            yield f"| [{title}]({page and f'{page}.md'}#{anchor(title)}) | {links} |\n"
 
     def text(self):
         below, rows = [], [*self.contents()]
@@ -372,7 +367,7 @@ class Page:
     def entry(self, it):
         """What it is called as and on which conditions, what it does, an example, and its contract, which is folded."""
         yield f"\n### {it.heading()}\n"
-        code, twin, instead = it.code(), *self.twin(it)
+        code, twin = it.code(), self.twin(it)
         # A comment at its end is of what follows.
         head = re.sub(r"(?:\n +//[^\n]*)+$", "", CONTRACT.split(code, maxsplit=1)[0])
         yield "\n```\n" + "\n".join([head, *it.conditions()]) + "\n```\n"
@@ -386,37 +381,19 @@ class Page:
         if it.key() in self.library.examples:
             yield f"\n```\n{self.library.examples[it.key()]}\n```\n"
         if twin is not it:
-            yield f"\nIts contract is that of {twin.link('', twin.trait or twin.name)}{instead}.\n"
+            yield f"\nIts contract is that of {twin.link('', twin.trait or twin.name)}.\n"
         elif head != code:
             yield f"\n<details><summary>Contract</summary>\n\n```\n{code}\n```\n\n</details>\n"
 
     def aliased(self, it):
-        """The calls and traits of the type that an alias names, as a table if these are in several sections."""
+        """A link to the type that an alias names."""
         of = exports.head_of(re.search(r"= (.*);", it.item.signature())[1])
-        is_form = any(it.name in crate.forms.values() for crate in self.library.crates)
-        has = lambda one: one.name == of or it.name in (one.of, *one.also) or one.of == of and not is_form
-        rows = []
-        for page in (self if name == self.name else Page(self.library, name) for name in self.library.pages):
-            place = "" if page is self else page.name
-            for title, found in (page.link(section, place) for section in page.order):
-                links = [one.link(place, one.trait or one.name) for one in found if has(one)]
-                rows += [(title, ", ".join(links))] if links else []
-        if len(rows) > 2:
-            yield "\n| Its type, calls and traits | |\n|---|---|\n" + "".join(f"| {title} | {links} |\n" for title, links in rows)
-        elif rows:
-            yield f"\nIts type, calls and traits: {', '.join(links for _, links in rows)}.\n"
+        links = [one.link(page * (page != self.name)) for page, one in self.library.entries() if one.key() == of]
+        yield from (f"\nIts type is {link}.\n" for link in links)
 
     def twin(self, it):
-        """The entry above that has the same contract but for its name, as a call and its `try_` form, and what differs otherwise."""
-        if it.kind not in ("method", "fn", "impl"):
-            return it, ""
-        code = re.sub(rf"\b{it.name}\b", "", it.code())
-        for other, above in self.codes.items():
-            pairs = difference(other, code) if it.kind == "impl" == above.kind else [] if other == code else None
-            if pairs is not None:
-                return above, ", with " * bool(pairs) + " and ".join(f"`{new}` for `{old}`" for old, new in pairs)
-        self.codes[code] = it
-        return it, ""
+        """The entry above that has the same contract but for its name, as a call and its `try_` form, or itself."""
+        return self.codes.setdefault(re.sub(rf"\b{it.name}\b", "", it.code()), it) if it.kind in ("method", "fn", "impl") else it
 
     def notes(self, it):
         for note in self.library.notes.get(it.key(), []):
@@ -424,10 +401,3 @@ class Page:
             is_here = first.page == self.name
             link = first.link("", first.trait or first.name) if is_here else first.link(first.page, first.key())
             yield note if first is it else f"In Rust: see {link}."
-
-
-def difference(old, new):
-    """The words in which two declarations differ, if these are at most two numbers or constants."""
-    found = [it for it in dict.fromkeys(zip(old.split(), new.split())) if it[0] != it[1]]
-    are_numbers = all(re.fullmatch(r"\d+|true|false", part) for it in found for part in it)
-    return found if len(old.split()) == len(new.split()) and len(found) <= 2 and are_numbers else None

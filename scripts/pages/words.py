@@ -1,5 +1,5 @@
-"""Writes docs/reference/WORDS.md: each word that a contract of the reference cites, what it means, and an example. A word that
-the definition of such a word cites, or a page imports or links, is told too, if it has an example.
+"""Writes docs/reference/WORDS.md: each word that a contract of the reference cites, what it means, and an example. A word
+that the definition of such a word cites, or a page imports or links, is told too, if it has an example.
 
 A meaning is the comment above the definition in crates/*/specs, after that of its module. An example is the statement of a
 lemma `example-WORD` in crates/*/proofs/words, in a file that imports the word. What precedes the line MARK of the

@@ -37,12 +37,16 @@ def read_all(crates):
         texts = reader(TOP / "crates" / crate)
         for path in sorted(it for it in (FOLDER / crate).rglob("*") if it.is_file()):
             try:
-                found = {it: misfit(it, texts) for it in read(crate, path)}
+                found = read(crate, path)
             except BadEdit as why:
                 broken.append(f"{path.relative_to(FOLDER)}: {why}")
                 continue
-            edits += [it for it, why in found.items() if not why]
-            broken += [f"{it}: {why}" for it, why in found.items() if why]
+            for it in found:
+                try:
+                    applied(it, texts)
+                    edits.append(it)
+                except BadEdit as why:
+                    broken.append(f"{it}: {why}")
     return edits, broken
 
 
@@ -89,15 +93,6 @@ def merged(edits, texts):
         with contextlib.suppress(BadEdit):
             changed |= applied(edit, lambda file: changed.get(file) or texts(file))[1]
     return changed
-
-
-def misfit(edit, texts):
-    """Why an edit cannot be applied, or None."""
-    try:
-        applied(edit, texts)
-    except BadEdit as why:
-        return str(why)
-    return None
 
 
 def reader(folder):

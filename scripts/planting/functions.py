@@ -28,10 +28,6 @@ class Function:
     # Whether the type has a parameter with a default, which a block does not write: a check then names those that it does.
     has_default: bool
 
-    def is_at(self, file, offset):
-        ranges = ((self.start, self.end), *self.macros)
-        return file == self.file and any(start <= offset < end for start, end in ranges)
-
     def path(self):
         """How a check is asked for this function: the end of its name there, which no other has."""
         if not self.type:
@@ -65,7 +61,8 @@ def owned(found):
         texts = edits.reader(folder)
         for edit in (it for it in found if it.crate == crate):
             places = edits.applied(edit, texts)[0]
-            yield edit, [it for it in of_crate(folder) if any(it.is_at(*place) for place in places)], texts
+            is_at = lambda it, file, at: file == it.file and any(start <= at < end for start, end in ((it.start, it.end), *it.macros))
+            yield edit, [it for it in of_crate(folder) if any(is_at(it, *place) for place in places)], texts
 
 
 @functools.cache

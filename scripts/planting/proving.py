@@ -24,31 +24,23 @@ class Run:
         self.guard, self.began = threading.Lock(), time.monotonic()
 
     def plan(self, found):
-        """Puts the edits into rounds, the named ones first. One outside every function can only be tried alone."""
-        numbered, self.owners = [], {edit: owners for edit, owners, _ in functions.owned(found)}
+        """Puts the edits into rounds of a crate, the named ones first, in none of which two change one function. One outside every
+        function can only be tried alone."""
+        self.owners = {edit: owners for edit, owners, _ in functions.owned(found)}
         self.unseen = [it for it, owners in self.owners.items() if not owners]
-        for crate in dict.fromkeys(it.crate for it in found):
-            its = (it for it in self.owners if it.crate == crate)
-            numbered += enumerate(self.grouped(sorted(its, key=lambda it: not it.is_named)))
-        # The crates take turns, so that one is made ready while edits of another are tried.
-        self.rounds = [it for _, it in sorted(numbered, key=lambda it: it[0])]
-
-    def grouped(self, fit):
-        """As few rounds as come of a greedy choice, in none of which two edits change one function."""
-        rounds = []
-        for edit in (it for it in fit if self.owners[it]):
-            taken = lambda it: {owner for one in it for owner in self.owners[one]}
-            home = next((it for it in rounds if len(it) < MOST and not taken(it) & set(self.owners[edit])), None)
+        taken = lambda it: {owner for one in it for owner in self.owners[one]}
+        for edit in sorted((it for it in self.owners if self.owners[it]), key=lambda it: not it.is_named):
+            rivals = (it for it in self.rounds if it[0].crate == edit.crate and len(it) < MOST)
+            home = next((it for it in rivals if not taken(it) & set(self.owners[edit])), None)
             if home is None:
-                rounds.append(home := [])
+                self.rounds.append(home := [])
             home.append(edit)
-        return rounds
 
     def go(self, minutes, seed):
         """Tries the rounds that begin in so many minutes, and then alone what they did not show."""
-        until = float("inf") if minutes is None else self.began + 60 * minutes
-        if minutes is not None:
-            random.Random(seed).shuffle(self.rounds)
+        until = self.began + 60 * (float("inf") if minutes is None else minutes)
+        # The crates take turns by chance, so that one is made ready while edits of another are tried.
+        random.Random(seed).shuffle(self.rounds)
         self.rounds.sort(key=lambda it: not it[0].is_named)
         self.side_by_side(self.try_round, self.rounds, until)
         hidden, self.unseen = self.unseen, []

@@ -17,6 +17,14 @@ def source_of(path):
     return exports.TOP / "crates" / crate / f"specs/{stem}.antt"
 
 
+@functools.cache
+def whole(path, name):
+    """A word that `specs/` define, of a variant its type."""
+    file = source_of(path)
+    types = (it.name for it in words_of(file) if name in it.variants) if file.is_file() else ()
+    return path, next(iter(types), name)
+
+
 class Word:
     def __init__(self, found, comment, given, heads, lines):
         """`given` is what its modules are given, `heads` are their first lines, and `lines` are those after the word's first, up to

@@ -198,14 +198,6 @@ class Crate:
             if parameter and bounds.get(parameter[1], {""}) <= traits:
                 yield alias
 
-    def lost(self):
-        """What the crate passes on by name, and this did not find."""
-        lib = f"crates/{self.name}/src/lib.rt"
-        used = USED.findall((TOP / lib).read_text(encoding="utf-8"))
-        listed = {name for _, names in used for name, _ in NAMED.findall(names)}
-        gone = listed - self.names.keys() - {it for _, it in self.passed_on}
-        yield from (f"{lib}: {it} is exported, and not found" for it in gone)
-
 
 TYPES = ("struct", "enum", "trait", "type")
 
@@ -253,14 +245,15 @@ def shortened(type_, forms):
 
 
 PASSED_ON = re.compile(r"^pub use Rattle\.([\w.]+)$", re.M)
+PASSED_WORDS = re.compile(r"^pub use Rattle\.([\w.]+)\.\{([^}]*)\}$", re.M)
 
 
 @functools.cache
 def imported(text):
     """The words that a source or a proof imports, each with its path and the name that it has there."""
     uses = re.findall(r"use Rattle\.([\w.]+)\.\{([^}]*)\}", text)
-    found = ((home(path), *it.strip().partition(" as ")) for path, names in uses for it in names.split(","))
-    return {other or name: (path, name) for path, name, _, other in found}
+    found = ((path, *it.strip().partition(" as ")) for path, names in uses for it in names.split(","))
+    return {other or name: (home_of(home(path), name), name) for path, name, _, other in found}
 
 
 @functools.cache
@@ -273,6 +266,15 @@ def home(path):
             if it.endswith(f".{rest}"):
                 return home(it)
     return path
+
+
+@functools.cache
+def home_of(path, name):
+    """The path that defines a word: a file passes some on that are defined below it."""
+    crate, _, rest = path.partition(".specs.")
+    file = TOP / "crates" / crate / f"specs/{rest}.antt"
+    passed = PASSED_WORDS.findall(file.read_text(encoding="utf-8")) if rest and file.is_file() else []
+    return next((home_of(home(it), name) for it, names in passed if name in re.findall(r"[^\s,]+", names)), path)
 
 
 def word_anchor(path, name):

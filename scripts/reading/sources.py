@@ -1,6 +1,6 @@
-"""Finds what was left behind in the sources, and edits that can no longer be applied: a definition of specs/ or proofs/
-that nothing reaches from the contracts, the answers to goals and the documents; a name that a file imports and does not
-use, or that an item imports and its file has at its top. Names are compared as words, so one that two things share is told of
+"""Finds what was left behind in the sources, and edits that can no longer be applied: a definition of specs/ or proofs/ that
+nothing reaches from the contracts, the answers to goals and the documents; a name that a file imports and does not use, or
+that an item imports and its file has at its top. Names are compared as words, so one that two things share is told of
 neither.
 """
 import collections
@@ -32,8 +32,6 @@ METHODS = {
     "Hash": "hash", "Hasher": r"write\w*|finish", "Borrow": "borrow", "AllocGlobal": "alloc",
 }
 
-AT_TOP = "which the file has at its top already"
-
 
 def faults(asked=()):
     """What was left behind in these crates, or in all."""
@@ -42,7 +40,8 @@ def faults(asked=()):
     sources = [Source(it.name, path, text.decode()) for it in known.values() for path, text in it.sources.items()]
     texts = (crates.text_of(it) for pattern in DOCUMENTS for it in crates.TOP.glob(pattern))
     documents = {word for text in texts for word in SPACE.split(text)}
-    found = (it for it in Workspace(sources, documents).faults() if it[0].crate in asked)
+    left = Workspace(sources, documents)
+    found = (it for it in [*left.unreached(), *left.unused()] if it[0].crate in asked)
     yield from sorted(f"crates/{source.crate}/{source.path}: {what}" for source, what in found)
     yield from sorted(f"tests/mutations: {it}" for it in edits.read_all([it for it in asked if (edits.FOLDER / it).is_dir()])[1])
 
@@ -110,11 +109,6 @@ class Workspace:
     def __init__(self, sources, documents):
         self.sources, self.documents = sources, documents
 
-    def faults(self):
-        yield from self.unreached()
-        for it in self.sources:
-            yield from self.imports_left(it)
-
     def unreached(self):
         known, uses, left = [], collections.defaultdict(set), set(self.documents)
         for source in self.sources:
@@ -141,12 +135,12 @@ class Workspace:
             if name not in reached and "◌" not in name and file not in self.documents:
                 yield source, f"nothing names {name}"
 
-    def imports_left(self, source):
-        at_top = {name: path for it in source.imports if not it.is_inside for name, path in it.names.items()}
-        for it in source.imports:
-            for name, path in it.names.items():
+    def unused(self):
+        for source in self.sources:
+            at_top = {name: path for it in source.imports if not it.is_inside for name, path in it.names.items()}
+            for it, name, path in ((it, *named) for it in source.imports for named in it.names.items()):
                 if it.is_inside and not it.is_of_model and source.kind == ".rt" and at_top.get(name) == path:
-                    yield source, f"an item imports {name}, {AT_TOP}"
+                    yield source, f"an item imports {name}, which the file has at its top already"
                 elif not it.is_public and not self.is_used(name, path, source):
                     yield source, f"it imports {name} and does not use it"
 

@@ -23,6 +23,8 @@ def of_script(chain, where):
     lines = [f"{it[1]}\n".encode() for it in chain.calls]
     answers = [f"{it[2]}\n".encode() for it in chain.calls]
     given, output = b"".join(lines), b"".join(answers)
+    # A read that yields no bytes is the end.
+    piece = lambda it: f"<{it.hex()}>" if it else ""
     for count in range(len(given) + 1):
         complete, start = b"".join(answers[: given[:count].count(b"\n")]), f"reads {piece(given[:count])}"
         fault = f"cannot read input, 1 faults / {ANY} / {told(complete)}"
@@ -36,17 +38,8 @@ def of_script(chain, where):
         for full in ("!BrokenPipe", "0"):
             start = f"reads {piece(given)} takes {count or ''} {full}"
             yield where, start, "script", f"cannot write output, 1 faults / {ANY} / {told(output[:count])}"
-    start = " ".join([interrupted(given), "takes", *["!Interrupted 1"] * len(output)])
+    start = " ".join(["reads", *(f"!Interrupted <{it:02x}>" for it in given), "takes", *["!Interrupted 1"] * len(output)])
     yield where, start, "script", f"ok, {len(given) + len(output)} faults / {ANY} / {told(output)}"
-
-
-def piece(given):
-    """The bytes as a start has them; none where they are none, since a read that yields none is the end."""
-    return f"<{given.hex()}>" if given else ""
-
-
-def interrupted(given):
-    return " ".join(["reads", *(f"!Interrupted <{it:02x}>" for it in given)])
 
 
 def told(written):

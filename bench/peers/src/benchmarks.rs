@@ -199,6 +199,25 @@ pub fn replace_range<V: Vector<u64, N>, const N: usize>(vec: &mut V, source: &[u
     x.wrapping_add(vec.as_slice().len() as u64)
 }
 
+/// Puts the second half of `source` in the place of the second quarter, as `replace_range`, takes it out again, and puts the
+/// second quarter of `source` back.
+#[inline(never)]
+pub fn editor<V: Vector<u64, N>, const N: usize>(vec: &mut V, source: &[u64], x: u64) -> u64 {
+    let quarter = source.len() / 4;
+    if replace_range(vec, source, x) == 0 || vec.as_slice().len() < 3 * quarter {
+        return 0;
+    }
+    let mut cut = x;
+    for y in vec.drain(quarter..3 * quarter) {
+        cut = cut.wrapping_add(y);
+    }
+    if vec.as_slice().len() < quarter {
+        return 0;
+    }
+    vec.splice(quarter..quarter, source[quarter..2 * quarter].iter().copied());
+    cut
+}
+
 /// Fills the vector, and takes the odd items out.
 #[inline(never)]
 pub fn extract_half<V: Vector<u64, N>, const N: usize>(vec: &mut V, source: &[u64], x: u64) -> u64 {

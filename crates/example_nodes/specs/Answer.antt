@@ -2,7 +2,7 @@
 use Rattle.std.specs.Prelude.{◌≡◌, ◌⊎◌, ℕ, ◌+◌, ◌^◌, ◌-◌, min, nat_eq, List, [], ◌∷◌, ◌++◌, take, length, Bool, if◌then◌else◌, codes}
 use Rattle.std.specs.List.{starts_with, ends_with}
 use Rattle.std.specs.Fmt.{decimal}
-use Rattle.example_nodes.specs.Words.{Word, beginnings, leaves, spelled}
+use Rattle.example_nodes.specs.Words.{Word, beginnings, leaves, words_text}
 use Rattle.example_nodes.specs.Machine.{Outcome, right, wrong}
 use Rattle.example_nodes.specs.Outcome.{outcome}
 use Rattle.example_nodes.specs.Squares.{squares_in, squares_outcome}
@@ -24,7 +24,7 @@ later line = min (line + 1) (2 ^ 64 - 1)
 
 -- how many nodes there are, and the same words, written anew
 abbrev pub nodes_said : List Word → List ℕ
-nodes_said ws = decimal (beginnings ws) ++ (codes ": " ++ (spelled ws ++ 10 ∷ []))
+nodes_said ws = decimal (beginnings ws) ++ (codes ": " ++ (words_text ws ++ 10 ∷ []))
 
 -- how many squares there are, and the same text
 abbrev pub squares_said : List ℕ → List ℕ

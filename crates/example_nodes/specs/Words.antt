@@ -25,11 +25,11 @@ abbrev pub blank_if : Bool → List ℕ
 blank_if wanted = if wanted then 32 ∷ [] else []
 
 -- The text of some words. A blank is before each node that another precedes in its list: `blank` is for the first word.
-abbrev pub spelled_after : Bool → List Word → List ℕ
-spelled_after blank [] = []
-spelled_after blank (opening ∷ ws) = blank_if blank ++ 40 ∷ spelled_after false ws
-spelled_after blank (closing ∷ ws) = 41 ∷ spelled_after true ws
-spelled_after blank (number n ∷ ws) = blank_if blank ++ (decimal n ++ spelled_after true ws)
+abbrev pub words_text_after : Bool → List Word → List ℕ
+words_text_after blank [] = []
+words_text_after blank (opening ∷ ws) = blank_if blank ++ 40 ∷ words_text_after false ws
+words_text_after blank (closing ∷ ws) = 41 ∷ words_text_after true ws
+words_text_after blank (number n ∷ ws) = blank_if blank ++ (decimal n ++ words_text_after true ws)
 
-abbrev pub spelled : List Word → List ℕ
-spelled ws = spelled_after false ws
+abbrev pub words_text : List Word → List ℕ
+words_text ws = words_text_after false ws

@@ -2,7 +2,7 @@
 ghost use Rattle.std.specs.Prelude.{◌≡◌, ◌++◌, OnOk, false, string_bytes};
 ghost use Rattle.example_nodes.specs.Nodes.{view, views};
 ghost use Rattle.example_nodes.specs.Tree.{tree_words, words_of};
-ghost use Rattle.example_nodes.specs.Words.{blank_if, spelled_after};
+ghost use Rattle.example_nodes.specs.Words.{blank_if, words_text_after};
 
 use crate::node::Node;
 use std::alloc::AllocError;
@@ -11,7 +11,7 @@ use std::alloc::AllocError;
 #[cycle(print)]
 pub fn push_trees(text: &mut String, trees: &[Node]) -> Result<(), AllocError>
     ensures { OnOk result (string_bytes text.new
-        ≡ string_bytes text.old ++ spelled_after false (words_of (views trees.now))) }
+        ≡ string_bytes text.old ++ words_text_after false (words_of (views trees.now))) }
 {
     for (at, tree) in trees.iter().enumerate() {
         push_blank(text, at > 0)?;
@@ -23,7 +23,7 @@ pub fn push_trees(text: &mut String, trees: &[Node]) -> Result<(), AllocError>
 #[cycle(print)]
 fn push_node(text: &mut String, node: &Node) -> Result<(), AllocError>
     ensures { OnOk result (string_bytes text.new
-        ≡ string_bytes text.old ++ spelled_after false (tree_words (view node.now))) }
+        ≡ string_bytes text.old ++ words_text_after false (tree_words (view node.now))) }
 {
     match node {
         Node::Number(number) => write!(text, "{number}"),

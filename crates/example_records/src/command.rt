@@ -45,8 +45,9 @@ pub fn push_shown(
     piece: &mut String,
     recovered: &Recovered,
 ) -> Result<(), AllocError>
-    ensures { OnOk result ((shown : List ℕ) × (text.new.items ≡ text.old.items ++ shown)
+    ensures ok { OnOk result ((shown : List ℕ) × (text.new.items ≡ text.old.items ++ shown)
         × IsShown (map said recovered.now.records.items) recovered.now.end shown) }
+    ensures refused { OnErr result ((some : List ℕ) × (text.new.items ≡ text.old.items ++ some)) }
 {
     // Each line is written apart: of a note that is not ASCII, `write!` does not state that the text before it stays.
     for reading in &recovered.records {

@@ -2,7 +2,6 @@
 use Rattle.std.proofs.Common.{◌≡◌, ℕ, List, ◌∷◌, ◌++◌, drop, true, ℤ, codes, IsUtf8, refl, sym, ap, subst, ◌∙◌, arith, rules}
 use Rattle.std.specs.List.{AllByRecursion}
 use Rattle.std.proofs.lemmas.Str.{IsUtf8-from_ascii}
-use Rattle.tinyvec.specs.View.{lies_inline}
 use Rattle.tinyvec_text.specs.InlineText.{Text}
 use Rattle.tinyvec_io.specs.Lines.{ended}
 use Rattle.tinyvec_script.specs.Command.{name_text}
@@ -44,8 +43,8 @@ says (add text) is = ap add (sym (ap (drop 6) is.spelled))
 says (cut index) is = differ 2 _ _ is.spelled refl
 
 added : (new : Text) (answer : Answer ℤ) → TextStep start.x (add (codes "hi")) answer new
-    → (answer ≡ answers.Done) × (new.bytes ≡ codes "hi") × (lies_inline new.place ≡ true)
-added new answers.Done step = (refl, step.bytes_are, step.room.gets.place.1 (refl, omega arith))
+    → (answer ≡ answers.Done) × (new.bytes ≡ codes "hi") × (new.place.inline ≡ true)
+added new answers.Done step = (refl, step.bytes, ap (λ p. p.inline) step.place)
 added new answers.Memory step = absurd (let small = step.0 in omega arith)
 added new answer step = absurd step
 
@@ -60,8 +59,8 @@ text_line new text h = elim h [
   | Answered.text_done said answer command steps e ↦
       (let step = subst (λ call. TextStep start.x call answer new.x) (says said command) steps.0 in
       let made = added new.x answer step in
-      e ∙ ap (λ a. answer_text a ++ codes " " ++ text_state_text new.x.bytes (lies_inline new.x.place)) made.0
-      ∙ ap (λ bytes. codes "ok" ++ codes " " ++ text_state_text bytes (lies_inline new.x.place)) made.1
+      e ∙ ap (λ a. answer_text a ++ codes " " ++ text_state_text new.x.bytes new.x.place.inline) made.0
+      ∙ ap (λ bytes. codes "ok" ++ codes " " ++ text_state_text bytes new.x.place.inline) made.1
       ∙ ap (λ inline. codes "ok" ++ codes " " ++ text_state_text (codes "hi") inline) made.2
       ∙ shown)
   | Answered.bad none no_text e same ↦

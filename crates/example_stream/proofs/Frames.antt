@@ -18,7 +18,7 @@ use Rattle.std.specs.List.{AllByRecursion}
 use Rattle.std.proofs.KnownBytes.{Consumes-trans}
 use Rattle.tinyvec_borsh.specs.FrontsLaws.{cut-place}
 use Rattle.example_stream.specs.Errors.{stream_error}
-use Rattle.example_stream.specs.Readings.{IsReadingCut, IsReadingTooLong, ReadingFits, ReadingReason, said}
+use Rattle.example_stream.specs.Readings.{IsReadingCut, IsReadingTooLong, ReadingFits, ReadingReason, reading_apart, said}
 use Rattle.example_stream.specs.Stream.{BeginsWith, EndsBy, HasTooManySamples, IsFrameFront, NextIs, SpellsFrame, StandsBehind, Takes, tag}
 use Rattle.example_stream.specs.declared.reading.Reading.{Reading}
 use Rattle.example_stream.specs.declared.stream_error.StreamError.{StreamError}
@@ -90,7 +90,7 @@ module _ (old mid : Option (List ℕ)) (byte : ReadsSpelling (SpellsNumber 1 tag
           | inl f ↦ inl (no-front byte.0 front f.0 byte.1.many f.2 f.1)
           | inr s ↦ subst IsFrameFront (sym s.1) (frame-cut s.0 (t.needed s.0 back some s.2))
         ];
-        short = λ fault. frame-cut t.bytes (t.short fault);
+        short = λ no. frame-cut t.bytes (t.short no);
       }
 
   pub record-fails : (new : Option (List ℕ)) (before after : ℕ) (e : BorshError) → Fails ReadingReason mid before after e → TakesSome IsReadingCut mid new e → EndsBy (Err (stream_error e)) old new
@@ -99,12 +99,12 @@ module _ (old mid : Option (List ℕ)) (byte : ReadsSpelling (SpellsNumber 1 tag
       let s = frame-some new InvalidLength t in
       (behind-tag tag old mid byte tag refl HasTooManySamples (maybe-so mid IsReadingTooLong HasTooManySamples too-many f), (s.bytes, s.needed, s.taken))
   record-fails new before after InvalidUtf8 f t = absurd (maybe-not mid (ReadingReason InvalidUtf8) no-text f)
-  record-fails new before after Io f t = let s = frame-some new Io t in (maybe-any old, (s.bytes, s.short refl, s.taken))
-  record-fails new before after Memory f t = let s = frame-some new Memory t in (behind-tag tag old mid byte tag refl (λ rest. Unit {0}) (maybe-any mid), (s.bytes, s.needed, s.taken))
+  record-fails new before after Io f t = let s = frame-some new Io t in (maybe-any old, (s.bytes, s.short (λ of. of), s.taken))
+  record-fails new before after Memory f t = let s = frame-some new Memory t in (behind-tag tag old mid byte tag refl (λ rest. Unit {0}) (maybe-any mid), (s.bytes, s.short (λ of. of), s.taken))
 
   -- there is no room for a record
   pub no-room : EndsBy (Err stream.Memory) old mid
-  no-room = (behind-tag tag old mid byte tag refl (λ rest. Unit {0}) (maybe-any mid), (byte.0, λ front back some is. inl (no-front byte.0 front back byte.1.many some is), byte.2))
+  no-room = (behind-tag tag old mid byte tag refl (λ rest. Unit {0}) (maybe-any mid), (byte.0, inr ([], one-byte tag byte.0 byte.1, reading_apart.none_is_cut), byte.2))
 
 -- ---- records before it
 

@@ -69,15 +69,15 @@ IsFrameFront tail = (tail ≡ []) ⊎ IsTagged tag IsReadingCut tail
 abbrev pub FrontsAreShort : List ℕ → Type 0
 FrontsAreShort tail = (front back : List ℕ) → 0 < length back → tail ≡ front ++ back → IsFrameFront front
 
--- What was taken after the last record: no more than shows how the reading ends, and after a fault of the reader no whole
--- record. At the end of the input, which may be within a record, nothing is left.
+-- What was taken after the last record: no more than shows how the reading ends, and after a fault of the reader, or where
+-- memory was refused, no whole record. At the end of the input, which may be within a record, nothing is left.
 abbrev pub ShowsEnd : Result (Unit {0}) StreamError → (new : Option (List ℕ)) → List ℕ → Type 0
 ShowsEnd (Ok done) new tail = (tail ≡ []) × IsAtEnd new
 ShowsEnd (Err Cut) new tail = FrontsAreShort tail × IsAtEnd new
 ShowsEnd (Err WrongTag) new tail = (byte : ℕ) × (byte ≢ tag) × (tail ≡ byte ∷ [])
 ShowsEnd (Err TooManySamples) new tail = FrontsAreShort tail
 ShowsEnd (Err Io) new tail = IsFrameFront tail
-ShowsEnd (Err Memory) new tail = FrontsAreShort tail
+ShowsEnd (Err Memory) new tail = IsFrameFront tail
 
 -- These records were taken from the front of the input, and then what shows the end.
 abbrev pub Takes : List Said → Result (Unit {0}) StreamError → (old new : Option (List ℕ)) → Type 0

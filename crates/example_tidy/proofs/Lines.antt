@@ -43,12 +43,6 @@ normal_lines_twice (line ∷ all) =
     ap (λ first. first ∷ map normal_line (map normal_line all)) (normal_line_twice line)
     ∙ ap (λ rest. normal_line line ∷ rest) (normal_lines_twice all)
 
--- Normalising a text twice is normalising it once.
-pub tidied_twice : (input once twice : List ℕ) → Tidied input once → Tidied once twice → twice ≡ once
-tidied_twice input once twice first second =
-    tidied_is once twice second ∙ ap (λ all. ended (map normal_line all)) first.lines_of
-    ∙ ap ended (normal_lines_twice (lines input)) ∙ sym (tidied_is input once first)
-
 -- a normal form is its own normal form
 pub tidied_again : (input output : List ℕ) → Tidied input output → Tidied output output
 tidied_again input output tidied = record {

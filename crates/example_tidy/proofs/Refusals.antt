@@ -4,9 +4,9 @@ use Rattle.std.proofs.lemmas.Bool.{eqb-true, eqb-false}
 use Rattle.std.proofs.lemmas.List.{drop_more}
 use Rattle.std.proofs.lemmas.List.Elements.{All-get_or, All-push, All-take}
 use Rattle.tinyvec_io.specs.Lines.{IsLine, ended}
-use Rattle.example_tidy.specs.Tidy.{Advances, AllShort, EndsBeforeLong, IsShort, Refuses, SaysAtMost, TidiedBeforeLong, TidiedUpTo, normal_line}
+use Rattle.example_tidy.specs.Tidy.{Advances, AllShort, EndsBeforeLong, IsShort, Refuses, TidiedBeforeLong, TidiedUpTo, normal_line}
 use Rattle.example_tidy.proofs.Feeding.{advances_piece, advances_then}
-use Rattle.example_tidy.proofs.Saying.{says_few, says_next}
+use Rattle.example_tidy.proofs.Saying.{SaysAtMost, says_few, says_next}
 use Rattle.example_tidy.proofs.ShortLines.{short_fed, short_front, short_left, short_next}
 
 -- the line feed of a line that is not short, or has no place in what is said

@@ -3,10 +3,14 @@ use Rattle.std.proofs.Common.{◌≡◌, ℕ, ◌+◌, ◌<◌, ◌≤◌, ◌==
 use Rattle.std.specs.Str.Lines.{lines}
 use Rattle.std.proofs.lemmas.Bool.{eqb-true, eqb-false}
 use Rattle.tinyvec_io.specs.Lines.{IsLine, ended}
-use Rattle.example_tidy.specs.Tidy.{Advances, SaysAtMost, TidiedUpTo, normal_line}
+use Rattle.example_tidy.specs.Tidy.{Advances, TidiedUpTo, normal_line}
 use Rattle.example_tidy.proofs.Feeding.{begun, nothing_yet, advances_none, advances_then, advances_byte, advances_line, ends_none, ends_last}
 use Rattle.example_tidy.proofs.Lengths.{length-normal_line}
 use Rattle.example_tidy.proofs.Lines.{tidied_is}
+
+-- no more than this many bytes are said for these
+abbrev pub SaysAtMost : List ℕ → List ℕ → ℕ → Type 0
+SaysAtMost line bytes room = (said new : List ℕ) → Advances line bytes said new → length said ≤ room
 
 -- something is said for any bytes
 says : (line bytes : List ℕ) → (said new : List ℕ) × Advances line bytes said new

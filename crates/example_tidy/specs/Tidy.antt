@@ -65,10 +65,6 @@ pub record TidiedUpTo (input output line : List ℕ) : Type 0 where
 abbrev pub Advances : List ℕ → List ℕ → List ℕ → List ℕ → Type 0
 Advances old bytes said new = (input output : List ℕ) → TidiedUpTo input output old → TidiedUpTo (input ++ bytes) (output ++ said) new
 
--- no more than this many bytes are said for these
-abbrev pub SaysAtMost : List ℕ → List ℕ → ℕ → Type 0
-SaysAtMost line bytes room = (said new : List ℕ) → Advances line bytes said new → length said ≤ room
-
 -- Memory is refused at a byte: what was said before it, and the line that it belongs to, of which `line` has come. With room
 -- for this many bytes of the line and of what is said, that line is not short, or has no place in what is said.
 pub record Refuses (old bytes said line : List ℕ) (line_room room : ℕ) : Type 0 where

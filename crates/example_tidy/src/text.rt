@@ -43,6 +43,7 @@ pub(crate) fn feed(
         feed_end(alloc, line, output, end)?;
         rest = after;
     }
+    let _len = line.len();
     Ok(line.extend_from_slice_copy(rest)?)
 }
 
@@ -67,6 +68,8 @@ fn feed_end(
         end_line(alloc, end, output)?;
         return Ok(());
     }
+    // A vector that was lent is not known to fit until a call says so.
+    let _len = line.len();
     line.extend_from_slice_copy(end)?;
     end_line(alloc, line.as_slice(), output)?;
     line.clear();

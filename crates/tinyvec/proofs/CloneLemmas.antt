@@ -2,7 +2,7 @@
 use Rattle.std.proofs.Common.{◌≡◌, ℕ, Result, Ok, Err, ◌+◌, ◌-◌, ◌<◌, ◌≤◌, List, [], ◌∷◌, ◌++◌, length, take, drop, slice_range, get_or, replicate, refl, sym, ap, subst, ◌∙◌, append_assoc, arith, length-append, length-drop, length-take, append-nil, take_at, drop_at, take-append-drop}
 use Rattle.std.proofs.Concat.{each_append}
 use Rattle.std.proofs.Math.Seq.{take-add}
-use Rattle.std.proofs.lemmas.List.{places, take_more, take_rest, drop_all, replicate_more, length-replicate, get_or-replicate, get_or_default, get_or-take}
+use Rattle.std.proofs.lemmas.List.{places, take_more, take_rest, drop_all, length-replicate, get_or-replicate, get_or_default, get_or-take}
 use Rattle.std.proofs.lemmas.List.Elements.{AllZip-push, length_all_zip}
 use Rattle.std.specs.Prelude.{All, OnOk, OnErr, IsOk, if◌then◌else◌, is_ok}
 use Rattle.std.specs.List.{AllZip, AppendsClones}
@@ -27,11 +27,6 @@ module _ {T : Type 0} (C : T → T → Type 0) where
       → AppendsClones C old new (take i from) → AppendsClones C old (new ++ y ∷ []) (take n from)
   appends_of_next old new from i n x y lt next is =
       appends_next old new (take i from) (take n from) x y (ap (λ z. take i from ++ z ∷ []) is ∙ sym (take_more from i x lt) ∙ ap (λ k. take k from) (sym next))
-
-  -- one more of one value
-  pub appends_copy : (old new : List T) (i : ℕ) (x y : T) → C x y
-      → AppendsClones C old new (replicate i x) → AppendsClones C old (new ++ y ∷ []) (replicate (i + 1) x)
-  appends_copy old new i x y = appends_next old new (replicate i x) (replicate (i + 1) x) x y (replicate_more i x)
 
   -- more behind those
   pub appends_join : (old mid new xs ys zs : List T) → xs ++ ys ≡ zs → AppendsClones C old mid xs → AppendsClones C mid new ys → AppendsClones C old new zs

@@ -1,17 +1,11 @@
 -- Lemmas on items asked of an iterator by loops, one of which goes on where the other ended.
-use Rattle.std.proofs.Common.{◌≡◌, ℕ, ◌+◌, ◌-◌, ◌≤◌, List, [], ◌∷◌, ◌++◌, Option, Some, None, Result, Ok, Err, length, take, drop, take_at, length-append, append_assoc, refl, sym, ap, subst, ◌∙◌, arith}
-use Rattle.std.proofs.lemmas.List.{drop_at}
+use Rattle.std.proofs.Common.{◌≡◌, ℕ, ◌+◌, ◌≤◌, List, [], ◌∷◌, ◌++◌, Option, Some, None, Result, Ok, Err, length, length-append, append_assoc, refl, sym, ap, subst, ◌∙◌, arith}
 use Rattle.std.specs.Prelude.{MatchResult, IsOk, IfErr, OnOk, OnErr}
 use Rattle.std.specs.declared.iter.Iterator as Iterator
 use Rattle.std.specs.Iterator.{Count, size, Yields, YieldsThen, Drains, AlwaysYields}
 use Rattle.tinyvec_slots.specs.Filling.{ShowsItems}
 use Rattle.tinyvec_slots.specs.declared.no_room.NoRoom.{NoRoom}
 use Rattle.tinyvec.specs.Following.{Follows, FillsRoom}
-use Rattle.tinyvec_slots.specs.Slots.{items_in, spare_in, split_at}
-use Rattle.tinyvec_array.specs.ArrayVec.{view_of, items_of, spare_of, slots_of, len_of, SameLender, Grows}
-use Rattle.tinyvec_array.specs.declared.array_vec.ArrayVec.{ArrayVec}
-use Rattle.tinyvec_array.specs.declared.slots.Slots as Storage
-use Rattle.tinyvec_array.proofs.ViewLemmas.{SameLender-then, put_back, slots_of-back, back_lender}
 use Rattle.tinyvec_slots.proofs.FillingLemmas.{drained, refused, drained_all, refused_early}
 
 module _ {S A : Type 0} (steps : S → Option A → S → Type 0) where
@@ -70,27 +64,3 @@ pub can_go_on : {S A X : Type 0} (can : S → Type 0) (left : S → Count) (s : 
     → Follows can left s old new r → IfErr r (λ refused. can refused.rest)
 can_go_on can left s old new (Ok _) h = tt
 can_go_on can left s old new (Err e) h = h.0
-
--- What follows `front` was written, and xs stands over the first of it. The border was moved behind xs.
-module _ {T : Type 0} (front back xs ws : List T) (len : ℕ) (is : ws ≡ xs ++ drop (length xs) back) (more : len ≡ length front + length xs) where
-  pub items_filled : take len (front ++ ws) ≡ front ++ xs
-  items_filled = rw (is, ← append_assoc) (take_at (front ++ xs) (drop (length xs) back) len (length-append front xs ∙ sym more))
-
-  pub spare_filled : drop len (front ++ ws) ≡ drop (length xs) back
-  spare_filled = rw (is, ← append_assoc) (drop_at (front ++ xs) (drop (length xs) back) len (length-append front xs ∙ sym more))
-
--- the same of an array whose spare slots were lent as `back`
-pub array_filled : {S T L : Type 0} (g : Storage.Ghosts S T L) (v new : ArrayVec S L) (xs ws back : List T) (len : ℕ) → back ≡ spare_of g v → length ws ≡ length back
-    → ws ≡ xs ++ drop (length xs) back → len ≡ len_of g v + length xs → view_of g new ≡ split_at len (slots_of g (put_back g v ws)) → SameLender g (put_back g v ws) new
-    → (items_of g new ≡ items_of g v ++ xs) × Grows g v new
-array_filled g v new xs ws back len shown as_long is more cut lender =
-    let long = as_long ∙ ap length shown in
-    let over = rw shown at is in
-    let listed = ap items_in cut ∙ ap (take len) (slots_of-back g v ws long) ∙ items_filled (items_of g v) (spare_of g v) xs ws len over more in
-    let used : length xs ≡ len_of g new - len_of g v = omega (arith, ap length listed, length-append (items_of g v) xs) in (
-      listed,
-      record {
-        lender = SameLender-then g v (put_back g v ws) new (back_lender g v ws long) lender;
-        spare = ap spare_in cut ∙ ap (drop len) (slots_of-back g v ws long) ∙ spare_filled (items_of g v) (spare_of g v) xs ws len over more ∙ ap (λ k. drop k (spare_of g v)) used;
-      },
-    )

@@ -5,3 +5,5 @@ pub mod FillingLemmas
 pub mod ExtendingLemmas
 pub mod FrameLemmas
 pub mod ReplacingLemmas
+pub mod PlaceLemmas
+pub mod TookLemmas

@@ -1,15 +1,14 @@
 -- Lemmas on what refused calls leave.
 use Rattle.std.proofs.Common.{◌≡◌, ℕ, ◌+◌, ◌-◌, ◌≤◌, List, [], ◌++◌, take, drop, slice_range, refl, sym, ap, subst, ◌∙◌, le_refl, arith, append-nil, add-zero, ◌<◌, length, length-take, length-take-le, length-drop}
 use Rattle.std.proofs.lemmas.List.{get_or-take, get_or-drop, take_rest}
-use Rattle.std.specs.Prelude.{Bool, IsTrue, Ok}
+use Rattle.std.specs.Prelude.{IsTrue}
 use Rattle.std.proofs.lemmas.List.Elements.{All-nil}
 use Rattle.tinyvec_slots.specs.Slots.{AreDefaults}
 use Rattle.std.specs.List.{AllZip}
 use Rattle.tinyvec_slots.specs.Clones.{RefusedAt, ClonesOver, ClonesInPart}
 use Rattle.std.proofs.lemmas.Slice.{between_is}
-use Rattle.tinyvec.specs.View.{TinyView, view_len, view_inline, ViewInline, view_capacity, PlaceRule, TinySlotRule, SameFrame}
-use Rattle.tinyvec.specs.Room.{GrowsTo, MakesRoom}
-pub use Rattle.tinyvec.specs.FrameLaws.{place_kept}
+use Rattle.tinyvec_array.specs.ViewLaws.{rule_at}
+use Rattle.tinyvec.specs.View.{TinyView, SpareRule, SameFrame}
 
 module _ {T : Type 0} (I : T → Type 0) (xs : List T) where
   -- what was refused among the first n was refused
@@ -28,15 +27,15 @@ module _ {T : Type 0} (I : T → Type 0) (xs : List T) where
 
 -- what stands behind the list, with defaults in the slots that were vacated from m on
 abbrev Behind : {T : Type 0} → (T → Type 0) → TinyView T → TinyView T → ℕ → List T → Type 0
-Behind {T} D old new m spares = (freed : List T) × AreDefaults D (view_len old - m) freed × (new.spare ≡ freed ++ spares)
+Behind {T} D old new m spares = (freed : List T) × AreDefaults D (length old.items - m) freed × (new.spare ≡ freed ++ spares)
 
 module _ {T : Type 0} (D I : T → Type 0) (C : T → T → Type 0) (source : List T) (old new : TinyView T) (m : ℕ) where
   abbrev InPart : Type 0
-  InPart = ClonesInPart D I C source old.items new.items m (ViewInline new) old.spare new.spare
+  InPart = ClonesInPart D I C source old.items new.items m (IsTrue new.place.inline) old.spare new.spare
 
   -- the refused clone is one of the first
   pub partly_over : (j : ℕ) → j ≤ m → RefusedAt I source j → ClonesOver C (take j source) j (take m old.items) new.items
-      → (ViewInline new → Behind D old new m old.spare) → InPart
+      → (IsTrue new.place.inline → Behind D old new m old.spare) → InPart
   partly_over j le refused over spares =
       let none : m + 0 - m ≡ 0 = omega arith in
       let nothing : slice_range source m (m + 0) ≡ [] = ap (λ n. take n (drop m source)) none in
@@ -53,12 +52,12 @@ module _ {T : Type 0} (D I : T → Type 0) (C : T → T → Type 0) (source : Li
       }
 
   -- or one of those behind, and the list is as long
-  pub partly_behind : (j : ℕ) → m ≡ view_len old → RefusedAt I source (m + j) → AllZip C (take m source) new.items
-      → (ViewInline new → ClonesOver C (take j (drop m source)) j old.spare new.spare) → InPart
+  pub partly_behind : (j : ℕ) → m ≡ length old.items → RefusedAt I source (m + j) → AllZip C (take m source) new.items
+      → (IsTrue new.place.inline → ClonesOver C (take j (drop m source)) j old.spare new.spare) → InPart
   partly_behind j long refused clones spares =
       let none : m - m ≡ 0 = omega arith in
       let nothing : slice_range old.items m m ≡ [] = ap (λ n. take n (drop m old.items)) none in
-      let freed : 0 ≡ view_len old - m = omega arith in
+      let freed : 0 ≡ length old.items - m = omega arith in
       let more : m + j - m ≡ j = omega arith in
       record {
         k = m;
@@ -74,36 +73,20 @@ module _ {T : Type 0} (D I : T → Type 0) (C : T → T → Type 0) (source : Li
 
 module _ {T : Type 0} (D : T → Type 0) where
   -- the slots that a cut vacated stand as defaults before the old spare ones
-  pub cut_freed : (old mid new : TinyView T) (m : ℕ) → SameFrame mid new → view_inline mid ≡ view_inline old → TinySlotRule D old mid
-      → mid.items ≡ take m old.items → m ≤ view_len old → ViewInline new → Behind D old new m old.spare
+  pub cut_freed : (old mid new : TinyView T) (m : ℕ) → SameFrame mid new → mid.place ≡ old.place → SpareRule D old mid
+      → mid.items ≡ take m old.items → m ≤ length old.items → IsTrue new.place.inline → Behind D old new m old.spare
   cut_freed old mid new m frame same rule cut le j =
-      let was = sym frame.place ∙ j in
-      let h = rule (sym same ∙ was) was in
-      let long : view_len mid ≡ m = ap length cut ∙ length-take-le m old.items le in
-      let no_more : view_len mid - view_len old ≡ 0 = omega arith in
-      (h.0, (h.1.0 ∙ ap (λ n. view_len old - n) long, h.1.1), frame.spare ∙ h.2 ∙ ap (λ n. h.0 ++ drop n old.spare) no_more)
+      let was = sym (ap (λ p. p.inline) frame.place) ∙ j in
+      let h = rule_at D old mid rule (sym (ap (λ p. p.inline) same) ∙ was) was in
+      let long : length mid.items ≡ m = ap length cut ∙ length-take-le m old.items le in
+      let no_more : length mid.items - length old.items ≡ 0 = omega arith in
+      (h.0, (h.1.0 ∙ ap (λ n. length old.items - n) long, h.1.1), frame.spare ∙ h.2 ∙ ap (λ n. h.0 ++ drop n old.spare) no_more)
 
   -- a list that is as long vacated none
-  pub none_freed : (old new : TinyView T) (m : ℕ) → m ≡ view_len old → new.spare ≡ old.spare → Behind D old new m old.spare
+  pub none_freed : (old new : TinyView T) (m : ℕ) → m ≡ length old.items → new.spare ≡ old.spare → Behind D old new m old.spare
   none_freed old new m long same = ([], (omega arith, All-nil D), same)
 
 -- room was made first: a list that is inline afterwards had its old spare slots then
-pub spare_kept : {T : Type 0} (old mid new : TinyView T) → (ViewInline mid → mid ≡ old) → view_inline new ≡ view_inline mid
-    → ViewInline new → mid.spare ≡ old.spare
-spare_kept old mid new stays place i = ap (λ v. v.spare) (stays (subst IsTrue place i))
-
--- a call that needs room for `need` items had it, or allocated it
-abbrev pub RoomGranted : {T : Type 0} → (exact : Bool) → ℕ → TinyView T → TinyView T → Type 0
-RoomGranted exact need old new =
-    PlaceRule need old new × (need ≤ view_capacity old → view_capacity new ≡ view_capacity old) × GrowsTo exact need old new
-
-module _ {T : Type 0} (exact : Bool) (need : ℕ) (old new : TinyView T) where
-  -- a list that stayed where its room was granted, and kept that room
-  pub granted_then : {X E : Type 0} (mid : TinyView T) (x : X) → view_inline new ≡ view_inline mid → view_capacity new ≡ view_capacity mid
-      → MakesRoom {E = E} exact need old mid (Ok x) → RoomGranted exact need old new
-  granted_then mid x stays same made =
-      ((λ i. made.gets.place.0 (sym stays ∙ i), λ both. stays ∙ made.gets.place.1 both), λ room. same ∙ made.keeps.same_room room, λ less. same ∙ made.gets.grown less)
-
-  -- there was room before
-  pub granted_before : view_inline new ≡ view_inline old → view_capacity new ≡ view_capacity old → need ≤ view_capacity old → RoomGranted exact need old new
-  granted_before stays same le = (place_kept need old new stays le, λ _. same, λ less. absurd (omega (arith, le, less)))
+pub spare_kept : {T : Type 0} (old mid new : TinyView T) → (IsTrue mid.place.inline → mid ≡ old) → new.place ≡ mid.place
+    → IsTrue new.place.inline → mid.spare ≡ old.spare
+spare_kept old mid new stays place i = ap (λ v. v.spare) (stays (sym (ap (λ p. p.inline) place) ∙ i))

@@ -1,13 +1,13 @@
 -- What a `TinyVec` is after a borrow of its items.
-use Rattle.std.specs.Prelude.{◌≡◌, ℕ, List, ◌+◌, slice_set, false, Result}
+use Rattle.std.specs.Prelude.{length}
+use Rattle.std.specs.Prelude.{◌≡◌, ℕ, List, ◌+◌, slice_set, Result}
 use Rattle.std.specs.Borrow.{Lends, LendsSoOk, Fml, RattleType, MutBor, Array}
 use Rattle.std.specs.Vec as vec
 use Rattle.tinyvec_array.specs.ArrayVec.{slots_of}
 use Rattle.tinyvec_array.specs.Lends.{at_slots, with_items_of}
 use Rattle.tinyvec_array.specs.declared.slots.Slots as Storage
-use Rattle.tinyvec.specs.View.{Unchanged}
-use Rattle.tinyvec.specs.TinyVec.{tiny_view_of, tiny_items_of, tiny_len_of}
-use Rattle.tinyvec.specs.Room.{MakesRoom}
+use Rattle.tinyvec.specs.View.{BecomesIn, Doubled, place_for}
+use Rattle.tinyvec.specs.TinyVec.{view}
 use Rattle.tinyvec.specs.declared.tiny_vec.TinyVec.{TinyVec}
 use Rattle.tinyvec.specs.declared.tiny_vec.TinyVec.TheVariants.{Inline, Heap}
 use Rattle.tinyvec.specs.contracts.tiny_vec.TinyVec.{the_row}
@@ -33,7 +33,7 @@ module _ (A L I : RattleType) (g : Storage.Ghosts A.Denot I.Denot L.Denot) (v : 
 
   -- r is a new item: once its borrow ends, the list is `with` of what r shows last, and room was made as by `push`. At `Err` nothing
   -- changes.
-  abbrev pub lends_added : {E : Type 0} → (I.Denot → List I.Denot) → Result (MutBor I.Denot) E → Fml
-  lends_added with r = LendsSoOk (the_row A I L) I v r
-      (λ n x. (tiny_items_of g n ≡ with x) × MakesRoom false (tiny_len_of g v.now + 1) (tiny_view_of g v.now) (tiny_view_of g n) r)
-      (λ n. Unchanged (tiny_view_of g v.now) (tiny_view_of g n))
+  abbrev pub lends_added : {E : Type 0} → (I.Denot → Type 0) → (I.Denot → List I.Denot) → Result (MutBor I.Denot) E → Fml
+  lends_added D with r = LendsSoOk (the_row A I L) I v r
+      (λ n x. BecomesIn D (view g v.now) (view g n) (with x) (place_for Doubled (length (view g v.now).items + 1) (view g v.now).place))
+      (λ n. view g n ≡ view g v.now)

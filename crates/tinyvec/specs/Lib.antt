@@ -27,3 +27,4 @@ pub mod FrameLaws
 pub mod SpliceLaws
 pub mod DrainLaws
 pub mod Following
+pub mod PlaceLaws

@@ -1,7 +1,7 @@
 //! What moves a range of items out of a vector.
 ghost use Rattle.std.specs.Prelude.{◌≡◌, ◌++◌, length, codes, ◌≤◌, ◌+◌, vec_len, vec_capacity};
 ghost use Rattle.tinyvec_slots.specs.Ranges.{IsRangeOf, before, removed, after};
-ghost use Rattle.tinyvec.specs.TinyVec.{tiny_items_of, tiny_view_of};
+ghost use Rattle.tinyvec.specs.TinyVec.{view};
 ghost use Rattle.tinyvec.specs.View.{Becomes};
 
 use crate::TinyVec;
@@ -24,14 +24,14 @@ impl<A: Array> TinyVec<A> {
     #[inline(always)]
     pub fn drain<R: RangeBounds<usize>>(&mut self, range: R) -> TinyVecDrain<'_, A>
         requires not_exhausted { R.has_bounds range }
-        requires in_list { IsRangeOf (tiny_items_of A.Slots self.old) (R.start_bound range) (R.end_bound range) }
+        requires in_list { IsRangeOf (view A.Slots self.old).items (R.start_bound range) (R.end_bound range) }
         ensures begins { DrainBegins ⟦<TinyVec<A> as CanDrain>⟧ self.entry
-            (removed (tiny_items_of A.Slots self.old) (R.start_bound range) (R.end_bound range))
-            (before (tiny_items_of A.Slots self.old) (R.start_bound range)
-            ++ after (tiny_items_of A.Slots self.old) (R.end_bound range))
-            (λ v. Becomes A.Item.is_default (tiny_view_of A.Slots self.old) (tiny_view_of A.Slots v)
-            (before (tiny_items_of A.Slots self.old) (R.start_bound range)
-            ++ after (tiny_items_of A.Slots self.old) (R.end_bound range))) result }
+            (removed (view A.Slots self.old).items (R.start_bound range) (R.end_bound range))
+            (before (view A.Slots self.old).items (R.start_bound range)
+            ++ after (view A.Slots self.old).items (R.end_bound range))
+            (λ v. Becomes A.Item.is_default (view A.Slots self.old) (view A.Slots v)
+            (before (view A.Slots self.old).items (R.start_bound range)
+            ++ after (view A.Slots self.old).items (R.end_bound range))) result }
         ensures vec { drain_vec result ≡ self.old }
     {
         let part = resolve_range(range, self.len());
@@ -43,15 +43,15 @@ impl<A: Array> TinyVec<A> {
     /// `not_exhausted` fails only for a `RangeInclusive` that was iterated to its end.
     pub fn drain_into<R: RangeBounds<usize>>(&mut self, range: R, out: &mut Vec<A::Item>)
         requires not_exhausted { R.has_bounds range }
-        requires in_list { IsRangeOf (tiny_items_of A.Slots self.old) (R.start_bound range) (R.end_bound range) }
+        requires in_list { IsRangeOf (view A.Slots self.old).items (R.start_bound range) (R.end_bound range) }
         requires room { vec_len out.old
-            + length (removed (tiny_items_of A.Slots self.old) (R.start_bound range) (R.end_bound range))
+            + length (removed (view A.Slots self.old).items (R.start_bound range) (R.end_bound range))
             ≤ vec_capacity out.old }
-        ensures becomes { Becomes A.Item.is_default (tiny_view_of A.Slots self.old) (tiny_view_of A.Slots self.new)
-            (before (tiny_items_of A.Slots self.old) (R.start_bound range) ++ after
-            (tiny_items_of A.Slots self.old) (R.end_bound range)) }
+        ensures becomes { Becomes A.Item.is_default (view A.Slots self.old) (view A.Slots self.new)
+            (before (view A.Slots self.old).items (R.start_bound range) ++ after
+            (view A.Slots self.old).items (R.end_bound range)) }
         ensures moved { out.new.items
-            ≡ out.old.items ++ removed (tiny_items_of A.Slots self.old) (R.start_bound range) (R.end_bound range) }
+            ≡ out.old.items ++ removed (view A.Slots self.old).items (R.start_bound range) (R.end_bound range) }
         ensures out_capacity { vec_capacity out.new ≡ vec_capacity out.old }
     {
         let part = resolve_range(range, self.len());
@@ -68,7 +68,7 @@ impl<A: Array> CanDrain for TinyVec<A> {
 
     type Item = A::Item;
 
-    ghost held = { tiny_items_of A.Slots };
+    ghost held = { λ v. (view A.Slots v).items };
 
     ghost Kept = { FrameOf A.Slots };
 

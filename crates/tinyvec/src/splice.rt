@@ -1,23 +1,27 @@
 //! The splice: what replaces a range of items by those of an iterator.
-ghost use Rattle.std.specs.Prelude.{◌≡◌, length, false, codes, Some, ◌+◌, ◌-◌, ◌<◌, ◌≤◌, ◌∷◌, ◌++◌, List, take, drop, IsOk};
-ghost use Rattle.std.specs.Prelude.{OnErr, IfErr, MatchResult, OnOk, true};
+ghost use Rattle.std.specs.Prelude.{IsTrue, ◌≡◌, length, false, codes, Some, ◌+◌, ◌-◌, ◌<◌, ◌≤◌, ◌∷◌, ◌++◌, List, take, drop, IsOk};
+ghost use Rattle.std.specs.Prelude.{OnErr, IfErr, MatchResult, OnOk, true, vec_len, vec_capacity};
+ghost use Rattle.tinyvec.specs.OnHeap.{HeapBecomes};
 ghost use Rattle.std.specs.Iterator.{IsFinite, Drains, YieldsThen};
 ghost use Rattle.std.specs.Iterator.Adapters.{fuse_done, fuse_source, fuse_steps};
 ghost use Rattle.tinyvec_slots.specs.Fused.{FusedCan, fused_rest};
-ghost use Rattle.tinyvec_slots.specs.Ranges.{IsRangeOf, before, removed, after};
-ghost use Rattle.tinyvec.specs.TinyVec.{tiny_items_of, tiny_len_of, is_inline, IsInline, tiny_capacity_of, tiny_view_of};
-ghost use Rattle.tinyvec.specs.View.{TinySlotRule, StaysInPlace, Becomes, Unchanged};
+ghost use Rattle.tinyvec_slots.specs.Ranges.{IsRangeOf, Within, before, removed, after};
+ghost use Rattle.tinyvec.specs.TinyVec.{view};
+ghost use Rattle.tinyvec.specs.View.{StaysInPlace, Becomes, BecomesIn, Reserved, place_for};
 ghost use Rattle.tinyvec_slots.specs.Filling.{IntoIterYields, ShowsItems};
 ghost use Rattle.tinyvec_slots.specs.Replacing.{PutsBetween};
 ghost use Rattle.tinyvec_slots.specs.AnySplice.{SpliceBegins};
-ghost use Rattle.tinyvec.specs.Room.{KeepsRoom, GetsRoom, GrowsByPushes};
+ghost use Rattle.tinyvec.specs.Room.{GrowsByPushes};
 
 use crate::TinyVec;
+use crate::tuned::push_copies;
 use std::alloc::AllocError;
 use std::iter::Fuse;
 use std::ops::{Range, RangeBounds};
 use tinyvec_array::Array;
-use tinyvec_slots::authors::{CanCut, CanSplice, Touches, resolve_range, splice_over};
+use tinyvec_slots::authors::{
+    CanCut, CanSplice, Touches, replace_within, resolve_range, splice_over,
+};
 use tinyvec_slots::{NoRoom, Splice};
 
 /// Yields the items of a range of a `TinyVec`, and puts those of `replacement` in their place.
@@ -36,17 +40,17 @@ impl<A: Array> TinyVec<A> {
         replacement: I,
     ) -> TinyVecSplice<'_, A, Fuse<I::IntoIter>>
         requires not_exhausted { R.has_bounds range }
-        requires in_list { IsRangeOf (tiny_items_of A.Slots self.old) (R.start_bound range) (R.end_bound range) }
-        ensures begins { SpliceBegins (before (tiny_items_of A.Slots self.old) (R.start_bound range))
-            (removed (tiny_items_of A.Slots self.old) (R.start_bound range) (R.end_bound range))
-            (after (tiny_items_of A.Slots self.old) (R.end_bound range)) (splice_view (tiny_items_of A.Slots) result)
+        requires in_list { IsRangeOf (view A.Slots self.old).items (R.start_bound range) (R.end_bound range) }
+        ensures begins { SpliceBegins (before (view A.Slots self.old).items (R.start_bound range))
+            (removed (view A.Slots self.old).items (R.start_bound range) (R.end_bound range))
+            (after (view A.Slots self.old).items (R.end_bound range)) (splice_view (λ v. (view A.Slots v).items) result)
             (splice_len result) }
         ensures replacement { I.into_iter_gives replacement (fuse_source (splice_replacement result)) }
         ensures unasked { fuse_done (splice_replacement result) ≡ false }
         ensures vec { splice_vec result ≡ self.old }
         ensures same_reference { splice_lender result ≡ self.entry.ghost_name }
-        ensures ready { SpliceCanStep (tiny_items_of A.Slots) result }
-        ensures inline_capacity { IsInline self.old → tiny_capacity_of A.Slots self.old ≡ A.CAPACITY }
+        ensures ready { SpliceCanStep (λ v. (view A.Slots v).items) result }
+        ensures inline_capacity { IsTrue (view A.Slots self.old).place.inline → (view A.Slots self.old).place.capacity ≡ A.CAPACITY }
     {
         let part = resolve_range(range, self.len());
         splice_over(self, part.start, part.end, replacement.into_iter())
@@ -63,20 +67,20 @@ impl<A: Array> TinyVec<A> {
         replacement: I,
     ) -> Result<(), NoRoom<A::Item, Fuse<I::IntoIter>>>
         requires not_exhausted { R.has_bounds range }
-        requires in_list { IsRangeOf (tiny_items_of A.Slots self.old) (R.start_bound range) (R.end_bound range) }
+        requires in_list { IsRangeOf (view A.Slots self.old).items (R.start_bound range) (R.end_bound range) }
         requires can { (it : I.IntoIter) → I.into_iter_gives replacement it
             → I.IntoIter.can_next it × IsFinite (I.IntoIter.remaining it) }
         ensures ran { (it : Fuse I.IntoIter) × (xs : List A.Item) × I.into_iter_gives replacement (fuse_source it)
             × (fuse_done it ≡ false)
             × MatchResult result (λ _. Drains (fuse_steps I.IntoIter.next_gives) it xs)
             (λ refused. YieldsThen (fuse_steps I.IntoIter.next_gives) it xs (Some refused.item) refused.rest)
-            × (tiny_items_of A.Slots self.new ≡ before (tiny_items_of A.Slots self.old) (R.start_bound range) ++ xs
-            ++ after (tiny_items_of A.Slots self.old) (R.end_bound range)) }
+            × ((view A.Slots self.new).items ≡ before (view A.Slots self.old).items (R.start_bound range) ++ xs
+            ++ after (view A.Slots self.old).items (R.end_bound range)) }
 
         // It refuses none while there is room.
-        ensures full { OnErr result (tiny_len_of A.Slots self.new ≡ tiny_capacity_of A.Slots self.new) }
-        ensures grows { GrowsByPushes A.Item.is_default (tiny_view_of A.Slots self.old) (tiny_view_of A.Slots self.new) }
-        ensures no_shorter { OnErr result (tiny_len_of A.Slots self.old ≤ tiny_len_of A.Slots self.new) }
+        ensures full { OnErr result (length (view A.Slots self.new).items ≡ (view A.Slots self.new).place.capacity) }
+        ensures grows { GrowsByPushes A.Item.is_default (view A.Slots self.old) (view A.Slots self.new) }
+        ensures no_shorter { OnErr result (length (view A.Slots self.old).items ≤ length (view A.Slots self.new).items) }
 
         // The returned iterator can be iterated further.
         ensures goes_on { IfErr result (λ refused. FusedCan I.IntoIter.can_next refused.rest) }
@@ -84,23 +88,22 @@ impl<A: Array> TinyVec<A> {
         // For an iterator of which `rest` shows the remaining items. If there is room for them it allocates nothing.
         ensures listed { (rest : I.IntoIter → List A.Item) → ShowsItems I.IntoIter.next_gives rest
             → (it : I.IntoIter) × I.into_iter_gives replacement it
-            × (length (before (tiny_items_of A.Slots self.old) (R.start_bound range)) + length (rest it)
-            + length (after (tiny_items_of A.Slots self.old) (R.end_bound range)) ≤ tiny_capacity_of A.Slots self.old
+            × (length (before (view A.Slots self.old).items (R.start_bound range)) + length (rest it)
+            + length (after (view A.Slots self.old).items (R.end_bound range)) ≤ (view A.Slots self.old).place.capacity
             → IsOk result)
-            × OnOk result (tiny_items_of A.Slots self.new ≡ before (tiny_items_of A.Slots self.old)
+            × OnOk result ((view A.Slots self.new).items ≡ before (view A.Slots self.old).items
             (R.start_bound range) ++ rest it
-            ++ after (tiny_items_of A.Slots self.old) (R.end_bound range))
+            ++ after (view A.Slots self.old).items (R.end_bound range))
             × IfErr result (λ refused. (placed : List A.Item) × (rest it ≡ placed
             ++ refused.item ∷ fused_rest rest refused.rest)
-            × (tiny_items_of A.Slots self.new ≡ before (tiny_items_of A.Slots self.old) (R.start_bound range) ++ placed
-            ++ after (tiny_items_of A.Slots self.old) (R.end_bound range))) }
+            × ((view A.Slots self.new).items ≡ before (view A.Slots self.old).items (R.start_bound range) ++ placed
+            ++ after (view A.Slots self.old).items (R.end_bound range))) }
 
         // For items that are known, as those of a `Vec`, a range or a slice. If there is room for them it allocates nothing.
         ensures known { (xs : List A.Item) → IntoIterYields I.into_iter_gives I.IntoIter.next_gives replacement xs
-            → PutsBetween (tiny_capacity_of A.Slots self.old) (before (tiny_items_of A.Slots self.old)
+            → PutsBetween (view A.Slots self.old).place.capacity (before (view A.Slots self.old).items
             (R.start_bound range)) xs
-            (after (tiny_items_of A.Slots self.old) (R.end_bound range)) result (tiny_items_of A.Slots self.new) }
-        ensures inline_capacity { IsInline self.old → tiny_capacity_of A.Slots self.old ≡ A.CAPACITY }
+            (after (view A.Slots self.old).items (R.end_bound range)) result (view A.Slots self.new).items }
     {
         let splice = self.splice(range, replacement);
         splice.finish()
@@ -116,23 +119,19 @@ impl<A: Array> TinyVec<A> {
     where
         A::Item: Copy,
         requires not_exhausted { R.has_bounds range }
-        requires in_list { IsRangeOf (tiny_items_of A.Slots self.old) (R.start_bound range) (R.end_bound range) }
-        ensures items { OnOk result (tiny_items_of A.Slots self.new
-            ≡ before (tiny_items_of A.Slots self.old) (R.start_bound range) ++ replacement.now
-            ++ after (tiny_items_of A.Slots self.old) (R.end_bound range)) }
-        ensures room { OnOk result (GetsRoom (is_inline self.old) (tiny_len_of A.Slots self.new)
-            (tiny_view_of A.Slots self.old) (tiny_view_of A.Slots self.new)) }
-        ensures keeps { KeepsRoom (tiny_len_of A.Slots self.new) (tiny_view_of A.Slots self.old)
-            (tiny_view_of A.Slots self.new) }
-        ensures slot_rule { OnOk result (TinySlotRule A.Item.is_default (tiny_view_of A.Slots self.old)
-            (tiny_view_of A.Slots self.new)) }
+        requires in_list { IsRangeOf (view A.Slots self.old).items (R.start_bound range) (R.end_bound range) }
+        ensures items { OnOk result ((view A.Slots self.new).items
+            ≡ before (view A.Slots self.old).items (R.start_bound range) ++ replacement.now
+            ++ after (view A.Slots self.old).items (R.end_bound range)) }
+        ensures ok { OnOk result (BecomesIn A.Item.is_default (view A.Slots self.old)
+            (view A.Slots self.new) (view A.Slots self.new).items
+            (place_for Reserved (length (view A.Slots self.new).items) (view A.Slots self.old).place)) }
 
         // If there is room it allocates nothing.
-        ensures succeeds { length (before (tiny_items_of A.Slots self.old) (R.start_bound range)) + length replacement.now
-            + length (after (tiny_items_of A.Slots self.old) (R.end_bound range)) ≤ tiny_capacity_of A.Slots self.old
+        ensures succeeds { length (before (view A.Slots self.old).items (R.start_bound range)) + length replacement.now
+            + length (after (view A.Slots self.old).items (R.end_bound range)) ≤ (view A.Slots self.old).place.capacity
             → IsOk result }
-        ensures refused { OnErr result (Unchanged (tiny_view_of A.Slots self.old) (tiny_view_of A.Slots self.new)) }
-        ensures inline_capacity { IsInline self.old → tiny_capacity_of A.Slots self.old ≡ A.CAPACITY }
+        ensures refused { OnErr result (view A.Slots self.new ≡ view A.Slots self.old) }
     {
         let part = resolve_range(range, self.len());
         let more = replacement.len().saturating_sub(part.end - part.start);
@@ -146,19 +145,64 @@ impl<A: Array> TinyVec<A> {
     where
         A::Item: Copy,
         requires start_le_end { part.start ≤ part.end }
-        requires in_list { part.end ≤ tiny_len_of A.Slots self.old }
-        requires room { tiny_len_of A.Slots self.old - (part.end - part.start) + length replacement.now
-            ≤ tiny_capacity_of A.Slots self.old }
-        ensures { Becomes A.Item.is_default (tiny_view_of A.Slots self.old) (tiny_view_of A.Slots self.new)
-            (take part.start (tiny_items_of A.Slots self.old) ++ replacement.now ++ drop part.end
-            (tiny_items_of A.Slots self.old)) }
+        requires in_list { part.end ≤ length (view A.Slots self.old).items }
+        requires room { length (view A.Slots self.old).items - (part.end - part.start) + length replacement.now
+            ≤ (view A.Slots self.old).place.capacity }
+        ensures { Becomes A.Item.is_default (view A.Slots self.old) (view A.Slots self.new)
+            (take part.start (view A.Slots self.old).items ++ replacement.now ++ drop part.end
+            (view A.Slots self.old).items) }
     {
-        let _all_fit = self.splice_all(part, replacement.iter().copied());
+        match self {
+            TinyVec::Inline(v, _) => {
+                let _fits = v.replace_range(part, replacement);
+            }
+            TinyVec::Heap(v) => replace_on_heap(v, part.start, part.end, replacement),
+        }
     }
 }
 
+// `replace_range` of a list on the heap that has room. Inlined, since a caller often knows how long the range is.
+#[inline(always)]
+fn replace_on_heap<T: Copy + Default + Drop>(heap: &mut Vec<T>, start: usize, end: usize, new: &[T])
+    requires in_list { Within start end (vec_len heap.old) }
+    requires room { vec_len heap.old - (end - start) + length new.now ≤ vec_capacity heap.old }
+    ensures { HeapBecomes heap.old heap.new (take start heap.old.items ++ new.now ++ drop end heap.old.items) }
+{
+    let len = heap.len();
+    let new_len = len - (end - start) + new.len();
+    push_tail(heap, new, end - start);
+    replace_within(heap.as_mut_slice(), start, end, len, new, usize::MAX);
+    heap.truncate(new_len);
+}
+
+// Appends copies of the items of `from` but for the first `n`, if there is room.
+#[inline(always)]
+fn push_tail<T: Copy>(heap: &mut Vec<T>, from: &[T], n: usize)
+    requires { vec_len heap.old + (length from.now - n) ≤ vec_capacity heap.old }
+    ensures { HeapBecomes heap.old heap.new (heap.old.items ++ drop n from.now) }
+{
+    let more = &from[n.min(from.len())..];
+    // Fewer are worth no call.
+    if 8 < more.len() {
+        push_apart(heap, more);
+        return;
+    }
+    for i in 0..more.len() {
+        heap.push_reserved(more[i]);
+    }
+}
+
+// `push_copies`, in a call of its own.
+#[inline(never)]
+fn push_apart<T: Copy>(heap: &mut Vec<T>, from: &[T])
+    requires room { vec_len heap.old + length from.now ≤ vec_capacity heap.old }
+    ensures { HeapBecomes heap.old heap.new (heap.old.items ++ from.now) }
+{
+    push_copies(heap, from);
+}
+
 impl<A: Array> CanSplice for TinyVec<A> {
-    ghost use Rattle.tinyvec.specs.SpliceLaws.{frame_refl, frame_then, frame_grows, stays_grows};
+    ghost use Rattle.tinyvec.specs.SpliceLaws.{frame_refl, frame_then, frame_room, frame_grows, stays_grows, grows_room};
 
     // No number of touches is promised.
     ghost counted = { false };
@@ -167,7 +211,7 @@ impl<A: Array> CanSplice for TinyVec<A> {
 
     ghost splice_word = { codes "TinyVecSplice" };
 
-    ghost Grown = { λ v w. GrowsByPushes A.Item.is_default (tiny_view_of A.Slots v) (tiny_view_of A.Slots w) };
+    ghost Grown = { λ v w. GrowsByPushes A.Item.is_default (view A.Slots v) (view A.Slots w) };
 
     fn splice_name() -> &'static str {
         "TinyVecSplice"
@@ -200,16 +244,16 @@ impl<A: Array> CanSplice for TinyVec<A> {
 
     ghost kept_then = { frame_then A.Slots };
 
-    ghost kept_room = { λ v w k. k.capacity };
+    ghost kept_room = { frame_room A.Slots };
 
     ghost kept_len = { λ v w k. k.len };
 
-    ghost kept_grown = { λ u v w x. frame_grows A.Item.is_default (tiny_view_of A.Slots u)
-        (tiny_view_of A.Slots v) (tiny_view_of A.Slots w) (tiny_view_of A.Slots x) };
+    ghost kept_grown = { λ u v w x. frame_grows A.Item.is_default (view A.Slots u)
+        (view A.Slots v) (view A.Slots w) (view A.Slots x) };
 
-    ghost cut_grown = { λ v w. stays_grows A.Item.is_default (tiny_view_of A.Slots v) (tiny_view_of A.Slots w) };
+    ghost cut_grown = { λ v w. stays_grows A.Item.is_default (view A.Slots v) (view A.Slots w) };
 
-    ghost grown_room = { λ v w h. h.keeps.capacity };
+    ghost grown_room = { λ v w. grows_room A.Item.is_default (view A.Slots v) (view A.Slots w) };
 }
 
 impl<A: Array> CanCut for TinyVec<A> {
@@ -219,15 +263,15 @@ impl<A: Array> CanCut for TinyVec<A> {
 
     type Item = A::Item;
 
-    ghost items = { tiny_items_of A.Slots };
+    ghost items = { λ v. (view A.Slots v).items };
 
     ghost with_items = { tiny_with_items A.Slots };
 
-    ghost room = { tiny_capacity_of A.Slots };
+    ghost room = { λ v. (view A.Slots v).place.capacity };
 
     ghost Kept = { FrameOf A.Slots };
 
-    ghost Truncated = { λ v w. StaysInPlace A.Item.is_default (tiny_view_of A.Slots v) (tiny_view_of A.Slots w) };
+    ghost Truncated = { λ v w. StaysInPlace A.Item.is_default (view A.Slots v) (view A.Slots w) };
 
     #[inline]
     fn as_slice(&self) -> &[A::Item] {
@@ -246,6 +290,6 @@ impl<A: Array> CanCut for TinyVec<A> {
 
     ghost written = { tiny_written A.Slots };
 
-    ghost kept_cut = { λ u v w. frame_becomes A.Item.is_default (tiny_view_of A.Slots u)
-        (tiny_view_of A.Slots v) (tiny_view_of A.Slots w) (tiny_items_of A.Slots w) };
+    ghost kept_cut = { λ u v w. frame_becomes A.Item.is_default (view A.Slots u)
+        (view A.Slots v) (view A.Slots w) (view A.Slots w).items };
 }

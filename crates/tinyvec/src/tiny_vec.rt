@@ -1,9 +1,9 @@
 //! `TinyVec`.
-ghost use Rattle.std.specs.Prelude.{◌≡◌, ◌+◌, ◌<◌, ◌≤◌, ◌==◌, not, length, slice_index_or, slice_set, ◌-◌, ◌↔◌, ℕ, All, []};
+ghost use Rattle.std.specs.Prelude.{IsTrue, ◌≡◌, ◌+◌, ◌<◌, ◌≤◌, ◌==◌, not, length, slice_index_or, slice_set, ◌-◌, ◌↔◌, ℕ, All, []};
 ghost use Rattle.std.specs.Prelude.{take, drop, IsOk, IsErr, IfOk, IfErr, OnErr, vec_capacity, List, false};
-ghost use Rattle.tinyvec.specs.TinyVec.{tiny_items_of, tiny_len_of, tiny_spare_of, is_inline, tiny_capacity_of, IsInline};
-ghost use Rattle.tinyvec.specs.TinyVec.{tiny_allocator, tiny_view_of};
-ghost use Rattle.tinyvec.specs.View.{HoldsInline, SameFrame};
+ghost use Rattle.tinyvec.specs.TinyVec.{view};
+ghost use Rattle.tinyvec.specs.TinyVec.{tiny_allocator};
+ghost use Rattle.tinyvec.specs.View.{HoldsInline, IsNew, SameFrame};
 ghost use Rattle.tinyvec.specs.Room.{MadeFor};
 ghost use Rattle.tinyvec_slots.specs.Slots.{AreDefaults};
 ghost use Rattle.tinyvec_array.specs.ArrayVec.{items_of, spare_of};
@@ -37,14 +37,14 @@ pub enum TinyVec<A: Drop, T: Drop = <A as Slots>::Item, L: Drop = <A as Slots>::
 impl<A: Slots> TinyVec<A> {
     /// The list of an `ArrayVec`, inline, with its spare slots.
     pub fn from_array_vec(alloc: Global, vec: ArrayVec<A>) -> Self
-        ensures { HoldsInline (items_of A.Slots vec) (spare_of A.Slots vec) (tiny_view_of A.Slots result) }
+        ensures { HoldsInline (items_of A.Slots vec) (spare_of A.Slots vec) (view A.Slots result) }
     {
         TinyVec::Inline(vec, alloc)
     }
 
     /// Whether the list has no items.
     pub fn is_empty(&self) -> bool
-        ensures { result ≡ (tiny_len_of A.Slots self.now == 0) }
+        ensures { result ≡ (length (view A.Slots self.now).items == 0) }
     {
         match self {
             TinyVec::Inline(v, _) => v.is_empty(),
@@ -54,7 +54,7 @@ impl<A: Slots> TinyVec<A> {
 
     /// Whether the list is in the array.
     pub fn is_inline(&self) -> bool
-        ensures { result ≡ is_inline self.now }
+        ensures { result ≡ (view A.Slots self.now).place.inline }
     {
         match self {
             TinyVec::Inline(_, _) => true,
@@ -64,14 +64,14 @@ impl<A: Slots> TinyVec<A> {
 
     /// Whether the list is on the heap.
     pub fn is_heap(&self) -> bool
-        ensures { result ≡ not (is_inline self.now) }
+        ensures { result ≡ not (view A.Slots self.now).place.inline }
     {
         !self.is_inline()
     }
 
     /// The items.
     pub fn as_slice(&self) -> &[A::Item]
-        ensures { result.now ≡ tiny_items_of A.Slots self.now }
+        ensures { result.now ≡ (view A.Slots self.now).items }
     {
         match self {
             TinyVec::Inline(v, _) => v.as_slice(),
@@ -84,7 +84,7 @@ impl<A: Slots> TinyVec<A> {
     /// The items, for writing.
     pub fn as_mut_slice(&mut self) -> &mut [A::Item]
         ensures* writes_back { sem 𝓛 (lends_items A.row A.Len.row A.Item.row A.Slots self.entry result) }
-        ensures value { result.now ≡ tiny_items_of A.Slots self.old }
+        ensures value { result.now ≡ (view A.Slots self.old).items }
     {
         match self {
             TinyVec::Inline(v, _) => v.as_mut_slice(),
@@ -96,7 +96,7 @@ impl<A: Slots> TinyVec<A> {
 
     /// Iterates over the items, in order or from the back.
     pub fn iter(&self) -> slice::Iter<'_, A::Item>
-        ensures { Iterates (tiny_items_of A.Slots self.now) result }
+        ensures { Iterates (view A.Slots self.now).items result }
     {
         self.as_slice().iter()
     }
@@ -105,11 +105,11 @@ impl<A: Slots> TinyVec<A> {
     /// spare slots and the place, and after one over `as_mut_slice().iter_mut()` the items too.
     pub fn iter_mut(&mut self) -> slice::IterMut<'_, A::Item>
         ensures* writes_back { sem 𝓛 (lends_iter A.row A.Len.row A.Item.row A.Slots self.entry result) }
-        ensures yields { IteratesMut (tiny_items_of A.Slots self.old) result }
+        ensures yields { IteratesMut (view A.Slots self.old).items result }
 
         // No write changes the length.
         ensures keeps_len { (ws : List A.Item)
-            → tiny_len_of A.Slots (tiny_with_items A.Slots self.old ws) ≡ tiny_len_of A.Slots self.old }
+            → length (view A.Slots (tiny_with_items A.Slots self.old ws)).items ≡ length (view A.Slots self.old).items }
     {
         match self {
             TinyVec::Inline(v, _) => v.iter_mut(),
@@ -132,11 +132,11 @@ impl<A: Slots> TinyVec<A> {
 impl<A: Array> TinyVec<A> {
     /// The number of items.
     pub fn len(&self) -> usize
-        ensures value { result ≡ tiny_len_of A.Slots self.now }
-        ensures fits { result ≤ tiny_capacity_of A.Slots self.now }
-        ensures inline_capacity { IsInline self.now → tiny_capacity_of A.Slots self.now ≡ A.CAPACITY }
-        ensures slot_count { IsInline self.now → tiny_len_of A.Slots self.now + length
-            (tiny_spare_of A.Slots self.now) ≡ A.CAPACITY }
+        ensures value { result ≡ length (view A.Slots self.now).items }
+        ensures fits { result ≤ (view A.Slots self.now).place.capacity }
+        ensures inline_capacity { IsTrue (view A.Slots self.now).place.inline → (view A.Slots self.now).place.capacity ≡ A.CAPACITY }
+        ensures slot_count { IsTrue (view A.Slots self.now).place.inline → length (view A.Slots self.now).items + length
+            (view A.Slots self.now).spare ≡ A.CAPACITY }
     {
         match self {
             // Equal to the length. The minimum shows LLVM an upper bound, which keeps the two variants apart.
@@ -147,9 +147,9 @@ impl<A: Array> TinyVec<A> {
 
     /// The number of items that fit without a further allocation.
     pub fn capacity(&self) -> usize
-        ensures value { result ≡ tiny_capacity_of A.Slots self.now }
-        ensures fits { tiny_len_of A.Slots self.now ≤ result }
-        ensures inline_capacity { IsInline self.now → result ≡ A.CAPACITY }
+        ensures value { result ≡ (view A.Slots self.now).place.capacity }
+        ensures fits { length (view A.Slots self.now).items ≤ result }
+        ensures inline_capacity { IsTrue (view A.Slots self.now).place.inline → result ≡ A.CAPACITY }
     {
         match self {
             TinyVec::Inline(v, _) => v.capacity(),
@@ -159,37 +159,34 @@ impl<A: Array> TinyVec<A> {
 
     /// How many more items fit.
     pub fn remaining_capacity(&self) -> usize
-        ensures value { result ≡ tiny_capacity_of A.Slots self.now - tiny_len_of A.Slots self.now }
-        ensures sum { tiny_len_of A.Slots self.now + result ≡ tiny_capacity_of A.Slots self.now }
+        ensures value { result ≡ (view A.Slots self.now).place.capacity - length (view A.Slots self.now).items }
+        ensures sum { length (view A.Slots self.now).items + result ≡ (view A.Slots self.now).place.capacity }
     {
         self.capacity() - self.len()
     }
 
     // Takes the item at `i`, and leaves a default.
     pub(crate) fn take_at(&mut self, i: usize) -> A::Item
-        requires { i < tiny_len_of A.Slots self.old }
-        ensures value { result ≡ slice_index_or (tiny_items_of A.Slots self.old) i result }
+        requires { i < length (view A.Slots self.old).items }
+        ensures value { result ≡ slice_index_or (view A.Slots self.old).items i result }
         ensures after { (d : A.Item) × A.Item.is_default d
-            × (tiny_items_of A.Slots self.new ≡ slice_set (tiny_items_of A.Slots self.old) i d) }
-        ensures frame { SameFrame (tiny_view_of A.Slots self.old) (tiny_view_of A.Slots self.new) }
+            × ((view A.Slots self.new).items ≡ slice_set (view A.Slots self.old).items i d) }
+        ensures frame { SameFrame (view A.Slots self.old) (view A.Slots self.new) }
     {
         mem::take(&mut self.as_mut_slice()[i])
     }
 
     /// An empty vector. It is inline, and all its slots hold defaults.
     pub fn new(alloc: Global) -> Self
-        ensures items { tiny_items_of A.Slots result ≡ [] }
-        ensures spare { AreDefaults A.Item.is_default A.CAPACITY (tiny_spare_of A.Slots result) }
-        ensures place { IsInline result }
-        ensures capacity { tiny_capacity_of A.Slots result ≡ A.CAPACITY }
+        ensures { IsNew A.Item.is_default A.CAPACITY (view A.Slots result) }
     {
         TinyVec::Inline(ArrayVec::new(), alloc)
     }
 
     /// An empty vector with room for `capacity` items, inline if the array has that room. Otherwise allocates it.
     pub fn with_capacity(alloc: Global, capacity: usize) -> Result<Self, AllocError>
-        ensures items { IfOk result (λ v. tiny_items_of A.Slots v ≡ []) }
-        ensures made { IfOk result (λ v. MadeFor A.Item.is_default A.CAPACITY capacity 0 (tiny_view_of A.Slots v)) }
+        ensures items { IfOk result (λ v. (view A.Slots v).items ≡ []) }
+        ensures made { IfOk result (λ v. MadeFor A.Item.is_default A.CAPACITY capacity 0 (view A.Slots v)) }
         ensures succeeds { capacity ≤ A.CAPACITY → IsOk result }
     {
         if capacity <= A::CAPACITY {
@@ -201,8 +198,8 @@ impl<A: Array> TinyVec<A> {
 
     /// A vector of `len` defaults, inline if they fit the array. Otherwise room for all is allocated once.
     pub fn with_initial_len(alloc: Global, len: usize) -> Result<Self, AllocError>
-        ensures items { IfOk result (λ v. AreDefaults A.Item.is_default len (tiny_items_of A.Slots v)) }
-        ensures made { IfOk result (λ v. MadeFor A.Item.is_default A.CAPACITY len len (tiny_view_of A.Slots v)) }
+        ensures items { IfOk result (λ v. AreDefaults A.Item.is_default len (view A.Slots v).items) }
+        ensures made { IfOk result (λ v. MadeFor A.Item.is_default A.CAPACITY len len (view A.Slots v)) }
         ensures succeeds { len ≤ A.CAPACITY → IsOk result }
     {
         if len <= A::CAPACITY {
@@ -215,16 +212,16 @@ impl<A: Array> TinyVec<A> {
 
     /// A full vector, whose list is the whole array. It is inline.
     pub fn from_array(alloc: Global, array: A) -> Self
-        ensures { HoldsInline (A.Slots.slots array) [] (tiny_view_of A.Slots result) }
+        ensures { HoldsInline (A.Slots.slots array) [] (view A.Slots result) }
     {
         TinyVec::Inline(ArrayVec::from_array(array), alloc)
     }
 
     /// The list of a `Vec`, on the heap, with its allocation. Allocates nothing and moves no item.
     pub fn from_vec(vec: Vec<A::Item>) -> Self
-        ensures items { tiny_items_of A.Slots result ≡ vec.items }
-        ensures place { is_inline result ≡ false }
-        ensures capacity { tiny_capacity_of A.Slots result ≡ vec_capacity vec }
+        ensures items { (view A.Slots result).items ≡ vec.items }
+        ensures place { (view A.Slots result).place.inline ≡ false }
+        ensures capacity { (view A.Slots result).place.capacity ≡ vec_capacity vec }
     {
         TinyVec::Heap(vec)
     }
@@ -233,7 +230,7 @@ impl<A: Array> TinyVec<A> {
     pub fn from_array_len(alloc: Global, array: A, len: usize) -> Self
         requires { len ≤ A.CAPACITY }
         ensures { HoldsInline (take len (A.Slots.slots array)) (drop len (A.Slots.slots array))
-            (tiny_view_of A.Slots result) }
+            (view A.Slots result) }
     {
         TinyVec::Inline(ArrayVec::from_array_len(array, len), alloc)
     }
@@ -244,7 +241,7 @@ impl<A: Array> TinyVec<A> {
     pub fn try_from_array_len(alloc: Global, array: A, len: usize) -> Result<Self, A>
         ensures refused { IsErr result ↔ (A.CAPACITY < len) }
         ensures made { IfOk result (λ v. HoldsInline (take len (A.Slots.slots array)) (drop len
-            (A.Slots.slots array)) (tiny_view_of A.Slots v)) }
+            (A.Slots.slots array)) (view A.Slots v)) }
         ensures value_returned { IfErr result (λ a. a ≡ array) }
     {
         if len > A::CAPACITY {
@@ -258,9 +255,9 @@ impl<A: Array> TinyVec<A> {
     pub fn from_slice(alloc: Global, slice: &[A::Item]) -> Result<Self, AllocError>
     where
         A::Item: Clone,
-        ensures items { IfOk result (λ v. AreClones A.Item.is_clone slice.now (tiny_items_of A.Slots v)) }
+        ensures items { IfOk result (λ v. AreClones A.Item.is_clone slice.now (view A.Slots v).items) }
         ensures made { IfOk result (λ v. MadeFor A.Item.is_default A.CAPACITY (length slice.now) (length slice.now)
-            (tiny_view_of A.Slots v)) }
+            (view A.Slots v)) }
         ensures refused { OnErr result (length slice.now ≤ A.CAPACITY
             → (j : ℕ) × RefusedAt A.Item.is_infallible slice.now j) }
         ensures succeeds { length slice.now ≤ A.CAPACITY → All A.Item.is_infallible slice.now → IsOk result }
@@ -272,7 +269,7 @@ impl<A: Array> TinyVec<A> {
 }
 
 impl<A: Slots> AsSlice<A::Item> for TinyVec<A> {
-    ghost items = { tiny_items_of A.Slots };
+    ghost items = { λ v. (view A.Slots v).items };
 
     fn as_slice(&self) -> &[A::Item] {
         self.as_slice()

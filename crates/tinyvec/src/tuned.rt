@@ -2,7 +2,7 @@
 //!
 //! Each loop works on a local variable, whose length and pointer LLVM keeps in registers. Through a reference it cannot,
 //! since the items might overlap the vector.
-ghost use Rattle.std.specs.Prelude.{◌≡◌, ◌+◌, ◌-◌, ◌<◌, ◌≤◌, ◌++◌, ℕ, length, take, drop, slice_range, replicate, IfOk};
+ghost use Rattle.std.specs.Prelude.{◌≡◌, ◌+◌, ◌-◌, ◌<◌, ◌≤◌, ◌++◌, ℕ, length, take, drop, slice_range, IfOk};
 ghost use Rattle.std.specs.Prelude.{OnErr, vec_len, vec_capacity};
 ghost use Rattle.std.specs.List.{AllZip, AppendsClones};
 ghost use Rattle.tinyvec_slots.specs.Clones.{RefusedAt};
@@ -181,27 +181,6 @@ pub(crate) fn push_clones_within<T: Clone>(
     for i in start..end {
         match vec.as_slice()[i].clone() {
             Ok(x) => vec.push_reserved(x),
-            Err(error) => {
-                vec.truncate(len);
-                *heap = vec;
-                return Err(error);
-            }
-        }
-    }
-    *heap = vec;
-    Ok(())
-}
-
-// Appends `n` clones of `x`, if there is room.
-pub(crate) fn push_clones_of<T: Clone>(heap: &mut Vec<T>, n: usize, x: &T) -> Result<(), AllocError>
-    requires room { vec_len heap.old + n ≤ vec_capacity heap.old }
-    ensures { PushesClones T.Clone (replicate n x.now) result heap.old heap.new }
-{
-    let mut vec = mem::replace(heap, Vec::new(*heap.allocator()));
-    let len = vec.len();
-    for _i in 0..n {
-        match x.clone() {
-            Ok(y) => vec.push_reserved(y),
             Err(error) => {
                 vec.truncate(len);
                 *heap = vec;

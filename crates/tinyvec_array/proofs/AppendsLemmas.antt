@@ -4,9 +4,20 @@ use Rattle.std.proofs.lemmas.List.{drop-drop, length-drop}
 use Rattle.std.specs.List.{flat_map}
 use Rattle.tinyvec_array.specs.Appends.{LentVec, Appends}
 use Rattle.tinyvec_array.specs.SliceVec.{slice_items, slice_spare, slice_slots}
+use Rattle.tinyvec_array.specs.View.{view, Becomes, NothingVacated}
+use Rattle.tinyvec_array.specs.ViewLaws.{used_by}
+use Rattle.tinyvec_array.proofs.Named.{lent_slots}
 use Rattle.tinyvec_array.proofs.ViewLemmas.{owner_sees}
 
 module _ {T : Type 0} where
+  -- what a call of such a vector ensures, as `push`
+  pub appended : (xs : List T) (u v : LentVec T) → Becomes NothingVacated (view lent_slots u) (view lent_slots v) (slice_items u ++ xs) → Appends xs u v
+  appended xs u v h = record {
+    same_reference = ap (λ p. p.lender) h.place;
+    items = h.items;
+    spare = used_by NothingVacated _ _ _ _ (length xs) (ap length h.items ∙ length-append (slice_items u) xs) h.slot_rule;
+  }
+
   pub Appends-then : (xs ys : List T) (u v w : LentVec T) → Appends xs u v → Appends ys v w → Appends (xs ++ ys) u w
   Appends-then xs ys u v w first second = record {
     same_reference = second.same_reference ∙ first.same_reference;

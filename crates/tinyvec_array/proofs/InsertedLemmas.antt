@@ -3,7 +3,9 @@ use Rattle.std.proofs.Common.{◌≡◌, ℕ, ◌+◌, ◌<◌, ◌≤◌, List,
 use Rattle.std.proofs.lemmas.List.{set_at, places, drop-drop}
 use Rattle.std.proofs.lemmas.List.Edits.{length-insert}
 use Rattle.tinyvec_slots.proofs.BorderLemmas.{list_to, spare_from}
-use Rattle.tinyvec_array.specs.ArrayVec.{items_of, spare_of, slots_of, Gains}
+use Rattle.tinyvec_array.specs.ArrayVec.{items_of, spare_of, slots_of, SameLender}
+use Rattle.tinyvec_array.specs.View.{view, Becomes, NothingVacated}
+use Rattle.tinyvec_array.specs.ViewLaws.{becomes, same_place, rule_used}
 use Rattle.tinyvec_array.specs.Lends.{at_slots, inserted_at}
 use Rattle.tinyvec_array.specs.declared.slots.Slots as Storage
 use Rattle.tinyvec_array.specs.declared.array_vec.ArrayVec.{ArrayVec}
@@ -21,21 +23,21 @@ module _ {S T L : Type 0} (g : Storage.Ghosts S T L) (v : ArrayVec S L) (i : ℕ
   long : length (insert (items_of g v) i x) ≡ length (items_of g v) + 1
   long = length-insert (items_of g v) i x le
 
-  pub Gains-inserted : g.Counts (slots_of g v) → 0 < length (spare_of g v) → Gains g 1 v (inserted_at g v i x) (insert (items_of g v) i x)
-  Gains-inserted all room =
+  pub inserted_becomes : g.Counts (slots_of g v) → 0 < length (spare_of g v)
+      → Becomes NothingVacated (view g v) (view g (inserted_at g v i x)) (insert (items_of g v) i x)
+  inserted_becomes all room =
       let n = length (items_of g v) + 1 in
       let list = insert (items_of g v) i x in
       let behind = drop 1 (spare_of g v) in
       let count = ap length holds ∙ length-append list behind in
       let is = g.count_of n (slots_of g v) all (omega (arith, parts_of g v, room)) in
-      record {
-        lender = record {
-          same_reference = g.name_kept v.slots (list ++ behind);
-          slot_count = omega (arith, count, long, length-drop 1 (spare_of g v), parts_of g v, room);
-        };
-        items = ap (λ k. take k (g.slots (inserted_at g v i x).slots)) is ∙ ap (take n) holds ∙ take_at list behind n long;
-        spare = ap (λ k. drop k (g.slots (inserted_at g v i x).slots)) is ∙ ap (drop n) holds ∙ drop_at list behind n long;
-      }
+      let lender : SameLender g v (inserted_at g v i x) = record {
+        same_reference = g.name_kept v.slots (list ++ behind);
+        slot_count = omega (arith, count, long, length-drop 1 (spare_of g v), parts_of g v, room);
+      } in
+      let listed = ap (λ k. take k (g.slots (inserted_at g v i x).slots)) is ∙ ap (take n) holds ∙ take_at list behind n long in
+      let spared = ap (λ k. drop k (g.slots (inserted_at g v i x).slots)) is ∙ ap (drop n) holds ∙ drop_at list behind n long in
+      becomes g NothingVacated v (inserted_at g v i x) (same_place g v (inserted_at g v i x) lender) (rule_used NothingVacated _ _ _ _ 1 (ap length listed ∙ long) spared) list listed
 
   -- the item that was put in is written
   pub inserted-set : (w : T) → at_slots g (inserted_at g v i x) (set (g.slots (inserted_at g v i x).slots) i w) ≡ inserted_at g v i w

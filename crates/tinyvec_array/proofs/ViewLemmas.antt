@@ -1,20 +1,23 @@
 -- Lemmas on the list and the spare slots of a vector.
-use Rattle.std.proofs.Common.{◌≡◌, ℕ, ◌-◌, ◌<◌, ◌≤◌, List, ◌++◌, length, take, drop, set, slice_range, refl, sym, ap, ◌∙◌, arith, rules, length-append, length-take, length-drop, take-append-drop}
+use Rattle.std.proofs.Common.{◌≡◌, ℕ, ◌+◌, ◌-◌, ◌<◌, ◌≤◌, List, ◌++◌, length, take, drop, set, slice_range, refl, sym, ap, ◌∙◌, arith, rules, length-append, length-take, length-drop, take-append-drop}
 use Rattle.std.proofs.Math.Seq.{take-set-lt}
 use Rattle.std.proofs.lemmas.List.{same_lists, places}
 use Rattle.std.specs.Borrow.{MutBor}
-use Rattle.std.specs.List.{remove_range, refill, length_refill}
-use Rattle.tinyvec_slots.specs.Slots.{SlotRule}
+use Rattle.std.specs.List.{refill, length_refill}
+use Rattle.std.specs.declared.ops.Bound.{Bound}
 use Rattle.tinyvec_slots.specs.Filters.{Shortened}
-use Rattle.tinyvec_slots.proofs.BorderLemmas.{list_to, spare_from}
-use Rattle.tinyvec_slots.proofs.SlotsLemmas.{slots_used, slots_freed}
-use Rattle.tinyvec_slots.proofs.Lists.{length-remove_range, length-slice_range}
+use Rattle.tinyvec_slots.specs.Ranges.{IsRangeOf, before, removed, after, range_start, range_end}
+use Rattle.tinyvec_slots.proofs.Lists.{length-remove_range, length-slice_range, length-replaced}
+use Rattle.tinyvec_slots.proofs.BorderLemmas.{list_to, spare_from, replaced_length, replaced_len, replaced_list, replaced_shorter, replaced_behind, replaced_longer}
+use Rattle.tinyvec_slots.proofs.SlotsLemmas.{slots_used}
 use Rattle.tinyvec_array.specs.SliceParts.{with_front, with_back, with_front-as_long, with_back-as_long}
-use Rattle.tinyvec_array.specs.ArrayVec.{view_of, items_of, spare_of, slots_of, len_of, SameLender, Loses, Grows, Shortens, Changes}
+use Rattle.tinyvec_array.specs.ArrayVec.{view_of, items_of, spare_of, slots_of, len_of, SameLender}
+use Rattle.tinyvec_array.specs.View.{view, Becomes, StaysInPlace, ShortensInPlace}
+use Rattle.tinyvec_array.specs.ViewLaws.{stays, becomes, same_place}
 use Rattle.tinyvec_array.specs.SliceVec.{slice_items, slice_spare, slice_slots}
 use Rattle.tinyvec_array.specs.Lends.{at_slots, with_items_of}
 use Rattle.tinyvec_array.specs.CutLaws.{CutOf}
-use Rattle.tinyvec_array.specs.SpliceLaws.{cut_lender}
+use Rattle.tinyvec_array.specs.SpliceLaws.{cut_changes}
 pub use Rattle.tinyvec_array.specs.SpliceLaws.{parts_of}
 use Rattle.tinyvec_array.specs.declared.slots.Slots as Storage
 use Rattle.tinyvec_array.specs.declared.array_vec.ArrayVec.{ArrayVec}
@@ -31,12 +34,6 @@ module _ {S T L : Type 0} (g : Storage.Ghosts S T L) (v : ArrayVec S L) (ws : Li
   slots_of-written long =
       let n = length (items_of g v) in
       cc (g.slots_written v.slots (with_front (g.slots v.slots) n ws), with_front-as_long (g.slots v.slots) ws n long, spare_from (g.count v.len) (g.slots v.slots) n refl)
-
-  -- however long the written slice is
-  pub len_of-written : len_of g (with_items_of g v ws) ≡ len_of g v
-  len_of-written =
-      ap (λ l. length (take (g.count v.len) l)) (g.slots_written v.slots (with_front (g.slots v.slots) (length (items_of g v)) ws))
-      ∙ front_len (g.count v.len) (g.slots v.slots) (length (items_of g v)) refl ws
 
 -- the spare slots were written
 module _ {S T L : Type 0} (g : Storage.Ghosts S T L) (v : ArrayVec S L) (ws : List T) where
@@ -84,29 +81,24 @@ module _ {S T L : Type 0} (g : Storage.Ghosts S T L) where
     slot_count = second.slot_count ∙ first.slot_count;
   }
 
--- a vector that lost a range keeps the slot rule
-pub cut_slots : {S T L : Type 0} (g : Storage.Ghosts S T L) (D : T → Type 0) (old new : ArrayVec S L) (i j : ℕ) → i ≤ j → j ≤ length (items_of g old)
-    → Loses g D (length (slice_range (items_of g old) i j)) old new (remove_range (items_of g old) i j) → SlotRule D (view_of g old) (view_of g new)
-cut_slots g D old new i j le within lost =
-    let left = ap length lost.items ∙ length-remove_range (items_of g old) i j le within in
-    let gone = length-slice_range (items_of g old) i j le within in
-    slots_freed D (view_of g old) (view_of g new) (length (slice_range (items_of g old) i j)) (omega (arith, left, gone, le, within)) lost.spare
-
 -- a call of `tinyvec_slots` that only removes items
 pub shortened : {S T L : Type 0} (g : Storage.Ghosts S T L) (D : T → Type 0) (old new : ArrayVec S L)
-    → Shortened (items_of g) (λ v. length (slots_of g v)) (CutOf g D) old new → Shortens g D old new
-shortened g D old new h = record { lender = cut_lender g D old new h.cut; bound = h.bound; spare = h.cut.1.spare }
+    → Shortened (items_of g) (λ v. length (slots_of g v)) (CutOf g D) old new → ShortensInPlace D (view g old) (view g new)
+shortened g D old new h = record { bound = h.bound; frame = cut_changes g D old new h.cut }
+
+-- a range that is taken out of a list leaves so many fewer items
+pub fewer : {T : Type 0} (xs : List T) (start end : Bound ℕ) → IsRangeOf xs start end → length xs ≡ length (before xs start ++ after xs end) + length (removed xs start end)
+fewer xs start end within =
+    let i = range_start start in
+    let j = range_end end (length xs) in
+    omega (arith, length-remove_range xs i j within.0 within.1, length-slice_range xs i j within.0 within.1, within.0, within.1)
 
 -- a call that only adds items
-pub grown : {S T L : Type 0} (g : Storage.Ghosts S T L) (D : T → Type 0) (old new : ArrayVec S L) (xs : List T)
-    → items_of g new ≡ items_of g old ++ xs → Grows g old new → Changes g D old new
-grown g D old new xs listed h =
+pub grown : {S T L : Type 0} (g : Storage.Ghosts S T L) (D : T → Type 0) (old new : ArrayVec S L) (xs : List T) → items_of g new ≡ items_of g old ++ xs
+    → spare_of g new ≡ drop (len_of g new - len_of g old) (spare_of g old) → (view g new).place ≡ (view g old).place → StaysInPlace D (view g old) (view g new)
+grown g D old new xs listed behind place =
     let longer = ap length listed ∙ length-append (items_of g old) xs in
-    let more : length (items_of g new) - length (items_of g old) ≡ length xs = omega (arith, longer) in
-    record {
-      lender = h.lender;
-      slot_rule = slots_used D (view_of g old) (view_of g new) (length xs) longer (h.spare ∙ ap (λ n. drop n (spare_of g old)) more);
-    }
+    stays g D old new place (slots_used D (view_of g old) (view_of g new) (len_of g new - len_of g old) (omega (arith, longer)) behind)
 
 -- one item was written
 module _ {S T L : Type 0} (g : Storage.Ghosts S T L) (v : ArrayVec S L) (i : ℕ) (x : T) (lt : i < length (items_of g v)) where
@@ -116,3 +108,50 @@ module _ {S T L : Type 0} (g : Storage.Ghosts S T L) (v : ArrayVec S L) (i : ℕ
 -- what the owner of a slice sees of a vector over it
 pub owner_sees : {T : Type 0} (v : ArrayVec (MutBor (List T)) ℕ) (xs ys : List T) → slice_items v ≡ xs → slice_spare v ≡ ys → slice_slots v ≡ xs ++ ys
 owner_sees v xs ys listed behind = cc (take-append-drop v.len v.slots.now, listed, behind)
+
+-- the items from i up to j were replaced by `new` in the slots `ws`
+module _ {S T L : Type 0} (g : Storage.Ghosts S T L) (D : T → Type 0) (v : ArrayVec S L) (n : ℕ) (is : n ≡ length (items_of g v)) (i j : ℕ) (new ws : List T)
+    (le : i ≤ j) (inside : j ≤ n) (fits : n - (j - i) + length new ≤ length (slots_of g v))
+    (put : ws ≡ take i (slots_of g v) ++ new ++ slice_range (slots_of g v) j n ++ drop (i + length new + (n - j)) (slots_of g v)) where
+  abbrev k : ℕ
+  k = g.count v.len
+
+  abbrev m : ℕ
+  m = n - (j - i) + length new
+
+  abbrev replaced : List T
+  replaced = take i (items_of g v) ++ new ++ drop j (items_of g v)
+
+  slots : slots_of g (at_slots g v ws) ≡ ws
+  slots = g.slots_written v.slots ws
+
+  count : length (slots_of g (at_slots g v ws)) ≡ length (slots_of g v)
+  count = ap length slots ∙ replaced_length k (slots_of g v) n is i j new ws m le inside refl fits put
+
+  long : length replaced ≡ m
+  long = length-replaced i j new (items_of g v) le (omega (arith, is, inside)) ∙ ap (λ l. l - (j - i) + length new) (sym is)
+
+  place : (view g (at_slots g v ws)).place ≡ (view g v).place
+  place = same_place g v (at_slots g v ws) (record { same_reference = g.name_kept v.slots ws; slot_count = count })
+
+  -- and the list was cut
+  pub replaced_cut : (w : ArrayVec S L) → m < n → Becomes D (view g (at_slots g v ws)) (view g w) (take m (items_of g (at_slots g v ws)))
+      → Becomes D (view g v) (view g w) replaced
+  replaced_cut w few cut =
+      let was = ap (λ l. length (take k l)) slots ∙ replaced_len k (slots_of g v) n is i j new ws m le inside refl fits put ∙ is in
+      let behind = ap (drop k) slots ∙ replaced_behind k (slots_of g v) n is i j new ws m le inside refl fits put (omega (arith, few)) in
+      let rule = cut.slot_rule in
+      record {
+        items = cut.items ∙ ap (λ l. take m (take k l)) slots ∙ replaced_shorter k (slots_of g v) n is i j new ws m le inside refl fits put (omega (arith, few));
+        place = cut.place ∙ place;
+        slot_rule = (rule.0, (rule.1.0 ∙ ap (λ l. l - len_of g w) was, rule.1.1), rule.2 ∙ (λ e. rule.0 ++ drop (len_of g w - was e) (behind e)));
+        fits = cut.fits;
+      }
+
+  -- or gained spare slots
+  pub replaced_grown : (len : L) → g.count len ≡ m → n ≤ m → Becomes D (view g v) (view g (record { slots = g.with_slots v.slots ws; len = len })) replaced
+  replaced_grown len at more =
+      let w : ArrayVec S L = record { slots = g.with_slots v.slots ws; len = len } in
+      let items = (λ e. take (at e) (slots e)) ∙ replaced_list k (slots_of g v) n is i j new ws m le inside refl fits put in
+      let behind = (λ e. drop (at e) (slots e)) ∙ replaced_longer k (slots_of g v) n is i j new ws m le inside refl fits put more in
+      becomes g D v w place (slots_used D (view_of g v) (view_of g w) (m - n) (omega (arith, ap length items, long, is, more)) behind) replaced items

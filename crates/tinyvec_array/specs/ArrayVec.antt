@@ -1,6 +1,6 @@
 -- What a contract sees of a vector over slots.
-use Rattle.std.specs.Prelude.{◌≡◌, ℕ, ◌-◌, ◌≤◌, List, length, drop}
-use Rattle.tinyvec_slots.specs.Slots.{Slots, Vacates, SlotRule, items_in, spare_in}
+use Rattle.std.specs.Prelude.{◌≡◌, ℕ, List, length}
+use Rattle.tinyvec_slots.specs.Slots.{Slots, Vacates, items_in, spare_in}
 use Rattle.tinyvec_array.specs.declared.slots.Slots as Storage
 use Rattle.tinyvec_array.specs.declared.array_vec.ArrayVec.{ArrayVec}
 use Rattle.tinyvec_array.specs.declared.bound.UpTo.{UpTo}
@@ -39,34 +39,6 @@ module _ {S T L : Type 0} (g : Storage.Ghosts S T L) where
   -- the n vacated slots hold defaults, and precede the old spare slots
   abbrev pub VacatesOf : (T → Type 0) → ℕ → ArrayVec S L → ArrayVec S L → Type 0
   VacatesOf D n old new = Vacates D n (view_of old) (view_of new)
-
-  -- new is over the slots of old, its list is xs, and the first n of the old spare slots are used up
-  pub record Gains (n : ℕ) (old new : ArrayVec S L) (xs : List T) : Type 0 where
-    pub lender : SameLender old new
-    pub items : items_of new ≡ xs
-    pub spare : spare_of new ≡ drop n (spare_of old)
-
-  -- new is over the slots of old, its list is xs, and n vacated slots precede the old spare slots
-  pub record Loses (D : T → Type 0) (n : ℕ) (old new : ArrayVec S L) (xs : List T) : Type 0 where
-    pub lender : SameLender old new
-    pub items : items_of new ≡ xs
-    pub spare : VacatesOf D n old new
-
-  -- new is over the slots of old, and its list is longer by items that use up the first of the old spare slots
-  pub record Grows (old new : ArrayVec S L) : Type 0 where
-    pub lender : SameLender old new
-    pub spare : spare_of new ≡ drop (len_of new - len_of old) (spare_of old)
-
-  -- new is over the slots of old, its list is no longer, and the vacated slots precede the old spare slots
-  pub record Shortens (D : T → Type 0) (old new : ArrayVec S L) : Type 0 where
-    pub lender : SameLender old new
-    pub bound : len_of new ≤ len_of old
-    pub spare : VacatesOf D (len_of old - len_of new) old new
-
-  -- new is over the slots of old, and the slot rule holds: the list lost items, or gained some, or neither
-  pub record Changes (D : T → Type 0) (old new : ArrayVec S L) : Type 0 where
-    pub lender : SameLender old new
-    pub slot_rule : SlotRule D (view_of old) (view_of new)
 
 -- The same words of a vector in an array.
 module _ {T : Type 0} {n : ℕ} where

@@ -2,8 +2,10 @@
 use Rattle.std.proofs.Common.{◌≡◌, ℕ, ◌+◌, ◌-◌, ◌≤◌, length, refl, sym, ap, ◌∙◌, arith, length-append, take-append-drop}
 use Rattle.tinyvec_slots.specs.Slots.{SlotRule}
 use Rattle.tinyvec_slots.proofs.SlotsLemmas.{shortened}
-use Rattle.tinyvec_array.specs.ArrayVec.{view_of, items_of, spare_of, slots_of, SameLender, VacatesOf, Changes}
+use Rattle.tinyvec_array.specs.ArrayVec.{view_of, items_of, spare_of, slots_of, SameLender, VacatesOf}
+use Rattle.tinyvec_array.specs.View.{view, StaysInPlace}
 use Rattle.tinyvec_array.specs.CutLaws.{KeptOf, CutOf}
+use Rattle.tinyvec_array.specs.ViewLaws.{one_place, same_place, stays}
 use Rattle.tinyvec_array.specs.declared.slots.Slots as Storage
 use Rattle.tinyvec_array.specs.declared.array_vec.ArrayVec.{ArrayVec}
 
@@ -21,6 +23,9 @@ module _ {S T L : Type 0} (g : Storage.Ghosts S T L) where
   pub kept_count : (v w : ArrayVec S L) → KeptOf g v w → length (slots_of g w) ≡ length (slots_of g v)
   kept_count v w k = omega (arith, parts_of v, parts_of w, ap length k.1.0, k.1.1)
 
+  kept_place : (v w : ArrayVec S L) → KeptOf g v w → (view g w).place ≡ (view g v).place
+  kept_place v w k = one_place refl (kept_count v w k) k.0
+
   module _ (D : T → Type 0) where
     -- so do calls that vacate slots
     pub vacated_count : (old new : ArrayVec S L) (n : ℕ) → length (items_of g new) + n ≡ length (items_of g old)
@@ -35,19 +40,13 @@ module _ {S T L : Type 0} (g : Storage.Ghosts S T L) where
       slot_count = vacated_count old new (length (items_of g old) - length (items_of g new)) (omega (arith, h.1.bound)) h.1.spare;
     }
 
-    pub cut_changes : (v w : ArrayVec S L) → CutOf g D v w → Changes g D v w
-    cut_changes v w h = record { lender = cut_lender v w h; slot_rule = shortened D (view_of g v) (view_of g w) h.1 }
+    pub cut_changes : (v w : ArrayVec S L) → CutOf g D v w → StaysInPlace D (view g v) (view g w)
+    cut_changes v w h = stays g D v w (same_place g v w (cut_lender v w h)) (shortened D (view_of g v) (view_of g w) h.1)
 
-    pub changed_around : (u v w x : ArrayVec S L) → KeptOf g u v → Changes g D v w → KeptOf g w x → Changes g D u x
+    pub changed_around : (u v w x : ArrayVec S L) → KeptOf g u v → StaysInPlace D (view g v) (view g w) → KeptOf g w x → StaysInPlace D (view g u) (view g x)
     changed_around u v w x k h j =
-        let first : SlotRule D (view_of g u) (view_of g w) = rw (sym k.1.0, sym k.1.1) h.slot_rule in
-        record {
-          lender = record {
-            same_reference = j.0 ∙ h.lender.same_reference ∙ k.0;
-            slot_count = kept_count w x j ∙ h.lender.slot_count ∙ kept_count u v k;
-          };
-          slot_rule = rw (j.1.0, j.1.1) first;
-        }
+        let first : SlotRule D (view_of g u) (view_of g w) = rw (sym k.1.0, sym k.1.1) (h.slot_rule) in
+        stays g D u x (kept_place w x j ∙ h.place ∙ kept_place u v k) (rw (j.1.0, j.1.1) first)
 
-    pub not_fewer : (v w : ArrayVec S L) → Changes g D v w → length (slots_of g v) ≤ length (slots_of g w)
-    not_fewer v w h = omega (arith, h.lender.slot_count)
+    pub not_fewer : (v w : ArrayVec S L) → StaysInPlace D (view g v) (view g w) → length (slots_of g v) ≤ length (slots_of g w)
+    not_fewer v w h = omega (arith, ap (λ p. p.capacity) h.place)

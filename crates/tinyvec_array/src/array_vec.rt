@@ -4,7 +4,7 @@ ghost use Rattle.std.specs.List.{remove_range};
 ghost use Rattle.tinyvec_slots.specs.Slots.{AreDefaults, split_at};
 ghost use Rattle.tinyvec_slots.specs.Ranges.{Within};
 ghost use Rattle.std.specs.Borrow.{sem};
-ghost use Rattle.tinyvec_array.specs.ArrayVec.{view_of, items_of, spare_of, slots_of, len_of, SameLender, Gains};
+ghost use Rattle.tinyvec_array.specs.ArrayVec.{view_of, items_of, spare_of, slots_of, len_of, SameLender};
 ghost use Rattle.tinyvec_array.specs.Lends.{lends_items, lends_inner, lends_spare};
 ghost use Rattle.tinyvec_slots.specs.Filling.{Iterates, IteratesMut};
 
@@ -132,8 +132,10 @@ impl<S: Slots> ArrayVec<S> {
     // Moves the items from `start` up to `end` after the others.
     pub(crate) fn move_to_end(&mut self, start: usize, end: usize)
         requires { Within start end (len_of S.Slots self.old) }
-        ensures { Gains S.Slots 0 self.old self.new
-            (remove_range (items_of S.Slots self.old) start end ++ slice_range (items_of S.Slots self.old) start end) }
+        ensures lender { SameLender S.Slots self.old self.new }
+        ensures items { items_of S.Slots self.new
+            ≡ remove_range (items_of S.Slots self.old) start end ++ slice_range (items_of S.Slots self.old) start end }
+        ensures spare { spare_of S.Slots self.new ≡ spare_of S.Slots self.old }
     {
         let len = self.len();
         move_to_end_below(self.slots.as_slice_mut(), start, end, len);

@@ -9,7 +9,7 @@ impl<S: Slots> CanSplice for ArrayVec<S>
 where
     S::Item: Default,
 {
-    ghost use Rattle.tinyvec_array.specs.ArrayVec.{Changes};
+    ghost use Rattle.tinyvec_array.specs.View.{view, StaysInPlace};
     ghost use Rattle.tinyvec_array.specs.SpliceLaws.{kept_refl, kept_then, kept_count, changed_around, cut_changes, not_fewer};
 
     ghost counted = { true };
@@ -18,7 +18,7 @@ where
 
     ghost splice_word = { codes "ArrayVecSplice" };
 
-    ghost Grown = { Changes S.Slots S.Item.is_default };
+    ghost Grown = { λ v w. StaysInPlace S.Item.is_default (view S.Slots v) (view S.Slots w) };
 
     fn splice_name() -> &'static str {
         "ArrayVecSplice"

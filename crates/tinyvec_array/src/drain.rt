@@ -2,7 +2,8 @@
 ghost use Rattle.std.specs.Prelude.{◌≡◌, ◌++◌, length, ◌≤◌, ◌+◌, ◌^◌, codes, IsErr, vec_len, vec_capacity};
 ghost use Rattle.std.specs.List.{FoldsTo};
 ghost use Rattle.tinyvec_slots.specs.Ranges.{IsRangeOf, before, removed, after};
-ghost use Rattle.tinyvec_array.specs.ArrayVec.{items_of, spare_of, len_of, SameLender, Loses};
+ghost use Rattle.tinyvec_array.specs.ArrayVec.{items_of, spare_of, len_of, SameLender};
+ghost use Rattle.tinyvec_array.specs.View.{view, Becomes};
 ghost use Rattle.tinyvec_array.specs.ToVec.{DrainsToVec};
 
 use crate::{ArrayVec, Slots};
@@ -33,8 +34,7 @@ where
         requires in_list { IsRangeOf (items_of S.Slots self.old) (R.start_bound range) (R.end_bound range) }
         ensures begins { DrainBegins ⟦<ArrayVec<S> as CanDrain>⟧ self.entry
             (removed (items_of S.Slots self.old) (R.start_bound range) (R.end_bound range)) (spare_of S.Slots self.old)
-            (λ v. Loses S.Slots S.Item.is_default
-            (length (removed (items_of S.Slots self.old) (R.start_bound range) (R.end_bound range))) self.old v
+            (λ v. Becomes S.Item.is_default (view S.Slots self.old) (view S.Slots v)
             (before (items_of S.Slots self.old) (R.start_bound range)
             ++ after (items_of S.Slots self.old) (R.end_bound range))) result }
 
@@ -126,8 +126,7 @@ where
         requires not_exhausted { R.has_bounds range }
         requires in_list { IsRangeOf (items_of S.Slots self.old) (R.start_bound range) (R.end_bound range) }
         requires callable { F.IsAlwaysCallable f.old }
-        ensures becomes { Loses S.Slots S.Item.is_default
-            (length (removed (items_of S.Slots self.old) (R.start_bound range) (R.end_bound range))) self.old self.new
+        ensures becomes { Becomes S.Item.is_default (view S.Slots self.old) (view S.Slots self.new)
             (before (items_of S.Slots self.old) (R.start_bound range)
             ++ after (items_of S.Slots self.old) (R.end_bound range)) }
 
@@ -151,8 +150,7 @@ where
         requires room { vec_len out.old
             + length (removed (items_of S.Slots self.old) (R.start_bound range)
             (R.end_bound range)) ≤ vec_capacity out.old }
-        ensures becomes { Loses S.Slots S.Item.is_default
-            (length (removed (items_of S.Slots self.old) (R.start_bound range) (R.end_bound range))) self.old self.new
+        ensures becomes { Becomes S.Item.is_default (view S.Slots self.old) (view S.Slots self.new)
             (before (items_of S.Slots self.old) (R.start_bound range)
             ++ after (items_of S.Slots self.old) (R.end_bound range)) }
         ensures moved { out.new.items ≡ out.old.items

@@ -5,6 +5,7 @@ mod array;
 mod array_vec;
 mod bound;
 mod can_cut;
+mod can_put;
 mod can_splice;
 mod drain;
 mod into_iter;

@@ -2,7 +2,8 @@
 ghost use Rattle.std.specs.Prelude.{◌≡◌, length, false, Some, ◌+◌, ◌-◌, ◌<◌, ◌≤◌, ◌∷◌, ◌++◌, List, IfErr, ◌↔◌, MatchResult, IsOk, OnOk, OnErr};
 ghost use Rattle.std.specs.Iterator.{Drains, YieldsThen};
 ghost use Rattle.std.specs.Iterator.Adapters.{fuse_done, fuse_source, fuse_steps};
-ghost use Rattle.tinyvec_array.specs.ArrayVec.{items_of, slots_of, len_of, Changes};
+ghost use Rattle.tinyvec_array.specs.ArrayVec.{items_of, slots_of, len_of};
+ghost use Rattle.tinyvec_array.specs.View.{view, StaysInPlace};
 ghost use Rattle.tinyvec_slots.specs.Ranges.{IsRangeOf, before, removed, after};
 ghost use Rattle.tinyvec_slots.specs.Filling.{IntoIterYields, ShowsItems};
 ghost use Rattle.tinyvec_slots.specs.Fused.{FusedCan, fused_rest};
@@ -70,7 +71,7 @@ where
             ≡ before (items_of S.Slots self.old) (R.start_bound range) ++ xs
             ++ after (items_of S.Slots self.old) (R.end_bound range)) }
         ensures full { OnErr result (len_of S.Slots self.new ≡ length (slots_of S.Slots self.new)) }
-        ensures changes { Changes S.Slots S.Item.is_default self.old self.new }
+        ensures changes { StaysInPlace S.Item.is_default (view S.Slots self.old) (view S.Slots self.new) }
 
         // The returned iterator can be iterated further.
         ensures goes_on { IfErr result (λ refused. FusedCan I.IntoIter.can_next refused.rest) }
@@ -117,7 +118,7 @@ where
         ensures items { OnOk result (items_of S.Slots self.new
             ≡ before (items_of S.Slots self.old) (R.start_bound range) ++ replacement.now
             ++ after (items_of S.Slots self.old) (R.end_bound range)) }
-        ensures changes { Changes S.Slots S.Item.is_default self.old self.new }
+        ensures changes { StaysInPlace S.Item.is_default (view S.Slots self.old) (view S.Slots self.new) }
         ensures refused { OnErr result (self.new ≡ self.old) }
     {
         let part = resolve_range(range, self.len());
@@ -125,7 +126,7 @@ where
         if replacement.len() > self.capacity() - kept {
             return Err(CapacityError);
         }
-        let _all_fit = self.splice_all(part, replacement.iter().copied());
+        self.replace_fitting(part.start, part.end, replacement);
         Ok(())
     }
 }

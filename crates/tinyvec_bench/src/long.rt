@@ -9,7 +9,7 @@ use crate::edits::{
 };
 use crate::report::{Bench, Report, run};
 use crate::rows::moves;
-use crate::splicing::{Share, replace_range, splice, splices};
+use crate::splicing::{Share, editor, replace_range, splice, splices};
 use crate::vector::Words;
 use std::alloc::Global;
 use tinyvec::TinyVec;
@@ -57,6 +57,7 @@ impl<V: Words<4>> Bench<Share> for LongBench<'_, V> {
             Share::Fewer => splice(self.vec, self.source, count / 8, x),
             Share::More => splice(self.vec, self.source, count / 2, x),
             Share::Slice => replace_range(self.vec, self.source, x),
+            Share::Editor => editor(self.vec, self.source, x),
         }
     }
 }

@@ -12,6 +12,8 @@ pub enum Share {
     More,
     /// More numbers of a slice, by `replace_range`.
     Slice,
+    /// The same, which are taken out again for the old ones: an editor's change, cut and undo.
+    Editor,
 }
 
 impl<V: Words<N>, const N: usize> Bench<Share> for ListBench<'_, u64, V, N> {
@@ -23,6 +25,7 @@ impl<V: Words<N>, const N: usize> Bench<Share> for ListBench<'_, u64, V, N> {
             Share::Fewer => splice(self.vec, source, N as u64 / 8, x),
             Share::More => splice(self.vec, source, N as u64 / 2, x),
             Share::Slice => replace_range(self.vec, source, x),
+            Share::Editor => editor(self.vec, source, x),
         }
     }
 }
@@ -34,6 +37,7 @@ pub fn splices<R: Report, S: Bench<Share>>(report: &mut R, n: usize, list: &mut 
         "splice_fewer" Share::Fewer,
         "splice_more" Share::More,
         "replace_range" Share::Slice,
+        "editor" Share::Editor,
     );
 }
 
@@ -61,4 +65,19 @@ pub fn replace_range<V: Words<N>, const N: usize>(vec: &mut V, source: &[u64], x
         return 0;
     }
     x.wrapping_add(vec.len() as u64)
+}
+
+/// Puts the second half of `source` in the place of the second quarter, as `replace_range`, takes it out again, and puts the
+/// second quarter of `source` back.
+#[inline(never)]
+pub fn editor<V: Words<N>, const N: usize>(vec: &mut V, source: &[u64], x: u64) -> u64 {
+    let quarter = source.len() / 4;
+    if replace_range(vec, source, x) == 0 || vec.len() < 3 * quarter {
+        return 0;
+    }
+    let cut = vec.drain_taken(quarter, 3 * quarter, x);
+    if vec.len() < quarter || !vec.replace_range(quarter, quarter, &source[quarter..2 * quarter]) {
+        return 0;
+    }
+    cut
 }

@@ -1,6 +1,5 @@
 //! Calls of a text that std's `String` lacks.
 ghost use Rattle.std.specs.Prelude.{◌≡◌, ◌+◌, ◌*◌, ◌^◌, ◌<◌, ◌≤◌, length};
-ghost use Rattle.tinyvec.specs.View.{capacity_in};
 ghost use Rattle.tinyvec_text.specs.InlineText.{text_len};
 
 use crate::dates::{month, weekday};
@@ -146,7 +145,7 @@ fn mail_date<const N: usize>(alloc: Global, made: &mut InlineText<N>, x: u64) ->
 
 #[inline(never)]
 fn push_mail_date<const N: usize>(made: &mut InlineText<N>, n: u8)
-    requires { text_len made.old + 31 ≤ capacity_in made.old.place }
+    requires { text_len made.old + 31 ≤ made.old.place.capacity }
 {
     put::<N>(made, weekday(n));
     put::<N>(made, ", ");
@@ -162,9 +161,9 @@ fn push_mail_date<const N: usize>(made: &mut InlineText<N>, n: u8)
 }
 
 fn put_time<const N: usize>(made: &mut InlineText<N>, n: u8)
-    requires { text_len made.old + 8 ≤ capacity_in made.old.place }
+    requires { text_len made.old + 8 ≤ made.old.place.capacity }
     ensures len { text_len made.new ≡ text_len made.old + 8 }
-    ensures capacity { capacity_in made.new.place ≡ capacity_in made.old.place }
+    ensures capacity { made.new.place.capacity ≡ made.old.place.capacity }
 {
     put_two::<N>(made, n);
     put_letter::<N>(made, b':');
@@ -176,9 +175,9 @@ fn put_time<const N: usize>(made: &mut InlineText<N>, n: u8)
 // A push whose contract says no more than the next one needs.
 #[inline(always)]
 fn put<const N: usize>(made: &mut InlineText<N>, piece: &str)
-    requires { text_len made.old + length piece.now ≤ capacity_in made.old.place }
+    requires { text_len made.old + length piece.now ≤ made.old.place.capacity }
     ensures len { text_len made.new ≡ text_len made.old + length piece.now }
-    ensures capacity { capacity_in made.new.place ≡ capacity_in made.old.place }
+    ensures capacity { made.new.place.capacity ≡ made.old.place.capacity }
 {
     made.push_str_reserved(piece);
 }
@@ -187,18 +186,18 @@ fn put<const N: usize>(made: &mut InlineText<N>, piece: &str)
 #[inline(always)]
 fn put_letter<const N: usize>(made: &mut InlineText<N>, letter: u8)
     requires ascii { letter < 128 }
-    requires room { text_len made.old + 1 ≤ capacity_in made.old.place }
+    requires room { text_len made.old + 1 ≤ made.old.place.capacity }
     ensures len { text_len made.new ≡ text_len made.old + 1 }
-    ensures capacity { capacity_in made.new.place ≡ capacity_in made.old.place }
+    ensures capacity { made.new.place.capacity ≡ made.old.place.capacity }
 {
     made.push_reserved(letter as char);
 }
 
 // Pushes the last two digits of `n`.
 fn put_two<const N: usize>(made: &mut InlineText<N>, n: u8)
-    requires { text_len made.old + 2 ≤ capacity_in made.old.place }
+    requires { text_len made.old + 2 ≤ made.old.place.capacity }
     ensures len { text_len made.new ≡ text_len made.old + 2 }
-    ensures capacity { capacity_in made.new.place ≡ capacity_in made.old.place }
+    ensures capacity { made.new.place.capacity ≡ made.old.place.capacity }
 {
     put_letter::<N>(made, b'0' + n / 10 % 10);
     put_letter::<N>(made, b'0' + n % 10);

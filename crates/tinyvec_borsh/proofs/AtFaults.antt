@@ -8,7 +8,7 @@ use Rattle.std.proofs.KnownBytes.{Appends-trans}
 use Rattle.tinyvec_io.specs.Counted.{AppendsFront, CountedView, Reported}
 use Rattle.tinyvec_io.proofs.Pieces.{AppendsFront-then, AppendsFront-longer}
 use Rattle.tinyvec_borsh.specs.declared.borsh_error.BorshError.{BorshError}
-use Rattle.tinyvec_borsh.specs.declared.borsh_error.BorshError.TheVariants.{Ended, InvalidLength, InvalidUtf8, Io, Memory}
+use Rattle.tinyvec_borsh.specs.declared.borsh_error.BorshError.TheVariants.{Ended, InvalidLength, InvalidUtf8, Io}
 use Rattle.tinyvec_borsh.specs.Apart.{IsOfInput}
 use Rattle.tinyvec_borsh.specs.Code.{IsCode}
 use Rattle.tinyvec_borsh.specs.Items.{SpellsItems}
@@ -100,11 +100,7 @@ IsOfContent e = (e ≢ Ended) × IsOfInput e
 module _ {IsCut : List ℕ → Type 0} (old new : Option (List ℕ)) (bytes : List ℕ) (taken : Consumes old new bytes) (needed : (front back : List ℕ) → 0 < length back → bytes ≡ front ++ back → IsCut front) where
   -- these were taken, and the call fails for what they are
   pub some-all : (e : BorshError) → IsOfContent e → TakesSome IsCut old new e
-  some-all e other = record { bytes = bytes; taken = taken; end = λ is. absurd (other.0 is); needed = needed; short = λ io. absurd (subst IsOfInput io other.1) }
-
-  -- or for want of memory
-  pub some-refused : TakesSome IsCut old new Memory
-  some-refused = record { bytes = bytes; taken = taken; end = λ is. cc; needed = needed; short = λ io. cc }
+  some-all e other = record { bytes = bytes; taken = taken; end = λ is. absurd (other.0 is); needed = needed; short = λ no. absurd (no other.1) }
 
 pub length_is_other : IsOfContent InvalidLength
 length_is_other = (λ e. cc, tt)

@@ -67,11 +67,11 @@ module _ {IsCut All : List ℕ → Type 0} where
       | inl f ↦ firsts front f.0 f.2 f.1
       | inr s ↦ subst All (sym s.1) (cut s.0 (t.needed s.0 back some s.2))
     ];
-    short = λ io. cut t.bytes (t.short io);
+    short = λ no. cut t.bytes (t.short no);
   }
 
   some-so : (old new : Option (List ℕ)) (e : BorshError) → ((bytes : List ℕ) → IsCut bytes → All bytes) → TakesSome IsCut old new e → TakesSome All old new e
-  some-so old new e cut t = record { bytes = t.bytes; taken = t.taken; end = t.end; needed = λ front back some is. cut front (t.needed front back some is); short = λ io. cut t.bytes (t.short io) }
+  some-so old new e cut t = record { bytes = t.bytes; taken = t.taken; end = t.end; needed = λ front back some is. cut front (t.needed front back some is); short = λ no. cut t.bytes (t.short no) }
 
 module _ {R T U : Type 0} {remaining : R → Option (List ℕ)} {Inner Outer : BorshError → List ℕ → Type 0} {old mid new : CountedView R} {e : BorshError} where
   -- a reading failed behind what was read
@@ -102,6 +102,11 @@ module _ {R T : Type 0} {remaining : R → Option (List ℕ)} {Inner Outer : Bor
   pub fails-like : (r : Result T BorshError) → ((f : BorshError) (input : List ℕ) → Inner f input → Outer f input) → FailsFor remaining Inner old new r → FailsFor remaining Outer old new r
   fails-like (Ok x) so told = record { err = tt; taken = tt; grows = told.grows; failed = told.failed }
   fails-like (Err e) so told = fails-as so told
+
+-- One of the next k items was not read; or room was refused, where the list was full, for the first of them, once it was read, or
+-- before, if it was the last.
+abbrev pub WantsItem : {C : Type 0} (Spells : C → List ℕ → Type 0) (Fits : C → Type 0) (Reason : BorshError → List ℕ → Type 0) (k : ℕ) (IsFull IsLast : Type 0) → BorshError → List ℕ → Type 0
+WantsItem Spells Fits Reason k IsFull IsLast error input = AfterItems Spells Fits Reason k error input ⊎ ((error ≡ Memory) × IsFull × (IsLast ⊎ IsBehind Spells Fits (λ _. Unit {0}) input))
 
 module _ {C : Type 0} (Fits : C → Type 0) where
   pub fit-join : (cs ds : List C) → AllByRecursion Fits cs → AllByRecursion Fits ds → AllByRecursion Fits (cs ++ ds)
@@ -208,23 +213,22 @@ module _ {C : Type 0} (Spells : C → List ℕ → Type 0) where
         let q : HasParts (IsCount n) (HasParts (SpellsItems Spells cs) (λ _. Unit {0})) input = group-rest p in
         (n, above, rest-so q tt)
 
-    -- room ahead is wanting
-    pub wants-ahead : (slots n : ℕ) (cs : List C) (old new : Option (List ℕ)) → WasRead n cs old new → slots < n → slots < 1024 → MayBe old (MayAllocate Spells Fits slots)
-    wants-ahead slots n cs old new w above few = maybe-behind old new (λ _. Unit {0}) _ w.taken (λ input p. inl (few, above-count slots n cs above input p)) (maybe-any new)
-
-    -- an item came that finds no room
+    -- an item came, or is to come as the last, that finds no room
     outgrows : (slots n : ℕ) (cs : List C) → AllByRecursion Fits cs → max slots 1024 ≤ length cs → length cs < n → (input : List ℕ)
-        → HasParts (HasParts (IsCount n) (SpellsItems Spells cs)) (IsBehind Spells Fits (λ _. Unit {0})) input → MayAllocate Spells Fits slots input
-    outgrows slots n cs fit most more input p =
-        let next = p.is_rest in
-        let q : HasParts (HasParts (HasParts (IsCount n) (SpellsItems Spells cs)) (SpellsItems Spells (next.content ∷ []))) (λ _. Unit {0}) input =
-        group-first (rest-so p (first-so next.parts (one-item next.content next.first next.is_first))) in
-        let long = length-append cs (next.content ∷ []) in
-        inr (record {
-          has = has-items n (cs ++ next.content ∷ []) input (fit-more Fits cs next.content fit next.valid) (first-so q (list-join n cs (next.content ∷ []) q.first q.is_first));
-          over = omega (arith, long, most);
-          few = omega (arith, long, more);
-        })
+        → HasParts (HasParts (IsCount n) (SpellsItems Spells cs)) (λ rest. (length cs + 1 ≡ n) ⊎ IsBehind Spells Fits (λ _. Unit {0}) rest) input → MayAllocate Spells Fits slots input
+    outgrows slots n cs fit most more input p = elim p.is_rest [
+      | inl last ↦ inr (record { has = has-items n cs input fit p; many = most; few = omega (arith, more); last = λ is. omega (arith, last, is) })
+      | inr next ↦
+          let q : HasParts (HasParts (HasParts (IsCount n) (SpellsItems Spells cs)) (SpellsItems Spells (next.content ∷ []))) (λ _. Unit {0}) input =
+          group-first (rest-so p (first-so next.parts (one-item next.content next.first next.is_first))) in
+          let long = length-append cs (next.content ∷ []) in
+          inr (record {
+            has = has-items n (cs ++ next.content ∷ []) input (fit-more Fits cs next.content fit next.valid) (first-so q (list-join n cs (next.content ∷ []) q.first q.is_first));
+            many = omega (arith, long, most);
+            few = omega (arith, long, more);
+            last = λ is. absurd (omega (arith, long, most, is));
+          })
+    ]
 
     module _ (Reason : BorshError → List ℕ → Type 0) (Allocates : List ℕ → Type 0) (room : ℕ) {R T U : Type 0} {remaining : R → Option (List ℕ)} {e : BorshError} where
       -- the count was not read
@@ -245,12 +249,28 @@ module _ {C : Type 0} (Spells : C → List ℕ → Type 0) where
         fails-block k more few grows same failed =
             fails-after (HasParts (IsCount n) (SpellsItems Spells cs)) w.taken grows same (counted-fronts Spells Fits (Reason Ended) fronts room n cs (omega (arith, more)) (omega (arith, few)) w.fit) (λ f input p. inr (in-block Reason f room n k cs w.fit more few input p)) failed
 
-    module _ (Reason : BorshError → List ℕ → Type 0) (fronts : FrontsAreCut Spells Fits (Reason Ended)) (slots n k : ℕ) (cs : List C) (IsFull : Type 0) {R T U : Type 0} {remaining : R → Option (List ℕ)} {old mid new : CountedView R} {e : BorshError} where
-      -- an item was not read, or came and found no room
-      pub fails-wanting : WasRead n cs (remaining old.inner) (remaining mid.inner) → length cs + k ≤ n → length cs < n → n < 2 ^ 64 → old.faults ≤ mid.faults → mid.failed ≡ old.failed → (IsFull → max slots 1024 ≤ length cs)
-          → FailsFor {T = T} remaining (λ f input. AfterItems Spells Fits Reason k f input ⊎ ((f ≡ Memory) × IsFull × IsBehind Spells Fits (λ _. Unit {0}) input)) mid new (Err e)
+    module _ (Reason : BorshError → List ℕ → Type 0) (fronts : FrontsAreCut Spells Fits (Reason Ended)) (slots n : ℕ) (cs : List C) {R U : Type 0} {remaining : R → Option (List ℕ)} {old new : CountedView R} where
+      -- room ahead was refused
+      pub refused-ahead : Reason Ended [] → WasRead n cs (remaining old.inner) (remaining new.inner) → length cs < n → length cs ≤ 2 ^ 64 - 1 → slots < n → slots < 1024 → old.faults ≤ new.faults → new.failed ≡ old.failed
+          → FailsFor {T = U} remaining (TinyReason Spells Fits Reason slots) old new (Err Memory)
+      refused-ahead none w more few above less grows same = record {
+        err = maybe-behind _ _ (λ _. Unit {0}) _ w.taken (λ input p. inl (inl (less, above-count slots n cs above input p))) (maybe-any _);
+        taken = record {
+          bytes = w.taken.0;
+          taken = w.taken.2;
+          end = λ is. cc;
+          needed = λ front back some is. counted-fronts Spells Fits (Reason Ended) fronts (2 ^ 64 - 1) n cs (omega (arith, more)) (omega (arith, few)) w.fit front back some (subst (HasParts (IsCount n) (SpellsItems Spells cs)) is w.taken.1);
+          short = λ _. inr (in-item (Reason Ended) (2 ^ 64 - 1) n cs w.fit more few w.taken.0 (record { first = w.taken.0; rest = []; is_first = w.taken.1; is_rest = none; whole = sym (append-nil w.taken.0) }));
+        };
+        grows = grows;
+        failed = none-failed same;
+      }
+
+      -- an item was not read, or found no room
+      pub fails-wanting : {T : Type 0} {mid : CountedView R} {e : BorshError} (k : ℕ) (IsFull : Type 0) → WasRead n cs (remaining old.inner) (remaining mid.inner) → length cs + k ≤ n → length cs < n → n < 2 ^ 64 → old.faults ≤ mid.faults → mid.failed ≡ old.failed → (IsFull → max slots 1024 ≤ length cs)
+          → FailsFor {T = T} remaining (WantsItem Spells Fits Reason k IsFull (length cs + 1 ≡ n)) mid new (Err e)
           → FailsFor {T = U} remaining (TinyReason Spells Fits Reason slots) old new (Err e)
-      fails-wanting w more less counted grows same full failed =
+      fails-wanting k IsFull w more less counted grows same full failed =
           fails-after (HasParts (IsCount n) (SpellsItems Spells cs)) w.taken grows same (counted-fronts Spells Fits (Reason Ended) fronts (2 ^ 64 - 1) n cs (omega (arith, less)) (omega (arith, less, counted)) w.fit) (λ f input p. elim p.is_rest [
             | inl so ↦ inr (in-block Reason f (2 ^ 64 - 1) n k cs w.fit more (omega (arith, more, counted)) input (rest-so p so))
             | inr wanting ↦ subst (λ f. TinyReason Spells Fits Reason slots f input) (sym wanting.0) (inl (outgrows slots n cs w.fit (full wanting.1) less input (rest-so p wanting.2)))

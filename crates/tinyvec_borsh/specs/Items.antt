@@ -70,15 +70,16 @@ module _ {C : Type 0} (Spells : C → List ℕ → Type 0) (Fits : C → Type 0)
     pub over : length items ≡ room + 1
     pub above : room < len
 
-  -- More items than this were spelled, and the count is no less.
+  -- At least as many items as this were spelled, and the count is no less. If just as many were, only one more is to come.
   pub record HasMoreItems (most : ℕ) (input : List ℕ) : Type 0 where
     pub has : HasItems input
     pub open has use *
-    pub over : most < length items
+    pub many : most ≤ length items
     pub few : length items ≤ len
+    pub last : length items ≡ most → len ≡ most + 1
 
   -- Reading a list into an array of that many slots may allocate: room ahead, for at most 1024 items, if the array has not even that; or
-  -- more, once an item came that neither the array nor that room has a place for.
+  -- more, once an item came that neither the array nor that room has a place for, or is to come as the last.
   abbrev pub MayAllocate : (slots : ℕ) → List ℕ → Type 0
   MayAllocate slots input = ((slots < 1024) × CountsAbove slots input) ⊎ HasMoreItems (max slots 1024) input
 

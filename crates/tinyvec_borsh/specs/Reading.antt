@@ -3,6 +3,7 @@ use Rattle.std.specs.Prelude.{◌≡◌, ℕ, ◌+◌, ◌<◌, ◌≤◌, ◌�
 use Rattle.std.specs.List.{AllByRecursion}
 use Rattle.std.specs.Io.KnownBytes.{Consumes, IsAtEnd}
 use Rattle.tinyvec_io.specs.Counted.{CountedView, Reported}
+use Rattle.tinyvec_borsh.specs.Apart.{IsOfInput}
 use Rattle.tinyvec_borsh.specs.Failed.{CountsIo}
 use Rattle.tinyvec_borsh.specs.Items.{IsCount, SpellsItems}
 use Rattle.tinyvec_borsh.specs.TwoParts.{HasParts}
@@ -23,14 +24,13 @@ abbrev pub ReadsSpelling : (List ℕ → Type 0) → Option (List ℕ) → Optio
 ReadsSpelling SpellsIt old new = (bytes : List ℕ) × SpellsIt bytes × Consumes old new bytes
 
 -- Some bytes were taken from the front of the input: all of it, if the error is `Ended`. No byte more was than shows the error: a
--- front of them, some byte short, is cut. At `Io`, which does not come of the input, all of them are; at `Memory` they may be a whole
--- spelling, since a last item is read before room is asked for it.
+-- front of them, some byte short, is cut. At `Io` and `Memory`, which do not come of the input, all of them are.
 pub record TakesSome (IsCut : List ℕ → Type 0) (old new : Option (List ℕ)) (error : BorshError) : Type 0 where
   pub bytes : List ℕ
   pub taken : Consumes old new bytes
   pub end : error ≡ Ended → IsAtEnd new
   pub needed : (front back : List ℕ) → 0 < length back → bytes ≡ front ++ back → IsCut front
-  pub short : error ≡ Io → IsCut bytes
+  pub short : ¬ (IsOfInput error) → IsCut bytes
 
 -- A reading into slots took `old` to `new` and failed. There are as many slots. Those at the front were read, one after another, of
 -- what was taken; the others are as they were, unless the reader wrote into the slots themselves.
@@ -55,7 +55,7 @@ Fails Reason input old_faults new_faults error = MayBe input (Reason error)
 -- only if the input is a reason for it.
 pub record FailsFor {R T : Type 0} (remaining : R → Option (List ℕ)) (Reason : BorshError → List ℕ → Type 0) (old new : CountedView R) (result : Result T BorshError) : Type 0 where
   pub err : IfErr result (Fails Reason (remaining old.inner) old.faults new.faults)
-  -- some bytes were taken, and no more than shows the error: all, if it is `Ended`; at `Io` no whole spelling
+  -- some bytes were taken, and no more than shows the error: all, if it is `Ended`; at `Io` and `Memory` no whole spelling
   pub taken : IfErr result (TakesSome (Reason Ended) (remaining old.inner) (remaining new.inner))
   pub grows : old.faults ≤ new.faults
   -- one call failed at `Io`, else none: not at `Ok` either

@@ -7,7 +7,8 @@ use Rattle.tinyvec_slots.specs.AnySplice.{SpliceView, Splices, FinishesWith}
 use Rattle.tinyvec_slots.specs.SplicedByWord.{IsSpliceRefused, SplicedByWord}
 use Rattle.tinyvec_slots.specs.declared.no_room.NoRoom.{NoRoom}
 use Rattle.tinyvec_slots.proofs.AnySpliceLemmas.{spliced_len, spliced_all, spliced_refused}
-use Rattle.tinyvec_array.specs.ArrayVec.{view_of, items_of, spare_of, slots_of, len_of, SameLender}
+use Rattle.tinyvec_array.specs.ArrayVec.{view_of, items_of, spare_of, slots_of, len_of}
+use Rattle.tinyvec_array.specs.View.{view as slots_view}
 use Rattle.tinyvec_array.specs.CutLaws.{KeptOf}
 use Rattle.tinyvec_slots.specs.Splice.{splice_vec, SpliceKeeps}
 use Rattle.tinyvec_array.proofs.ViewLemmas.{parts_of}
@@ -54,11 +55,11 @@ ended_slots g D s t old v keeps slots rule =
 
 -- as many slots as at its start
 pub ended_count : {S T L I : Type 0} (g : Storage.Ghosts S T L) (s t : Splice (ArrayVec S L) (Fuse I)) (old v : ArrayVec S L) → SpliceKeeps (items_of g) (KeptOf g) s t
-    → splice_vec s ≡ old → SameLender g (splice_vec t) v → length (slots_of g v) ≡ length (slots_of g old)
-ended_count g s t old v keeps slots lender =
+    → splice_vec s ≡ old → (slots_view g v).place ≡ (slots_view g (splice_vec t)).place → length (slots_of g v) ≡ length (slots_of g old)
+ended_count g s t old v keeps slots place =
     let count : len_of g (splice_vec t) ≡ len_of g old = keeps.kept.1.1 ∙ ap (len_of g) slots in
     let behind : length (spare_of g (splice_vec t)) ≡ length (spare_of g old) = ap length (keeps.kept.1.0 ∙ ap (spare_of g) slots) in
-    omega (arith, lender.slot_count, count, behind, parts_of g (splice_vec t), parts_of g old)
+    omega (arith, ap (λ p. p.capacity) place, count, behind, parts_of g (splice_vec t), parts_of g old)
 
 -- what was taken from an end
 module _ {S I T : Type 0} (view : S → SpliceView I T) (keeps : S → S → Type 0) (gives : I → Option T → I → Type 0) (s t : S) where

@@ -14,3 +14,4 @@ pub mod Lends
 pub mod InlineText
 pub mod Counted
 pub mod Borsh
+pub mod Views

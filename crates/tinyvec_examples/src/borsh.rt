@@ -1,7 +1,7 @@
 //! What callers can prove of every type that can be written and read.
 ghost use Rattle.std.specs.Prelude.{◌≡◌, ◌⊎◌, ◌++◌, ℕ, List, map, IfErr, IfOk};
 ghost use Rattle.tinyvec_array.specs.ArrayVec.{items_of};
-ghost use Rattle.tinyvec.specs.TinyVec.{tiny_items, tiny_items_of};
+ghost use Rattle.tinyvec.specs.TinyVec.{view, tiny_items};
 ghost use Rattle.tinyvec_borsh.specs.Code.{TellsApart};
 ghost use Rattle.tinyvec_borsh.specs.Reading.{ReadsBack};
 
@@ -42,7 +42,7 @@ pub fn copied_tiny<A: Array>(alloc: Global, v: &TinyVec<A>) -> Result<TinyVec<A>
 where
     A::Item: BorshSerialize + BorshDeserialize,
     requires { TellsApart A.Item.content_of }
-    ensures same { IfOk result (λ w. tiny_items_of A.Slots w ≡ tiny_items_of A.Slots v.now) }
+    ensures same { IfOk result (λ w. (view A.Slots w).items ≡ (view A.Slots v.now).items) }
     ensures err { IfErr result (λ e. (e ≡ BorshError.Io) ⊎ (e ≡ BorshError.Memory)) }
 {
     copied(alloc, v)

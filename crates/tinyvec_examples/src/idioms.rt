@@ -4,7 +4,7 @@ ghost use Rattle.tinyvec.specs.TinyVec.{tiny_len};
 
 use std::alloc::AllocError;
 use std::collections::{BTreeMap, HashMap};
-use tinyvec::TinyVec;
+use tinyvec::{ArrayVec, NoMemory, TinyVec};
 
 /// `&v[1..]`.
 pub fn all_but_first(v: &TinyVec<[u32; 4]>) -> &[u32]
@@ -40,6 +40,18 @@ pub fn has_one(v: &TinyVec<[u32; 4]>) -> bool {
 pub fn set_all(v: &mut TinyVec<[u32; 4]>) {
     for x in v {
         *x = 1;
+    }
+}
+
+/// Appends a number, or else puts it into a list that does not allocate. What fits neither is returned.
+pub fn push_or_keep(
+    v: &mut TinyVec<[u32; 4]>,
+    x: u32,
+    kept: &mut ArrayVec<[u32; 8]>,
+) -> Option<u32> {
+    match v.push(x) {
+        Ok(()) => None,
+        Err(NoMemory(x)) => kept.try_push(x),
     }
 }
 

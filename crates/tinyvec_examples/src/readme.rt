@@ -9,5 +9,6 @@ pub mod loops;
 pub mod names;
 pub mod numbers;
 pub mod slice;
+pub mod stack;
 pub mod texts;
 pub mod tokens;

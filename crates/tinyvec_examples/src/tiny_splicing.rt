@@ -5,8 +5,8 @@ ghost use Rattle.std.specs.Iterator.Adapters.{fuse_steps};
 ghost use Rattle.tinyvec.specs.Ends.{front, back, RunsWord};
 ghost use Rattle.tinyvec.specs.Fused.{fused_rest, FusedFinite, HasTwoEnds};
 ghost use Rattle.tinyvec.specs.SplicedByWord.{IsSpliceRefused, SplicedByWord};
-ghost use Rattle.tinyvec.specs.TinyVec.{tiny_items, tiny_items_of, tiny_len_of, IsInline, tiny_view_of, tiny_capacity_of};
-ghost use Rattle.tinyvec.specs.View.{PlaceRule, TinySlotRule};
+ghost use Rattle.tinyvec.specs.TinyVec.{view, tiny_items, IsInline};
+ghost use Rattle.tinyvec.specs.Room.{GrowsByPushes};
 ghost use Rattle.tinyvec.specs.FrameLaws.{FrameOf};
 ghost use Rattle.tinyvec.specs.Splice.{splice_view, splice_replacement, SpliceKeeps, SpliceCanStep, SpliceSteps, SpliceStepsBack};
 
@@ -33,16 +33,16 @@ pub fn replaced_inline(alloc: Global) -> (Option<i32>, bool, TinyVec<[i32; 4]>)
 pub fn one_from_each_end<A: Array, I: DoubleEndedIterator<Item = A::Item>>(
     splice: &mut TinyVecSplice<'_, A, Fuse<I>>,
 ) -> (Option<A::Item>, Option<A::Item>)
-    requires ready { SpliceCanStep (tiny_items_of A.Slots) splice.old }
+    requires ready { SpliceCanStep (λ v. (view A.Slots v).items) splice.old }
     requires can { (s : I) → I.can_next s × I.can_next_back s }
-    ensures asked { RunsWord (SpliceSteps (tiny_items_of A.Slots) (FrameOf A.Slots) (fuse_steps I.next_gives))
-        (SpliceStepsBack (tiny_items_of A.Slots) (FrameOf A.Slots) (fuse_steps I.next_back_gives))
+    ensures asked { RunsWord (SpliceSteps (λ v. (view A.Slots v).items) (FrameOf A.Slots) (fuse_steps I.next_gives))
+        (SpliceStepsBack (λ v. (view A.Slots v).items) (FrameOf A.Slots) (fuse_steps I.next_back_gives))
         splice.old (front ∷ back ∷ []) (result.0 ∷ result.1 ∷ []) splice.new }
     ensures spliced { (rest : I → List A.Item) → HasTwoEnds I.next_gives I.next_back_gives rest
-        → SplicedByWord (splice_view (tiny_items_of A.Slots)) (SpliceKeeps (tiny_items_of A.Slots) (FrameOf A.Slots))
-        (fused_rest rest) splice.old (front ∷ back ∷ []) splice.new }
-    ensures kept { SpliceKeeps (tiny_items_of A.Slots) (FrameOf A.Slots) splice.old splice.new }
-    ensures ready { SpliceCanStep (tiny_items_of A.Slots) splice.new }
+        → SplicedByWord (splice_view (λ v. (view A.Slots v).items))
+        (SpliceKeeps (λ v. (view A.Slots v).items) (FrameOf A.Slots)) (fused_rest rest) splice.old (front ∷ back ∷ []) splice.new }
+    ensures kept { SpliceKeeps (λ v. (view A.Slots v).items) (FrameOf A.Slots) splice.old splice.new }
+    ensures ready { SpliceCanStep (λ v. (view A.Slots v).items) splice.new }
     ensures finite { FusedFinite I.remaining (splice_replacement splice.old)
         → FusedFinite I.remaining (splice_replacement splice.new) }
 {
@@ -59,22 +59,22 @@ pub fn replace<A: Array, I: DoubleEndedIterator<Item = A::Item>>(
     replacement: I,
 ) -> Result<(), SpliceRest<A::Item, Fuse<I>>>
     requires start_le_end { start ≤ end }
-    requires in_bounds { end ≤ tiny_len_of A.Slots vec.old }
+    requires in_bounds { end ≤ length (view A.Slots vec.old).items }
     requires can { (s : I) → I.can_next s × I.can_next_back s }
     requires finite { IsFinite (I.remaining replacement) }
     ensures list { (rest : I → List A.Item) → HasTwoEnds I.next_gives I.next_back_gives rest
         → OnOk result
-        (tiny_items_of A.Slots vec.new ≡ take start (tiny_items_of A.Slots vec.old) ++ rest replacement ++ drop end (tiny_items_of A.Slots vec.old))
+        ((view A.Slots vec.new).items
+        ≡ take start (view A.Slots vec.old).items ++ rest replacement ++ drop end (view A.Slots vec.old).items)
         × IfErr result
-        (λ refused. IsSpliceRefused (front ∷ back ∷ []) (end - start) (take start (tiny_items_of A.Slots vec.old))
-        (drop end (tiny_items_of A.Slots vec.old)) (rest replacement) (tiny_items_of A.Slots vec.new)
+        (λ refused. IsSpliceRefused (front ∷ back ∷ []) (end - start) (take start (view A.Slots vec.old).items)
+        (drop end (view A.Slots vec.old).items) (rest replacement) (view A.Slots vec.new).items
         (refused.item ∷ fused_rest rest refused.rest)) }
     ensures succeeds { (rest : I → List A.Item) → HasTwoEnds I.next_gives I.next_back_gives rest
-        → start + length (rest replacement) + (tiny_len_of A.Slots vec.old - end) ≤ tiny_capacity_of A.Slots vec.old
-        → IsOk result }
-    ensures full { OnErr result (tiny_len_of A.Slots vec.new ≡ tiny_capacity_of A.Slots vec.new) }
-    ensures place { PlaceRule (tiny_len_of A.Slots vec.new) (tiny_view_of A.Slots vec.old) (tiny_view_of A.Slots vec.new) }
-    ensures slot_rule { TinySlotRule A.Item.is_default (tiny_view_of A.Slots vec.old) (tiny_view_of A.Slots vec.new) }
+        → start + length (rest replacement) + (length (view A.Slots vec.old).items - end)
+        ≤ (view A.Slots vec.old).place.capacity → IsOk result }
+    ensures full { OnErr result (length (view A.Slots vec.new).items ≡ (view A.Slots vec.new).place.capacity) }
+    ensures grows { GrowsByPushes A.Item.is_default (view A.Slots vec.old) (view A.Slots vec.new) }
 {
     let mut splice = vec.splice(start..end, replacement);
     let _ends = one_from_each_end(&mut splice);

@@ -1,8 +1,8 @@
 //! Callers of a `TinyVec`: one list, and where it is.
-ghost use Rattle.std.specs.Prelude.{◌≡◌, ◌+◌, ◌-◌, ◌<◌, ◌++◌, ◌∷◌, [], pos, slice_set, IfOk, OnOk, OnErr};
+ghost use Rattle.std.specs.Prelude.{◌≡◌, ◌+◌, ◌-◌, ◌<◌, ◌++◌, ◌∷◌, [], pos, length, slice_set, IsTrue, IfOk, OnOk, OnErr};
 ghost use Rattle.tinyvec.specs.Ranges.{IsRangeOf, before, after};
-ghost use Rattle.tinyvec.specs.TinyVec.{tiny_items, tiny_items_of, tiny_len_of, tiny_spare, tiny_spare_of, is_inline, IsInline, tiny_capacity, tiny_capacity_of, tiny_view_of};
-ghost use Rattle.tinyvec.specs.View.{Becomes, Unchanged};
+ghost use Rattle.tinyvec.specs.TinyVec.{view, tiny_items, tiny_spare, IsInline, tiny_capacity};
+ghost use Rattle.tinyvec.specs.View.{Becomes};
 
 use std::alloc::{AllocError, Global};
 use std::mem;
@@ -28,8 +28,8 @@ pub fn push_then_write<A: Array>(
     x: A::Item,
     y: A::Item,
 ) -> Result<(), NoMemory<A::Item>>
-    ensures items { OnOk result (tiny_items_of A.Slots v.new ≡ tiny_items_of A.Slots v.old ++ y ∷ []) }
-    ensures kept { OnErr result (Unchanged (tiny_view_of A.Slots v.old) (tiny_view_of A.Slots v.new)) }
+    ensures items { OnOk result ((view A.Slots v.new).items ≡ (view A.Slots v.old).items ++ y ∷ []) }
+    ensures kept { OnErr result (view A.Slots v.new ≡ view A.Slots v.old) }
 {
     *v.push_mut(x)? = y;
     Ok(())
@@ -37,8 +37,8 @@ pub fn push_then_write<A: Array>(
 
 /// To the heap and back: the same list, inline if it was inline.
 pub fn there_and_back<A: Array>(v: &mut TinyVec<A>) -> Result<(), AllocError>
-    ensures items { tiny_items_of A.Slots v.new ≡ tiny_items_of A.Slots v.old }
-    ensures place { IsInline v.old → IsInline v.new }
+    ensures items { (view A.Slots v.new).items ≡ (view A.Slots v.old).items }
+    ensures place { IsTrue (view A.Slots v.old).place.inline → IsTrue (view A.Slots v.new).place.inline }
 {
     // A vector that was lent is not known to fit until a call says so.
     let _len = v.len();
@@ -49,10 +49,10 @@ pub fn there_and_back<A: Array>(v: &mut TinyVec<A>) -> Result<(), AllocError>
 
 /// One item of any vector is written: that item, and nothing else.
 pub fn set<A: Array>(v: &mut TinyVec<A>, i: usize, x: A::Item)
-    requires { i < tiny_len_of A.Slots v.old }
-    ensures items { tiny_items_of A.Slots v.new ≡ slice_set (tiny_items_of A.Slots v.old) i x }
-    ensures spare { tiny_spare_of A.Slots v.new ≡ tiny_spare_of A.Slots v.old }
-    ensures place { is_inline v.new ≡ is_inline v.old }
+    requires { i < length (view A.Slots v.old).items }
+    ensures items { (view A.Slots v.new).items ≡ slice_set (view A.Slots v.old).items i x }
+    ensures spare { (view A.Slots v.new).spare ≡ (view A.Slots v.old).spare }
+    ensures place { (view A.Slots v.new).place ≡ (view A.Slots v.old).place }
 {
     v[i] = x;
 }
@@ -60,9 +60,9 @@ pub fn set<A: Array>(v: &mut TinyVec<A>, i: usize, x: A::Item)
 /// Any range of any vector: what preceded and followed it is left, in its place.
 pub fn cut<A: Array, R: RangeBounds<usize>>(v: &mut TinyVec<A>, range: R)
     requires not_exhausted { R.has_bounds range }
-    requires in_list { IsRangeOf (tiny_items_of A.Slots v.old) (R.start_bound range) (R.end_bound range) }
-    ensures { Becomes A.Item.is_default (tiny_view_of A.Slots v.old) (tiny_view_of A.Slots v.new)
-        (before (tiny_items_of A.Slots v.old) (R.start_bound range) ++ after (tiny_items_of A.Slots v.old) (R.end_bound range)) }
+    requires in_list { IsRangeOf (view A.Slots v.old).items (R.start_bound range) (R.end_bound range) }
+    ensures { Becomes A.Item.is_default (view A.Slots v.old) (view A.Slots v.new)
+        (before (view A.Slots v.old).items (R.start_bound range) ++ after (view A.Slots v.old).items (R.end_bound range)) }
 {
     drop(v.drain(range));
 }
@@ -86,16 +86,17 @@ pub fn moved_by_iterator<A: Array>(
     from: TinyVec<A>,
     to: &mut TinyVec<A>,
 ) -> Result<(), NoRoom<A::Item, TinyVecIterator<A>>>
-    requires { tiny_items_of A.Slots to.old ≡ [] }
-    ensures { OnOk result (tiny_items_of A.Slots to.new ≡ tiny_items_of A.Slots from) }
+    requires { (view A.Slots to.old).items ≡ [] }
+    ensures { OnOk result ((view A.Slots to.new).items ≡ (view A.Slots from).items) }
 {
     to.extend(from)
 }
 
 /// Appends an item if there is room, which allocates nothing.
 pub fn push_if_room<A: Array>(v: &mut TinyVec<A>, x: A::Item)
-    ensures room { tiny_len_of A.Slots v.old < tiny_capacity_of A.Slots v.old → tiny_items_of A.Slots v.new ≡ tiny_items_of A.Slots v.old ++ x ∷ [] }
-    ensures place { is_inline v.new ≡ is_inline v.old }
+    ensures room { length (view A.Slots v.old).items < (view A.Slots v.old).place.capacity
+        → (view A.Slots v.new).items ≡ (view A.Slots v.old).items ++ x ∷ [] }
+    ensures place { (view A.Slots v.new).place ≡ (view A.Slots v.old).place }
 {
     if v.len() < v.capacity() {
         v.push_reserved(x);
@@ -114,7 +115,7 @@ pub fn emptied_inline(v: &mut TinyVec<[u8; 16]>)
 /// The list, taken out. What is left is empty and inline.
 pub fn taken<A: Array>(v: &mut TinyVec<A>) -> Result<TinyVec<A>, AllocError>
     ensures taken { IfOk result (λ out. out ≡ v.old) }
-    ensures left { OnOk result ((tiny_items_of A.Slots v.new ≡ []) × IsInline v.new) }
+    ensures left { OnOk result (((view A.Slots v.new).items ≡ []) × IsTrue (view A.Slots v.new).place.inline) }
 {
     mem::try_take(v)
 }

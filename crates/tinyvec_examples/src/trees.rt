@@ -1,6 +1,7 @@
 //! A node of a tree, as it can be written here.
 ghost use Rattle.std.specs.Prelude.{◌≡◌};
 
+use std::alloc::{AllocError, Global};
 use tinyvec::TinyVec;
 
 /// A number, or a sum of such terms, the first two of which are in the array of its vector.
@@ -18,4 +19,13 @@ impl Default for Term {
     fn default() -> Term {
         Term::Leaf(0)
     }
+}
+
+/// The sum of some numbers, as a tree.
+pub fn sum(alloc: Global, numbers: &[u32]) -> Result<Term, AllocError> {
+    let mut terms = TinyVec::new(alloc);
+    for number in numbers {
+        terms.push(Term::Leaf(*number))?;
+    }
+    Ok(Term::Sum(Box::new(alloc, terms)?))
 }

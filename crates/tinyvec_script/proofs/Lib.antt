@@ -6,5 +6,4 @@ pub mod HistoryLemmas
 pub mod Written
 pub mod DrivingLemmas
 pub mod SpliceText
-pub mod StepLemmas
 pub mod WrongRuns

@@ -4,7 +4,7 @@ use Rattle.std.specs.Fmt.{signed_decimal}
 use Rattle.std.specs.List.{join_by}
 use Rattle.tinyvec_slots.specs.Slots.{Slots, items_in, spare_in}
 use Rattle.tinyvec_text.specs.InlineText.{Text}
-use Rattle.tinyvec.specs.View.{TinyView, lies_inline}
+use Rattle.tinyvec.specs.View.{TinyView}
 use Rattle.tinyvec_script.specs.declared.call.Answer.{Answer}
 use Rattle.tinyvec_script.specs.declared.call.Answer.TheVariants as answers
 
@@ -48,7 +48,7 @@ place_state_text items inline = list_text items ++ codes " " ++ place_text inlin
 
 -- a vector: its list and its place
 abbrev pub tiny_text : TinyView ℤ → List ℕ
-tiny_text v = place_state_text v.items (lies_inline v.place)
+tiny_text v = place_state_text v.items v.place.inline
 
 -- the bytes of a text in brackets, and its place
 unfoldable pub text_state_text : List ℕ → Bool → List ℕ
@@ -56,4 +56,4 @@ text_state_text bytes inline = codes "[" ++ bytes ++ codes "] " ++ place_text in
 
 -- a text and its place
 abbrev pub inline_text_text : Text → List ℕ
-inline_text_text x = text_state_text x.bytes (lies_inline x.place)
+inline_text_text x = text_state_text x.bytes x.place.inline

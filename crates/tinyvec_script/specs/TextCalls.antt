@@ -1,9 +1,8 @@
 -- The text of a script: how its calls are spelled, what they may be answered, and what they then leave.
-use Rattle.std.specs.Prelude.{◌≡◌, ℕ, ℤ, ◌+◌, ◌<◌, ◌≤◌, ◌^◌, List, ◌++◌, length, take, codes, chars, IsUtf8}
+use Rattle.std.specs.Prelude.{◌≡◌, ℕ, ℤ, ◌+◌, ◌<◌, ◌≤◌, ◌^◌, List, ◌++◌, length, codes, chars, IsUtf8}
 use Rattle.std.specs.Fmt.{decimal}
-use Rattle.tinyvec.specs.View.{lies_inline, capacity_in}
-use Rattle.tinyvec_text.specs.InlineText.{Text, text_chars, text_len, text_view, TextStaysInPlace, IsBoundary}
-use Rattle.tinyvec_script.specs.TinyCalls.{NeedsRoom}
+use Rattle.tinyvec.specs.View.{Reserved, place_for}
+use Rattle.tinyvec_text.specs.InlineText.{Text, text_chars, text_len, TextBecomesIn, TextKeepsFront, IsBoundary}
 use Rattle.tinyvec_script.specs.declared.call.Answer.{Answer}
 use Rattle.tinyvec_script.specs.declared.call.Answer.TheVariants as answers
 use Rattle.tinyvec_script.specs.declared.text_command.TextCall.{TextCall as Said}
@@ -35,26 +34,14 @@ pub record IsTextCommand (line : List ℕ) (call : TextCall) : Type 0 where
   pub valid : TextFits call
   pub short : length line ≤ 128
 
--- the bytes were appended, with room for the joined length, as `push_str` makes it
-pub record Added (old : Text) (text : List ℕ) (new : Text) : Type 0 where
-  pub chars_are : text_chars new ≡ text_chars old ++ chars text
-  pub bytes_are : new.bytes ≡ old.bytes ++ text
-  pub room : NeedsRoom (lies_inline old.place) (text_len old + length text) (text_view old) (text_view new)
-
--- the first characters were kept, whose bytes are `index`, in their place
-pub record CutAt (old : Text) (index : ℕ) (new : Text) : Type 0 where
-  pub boundary : IsBoundary (text_chars old) index
-  pub chars_are : (rest : List ℕ) × (text_chars old ≡ text_chars new ++ rest)
-  pub bytes_are : new.bytes ≡ take index old.bytes
-  pub len : text_len new ≡ index
-  pub frame : TextStaysInPlace old new
-
 -- From the old text the call may have this answer, and leave the new one. A refused allocation is a case of its own: `Memory`
 -- only if the joined text does not fit the room of the old one. It changes nothing, and neither does `Range`.
 abbrev pub TextStep : Text → TextCall → Answer ℤ → Text → Type 0
-TextStep old (add text) answers.Done new = Added old text new
-TextStep old (add text) answers.Memory new = (capacity_in old.place < text_len old + length text) × (new ≡ old)
-TextStep old (cut index) answers.Done new = CutAt old index new
+TextStep old (add text) answers.Done new =
+    TextBecomesIn new (old.bytes ++ text) (text_chars old ++ chars text)
+    (place_for Reserved (text_len old + length text) old.place)
+TextStep old (add text) answers.Memory new = (old.place.capacity < text_len old + length text) × (new ≡ old)
+TextStep old (cut index) answers.Done new = IsBoundary (text_chars old) index × TextKeepsFront index old new
 TextStep old (cut index) answers.Range new = (IsBoundary (text_chars old) index → ⊥) × (new ≡ old)
 -- no other answer is given
 TextStep old call answer new = ⊥

@@ -7,7 +7,7 @@ ghost use Rattle.tinyvec_array.specs.ArrayVec.{view_of, items_of, slots_of, len_
 ghost use Rattle.tinyvec_slots.specs.Slots.{items_in, SlotRule};
 ghost use Rattle.tinyvec_slots.specs.Fused.{fused_rest};
 ghost use Rattle.tinyvec_slots.specs.Splice.{splice_left, SpliceCanStep, SpliceSteps, SpliceStepsBack};
-ghost use Rattle.tinyvec.specs.TinyVec.{tiny_view_of, tiny_items_of, tiny_len_of, tiny_capacity_of};
+ghost use Rattle.tinyvec.specs.TinyVec.{view};
 ghost use Rattle.tinyvec.specs.Room.{GrowsByPushes};
 ghost use Rattle.tinyvec_script.specs.Driving.{word_of, TakesAt, refused_items, DrivenSplices, SpliceComputes};
 ghost use Rattle.tinyvec_script.specs.declared.call.Answer.TheVariants as answers;
@@ -88,12 +88,12 @@ pub fn drive_tiny_splice<A: Array>(
     word: &[End],
 ) -> Result<Driven<A::Item>, NoMemory<Vec<A::Item>>>
     requires start_le_end { start ≤ end }
-    requires in_bounds { end ≤ tiny_len_of A.Slots vec.old }
+    requires in_bounds { end ≤ length (view A.Slots vec.old).items }
     ensures splices { IfOk result (λ driven. DrivenSplices (λ v. v.items) (GrowsByPushes A.Item.is_default)
-        (tiny_capacity_of A.Slots vec.new) (tiny_view_of A.Slots vec.old) start end word.now replacement.items
-        driven.yields.items driven.rest.items (tiny_view_of A.Slots vec.new)) }
-    ensures computed { IfOk result (λ driven. SpliceComputes (tiny_capacity_of A.Slots vec.new) (tiny_items_of A.Slots vec.old)
-        start end word.now replacement.items driven.yields.items driven.rest.items (tiny_items_of A.Slots vec.new)) }
+        (view A.Slots vec.new).place.capacity (view A.Slots vec.old) start end word.now replacement.items
+        driven.yields.items driven.rest.items (view A.Slots vec.new)) }
+    ensures computed { IfOk result (λ driven. SpliceComputes (view A.Slots vec.new).place.capacity (view A.Slots vec.old).items
+        start end word.now replacement.items driven.yields.items driven.rest.items (view A.Slots vec.new).items) }
     ensures refused { IfErr result (λ refused. (refused.0 ≡ replacement) × (vec.new ≡ vec.old)
         × (start < end + vec_len replacement)) }
 {

@@ -3,7 +3,7 @@ ghost use Rattle.std.specs.Prelude.{◌≡◌, ◌≢◌, [], IfOk, IfErr};
 ghost use Rattle.tinyvec_array.specs.ArrayVec.{view_of, SameLender};
 ghost use Rattle.tinyvec_array.specs.SliceVec.{slice_view};
 ghost use Rattle.tinyvec_script.specs.Step.{ArrayStep, SliceStep, Run};
-ghost use Rattle.tinyvec.specs.TinyVec.{tiny_view_of};
+ghost use Rattle.tinyvec.specs.TinyVec.{view};
 ghost use Rattle.tinyvec_script.specs.TinyCalls.{TinyStep};
 ghost use Rattle.tinyvec_script.specs.declared.call.Call as calls;
 ghost use Rattle.tinyvec_script.specs.declared.call.Answer as answers;
@@ -63,10 +63,10 @@ impl<'s, T: Default + Drop> Answers<SliceVec<'s, T>> for InSlice {
 impl<A: Array> Answers<TinyVec<A>> for InTiny {
     type Item = A::Item;
 
-    ghost step = { λ old call answer new. TinyStep A.Item.is_default A.CAPACITY (tiny_view_of A.Slots old) call answer (tiny_view_of A.Slots new) };
+    ghost step = { λ old call answer new. TinyStep A.Item.is_default A.CAPACITY (view A.Slots old) call answer (view A.Slots new) };
 
     fn answer(vec: &mut TinyVec<A>, alloc: Global, call: Call<A::Item>) -> Answer<A::Item>
-        ensures { TinyStep A.Item.is_default A.CAPACITY (tiny_view_of A.Slots vec.old) call result (tiny_view_of A.Slots vec.new) }
+        ensures { TinyStep A.Item.is_default A.CAPACITY (view A.Slots vec.old) call result (view A.Slots vec.new) }
     {
         answer_tiny(alloc, vec, call)
     }
@@ -108,7 +108,7 @@ pub fn run_tiny<A: Array>(
     calls: Vec<Call<A::Item>>,
 ) -> Result<Vec<Answer<A::Item>>, NoMemory<Vec<Call<A::Item>>>>
     ensures run { IfOk result (λ answers. Run (TinyStep A.Item.is_default A.CAPACITY)
-        (tiny_view_of A.Slots vec.old) calls.items answers.items (tiny_view_of A.Slots vec.new)) }
+        (view A.Slots vec.old) calls.items answers.items (view A.Slots vec.new)) }
     ensures refused { IfErr result (λ refused. (refused.0 ≡ calls) × (vec.new ≡ vec.old) × (calls.items ≢ [])) }
 {
     run_calls::<InTiny, _>(alloc, vec, calls)

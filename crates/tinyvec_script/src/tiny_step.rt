@@ -1,6 +1,6 @@
 //! One call of a `TinyVec`, answered.
-ghost use Rattle.std.specs.Prelude.{◌≤◌};
-ghost use Rattle.tinyvec.specs.TinyVec.{tiny_view_of, tiny_len_of, tiny_capacity_of};
+ghost use Rattle.std.specs.Prelude.{◌≤◌, length};
+ghost use Rattle.tinyvec.specs.TinyVec.{view};
 ghost use Rattle.tinyvec_script.specs.TinyCalls.{TinyAnswers};
 
 use crate::driving::answer_driven;
@@ -14,8 +14,8 @@ pub(crate) fn answer_tiny<A: Array>(
     vec: &mut TinyVec<A>,
     call: Call<A::Item>,
 ) -> Answer<A::Item>
-    ensures answered { TinyAnswers A.Item.is_default A.CAPACITY (tiny_view_of A.Slots vec.old) call result (tiny_view_of A.Slots vec.new) }
-    ensures fits { tiny_len_of A.Slots vec.new ≤ tiny_capacity_of A.Slots vec.new }
+    ensures answered { TinyAnswers A.Item.is_default A.CAPACITY (view A.Slots vec.old) call result (view A.Slots vec.new) }
+    ensures fits { length (view A.Slots vec.new).items ≤ (view A.Slots vec.new).place.capacity }
 {
     let len = vec.len();
     match call {

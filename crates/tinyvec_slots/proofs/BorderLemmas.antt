@@ -1,5 +1,5 @@
 -- Lemmas on calls that write slots and then move the border between the items and the spare slots.
-use Rattle.std.proofs.Common.{◌≡◌, ℕ, ◌+◌, ◌-◌, ◌<◌, ◌≤◌, List, ◌∷◌, ◌++◌, length, take, drop, set, remove, slice_range, true≢false, refl, sym, ap, subst, ◌∙◌, arith, rules, take_at, drop_at, length-append, append_assoc, length-take-le}
+use Rattle.std.proofs.Common.{◌≡◌, ℕ, ◌+◌, ◌-◌, ◌<◌, ◌≤◌, List, ◌∷◌, ◌++◌, length, take, drop, set, remove, slice_range, true≢false, refl, sym, ap, subst, ◌∙◌, arith, rules, take_at, drop_at, length-append, append_assoc, length-take, length-take-le}
 use Rattle.std.proofs.lemmas.List.{same_lists, places, drop-drop, drop-set-add}
 use Rattle.std.proofs.lemmas.List.Elements.{same_from_all_zip}
 use Rattle.std.specs.List.{AppendsClones}
@@ -140,3 +140,25 @@ module _ {T R E : Type 0} (g : Clone.Ghosts T) (v : Slots T) (n : ℕ) (is : n �
         refused = (j, refused, clones_behind fits there);
         succeeds = λ all. absurd (all_granted g.is_infallible xs j all refused);
       }
+
+-- of the list in the first n slots the elements from i up to j were replaced by `new`, and the later ones moved
+module _ {X : Type 0} (k : ℕ) (xs : List X) (n : ℕ) (is : n ≡ length (take k xs)) (i j : ℕ) (new ys : List X) (m : ℕ) (le : i ≤ j) (inside : j ≤ n)
+    (count : m ≡ n - (j - i) + length new) (fits : m ≤ length xs)
+    (put : ys ≡ take i xs ++ new ++ slice_range xs j n ++ drop (i + length new + (n - j)) xs) where
+  pub replaced_length : length ys ≡ length xs
+  replaced_length = rw put (search (rules, places, is, count, fits))
+
+  pub replaced_len : length (take k ys) ≡ n
+  replaced_len = omega (arith, is, replaced_length, length-take k ys, length-take k xs)
+
+  pub replaced_list : take m ys ≡ take i (take k xs) ++ new ++ drop j (take k xs)
+  replaced_list = rw put (same_lists _ _ (search (rules, places, is, count, fits)) (λ e d h. grind (arith, places, is, count, fits)))
+
+  pub replaced_shorter : m ≤ n → take m (take k ys) ≡ take i (take k xs) ++ new ++ drop j (take k xs)
+  replaced_shorter few = rw put (same_lists _ _ (search (rules, places, is, count, fits)) (λ e d h. grind (arith, places, is, count, fits)))
+
+  pub replaced_behind : m ≤ n → drop k ys ≡ drop k xs
+  replaced_behind few = rw put (same_lists _ _ (search (rules, places, is, count, fits)) (λ e d h. grind (arith, places, is, count, fits)))
+
+  pub replaced_longer : n ≤ m → drop m ys ≡ drop (m - n) (drop k xs)
+  replaced_longer more = rw put (same_lists _ _ (search (rules, places, is, count, fits)) (λ e d h. grind (arith, places, is, count, fits)))

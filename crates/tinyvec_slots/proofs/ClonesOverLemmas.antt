@@ -1,6 +1,6 @@
 -- Clones written over slots, block by block.
-use Rattle.std.proofs.Common.{◌≡◌, ℕ, zero, suc, ◌+◌, ◌-◌, ◌<◌, ◌≤◌, List, [], ◌∷◌, ◌++◌, All, length, take, drop, set, get_or, replicate, refl, sym, ap, subst, ◌∙◌, le_refl, arith, append-nil, append_assoc, length-append, take_at, drop_at, take_all, drop-drop, get_or-drop}
-use Rattle.std.proofs.lemmas.List.{take_more, replicate_more, drop_all, take_rest}
+use Rattle.std.proofs.Common.{◌≡◌, ℕ, zero, suc, ◌+◌, ◌-◌, ◌<◌, ◌≤◌, List, [], ◌∷◌, ◌++◌, All, length, take, drop, set, get_or, refl, sym, ap, subst, ◌∙◌, le_refl, arith, append-nil, append_assoc, length-append, take_at, drop_at, take_all, drop-drop, get_or-drop}
+use Rattle.std.proofs.lemmas.List.{take_more, drop_all, take_rest}
 use Rattle.std.proofs.lemmas.List.Elements.{All-get_or, All-take, All-drop, AllZip-push}
 use Rattle.std.proofs.lemmas.Result.{IfOk-from_err, on_ok_weaker, on_err_weaker}
 use Rattle.std.proofs.Concat.{each_append}
@@ -37,11 +37,6 @@ module _ {X : Type 0} (C : X → X → Type 0) where
       → ClonesOver C (take i from) i old new → ClonesOver C (take (i + 1) from) (i + 1) old (set new i y)
   clones_of_next from old new i x y lt fits is =
       clones_next (take i from) (take (i + 1) from) old new i x y (ap (λ z. take i from ++ z ∷ []) is ∙ sym (take_more from i x lt)) (omega arith)
-
-  -- one more of one value
-  pub copies_next : (old new : List X) (i : ℕ) (x y : X) → i < length old → C x y
-      → ClonesOver C (replicate i x) i old new → ClonesOver C (replicate (i + 1) x) (i + 1) old (set new i y)
-  copies_next old new i x y = clones_next (replicate i x) (replicate (i + 1) x) old new i x y (replicate_more i x)
 
   -- all of them
   pub clones_all : (from old new : List X) (n : ℕ) → length from ≤ n → ClonesOver C (take n from) n old new → n ≤ length from → ClonesOver C from (length from) old new

@@ -1,49 +1,16 @@
 -- Lemmas on items that are placed one by one.
-use Rattle.std.proofs.Common.{◌≡◌, ℕ, ◌+◌, ◌-◌, ◌<◌, ◌≤◌, List, ◌∷◌, ◌++◌, [], Option, Some, None, length, get_or, take, drop, set, inl, inr, true≢false, refl, sym, ap, subst, ◌∙◌, arith, length-drop, length-append, drop-set-lt, append-nil, take_at, map, map-id}
+use Rattle.std.proofs.Common.{◌≡◌, ℕ, ◌+◌, ◌<◌, ◌≤◌, List, ◌∷◌, ◌++◌, [], Option, Some, None, length, take, drop, set, inl, inr, true≢false, refl, sym, ap, subst, ◌∙◌, arith, length-drop, length-append, drop-set-lt, append-nil, take_at, map, map-id}
 use Rattle.std.proofs.lemmas.Bool.{cases_lt}
 use Rattle.std.proofs.lemmas.Grind.{drop_more_same}
-use Rattle.std.proofs.lemmas.List.{drop-drop, drop_at, drop_all, take_all, length_push, take_more}
+use Rattle.std.proofs.lemmas.List.{drop_at, drop_all, take_all}
 use Rattle.std.proofs.iter.Yields.{gives_left, gives_Drains}
 use Rattle.std.specs.Iterator.{Yields, YieldsThen, AlwaysYields}
 use Rattle.std.specs.Prelude.{Ok, Err}
 use Rattle.tinyvec_slots.specs.Filling.{YieldsUpTo, ShowsItems, Fills, Extends}
-use Rattle.tinyvec_slots.specs.Slots.{Slots, items_in, spare_in, len_in}
-use Rattle.tinyvec_slots.proofs.Lists.{same_at}
 
--- one more item used up one more spare slot
-pub spare_after : {T : Type 0} (old mid new : Slots T) (x : T) → len_in old ≤ len_in mid → items_in new ≡ items_in mid ++ x ∷ []
-    → spare_in mid ≡ drop (len_in mid - len_in old) (spare_in old) → spare_in new ≡ drop 1 (spare_in mid)
-    → spare_in new ≡ drop (len_in new - len_in old) (spare_in old)
-spare_after old mid new x le more before after =
-    let used : len_in mid - len_in old + 1 ≡ len_in new - len_in old = omega (arith, ap length more, length_push (items_in mid) x) in
-    after ∙ rw (before, drop-drop, used)
-
-module _ {S A : Type 0} (steps : S → Option A → S → Type 0) (n : ℕ) (s : S) (xs : List A) (u : S) where
-  -- the calls ended with the last item that there was room for
-  pub stopped_full : length xs ≡ n → Yields steps s xs u → YieldsUpTo steps n s xs u
-  stopped_full all run = record {
-    at_most_n = omega (arith, all);
-    stopped = λ _. run;
-    ended = λ less. absurd (omega (arith, all, less));
-  }
-
-  -- or with `None` before that
-  pub stopped_early : length xs < n → YieldsThen steps s xs None u → YieldsUpTo steps n s xs u
-  stopped_early less run = record {
-    at_most_n = omega (arith, less);
-    stopped = λ all. absurd (omega (arith, all, less));
-    ended = λ _. run;
-  }
-
-module _ {X : Type 0} (from first : List X) (i : ℕ) where
-  -- what stands at i of a list that is left from i on as it was
-  pub one_taken : (x : X) → i < length first → drop i from ≡ drop i first → x ≡ get_or from i x
-      → take (i + 1) first ≡ take i first ++ x ∷ []
-  one_taken x lt rest is = rw (take_more first i x lt, ← same_at from first i x rest, ← is)
-
-  -- what lies behind it stays as it was
-  pub rest_after_one : (d : X) → drop i from ≡ drop i first → drop (i + 1) (set from i d) ≡ drop (i + 1) first
-  rest_after_one d rest = drop-set-lt (i + 1) from i d (omega arith) ∙ drop_more_same from first i rest
+-- a list that is left from i on as it was: what lies behind i stays so
+pub rest_after_one : {X : Type 0} (from first : List X) (i : ℕ) (d : X) → drop i from ≡ drop i first → drop (i + 1) (set from i d) ≡ drop (i + 1) first
+rest_after_one from first i d rest = drop-set-lt (i + 1) from i d (omega arith) ∙ drop_more_same from first i rest
 
 -- of an iterator whose items `rest` shows
 module _ {S A : Type 0} (steps : S → Option A → S → Type 0) (rest : S → List A) (shows : ShowsItems steps rest) where

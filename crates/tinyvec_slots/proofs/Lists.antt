@@ -1,7 +1,8 @@
 -- Facts on parts of a list.
-use Rattle.std.proofs.Common.{◌≡◌, ℕ, suc, add-one, refl, ◌+◌, ◌-◌, ◌<◌, ◌≤◌, min, List, [], ◌∷◌, ◌++◌, length, get_or, take, drop, set, insert, remove, slice_range, sym, ap, ◌∙◌, arith, rules, drop-set-lt, length-set, append_assoc, take_at, length-append, take-append-drop}
+use Rattle.std.proofs.Common.{◌≡◌, ℕ, suc, add-one, refl, ◌+◌, ◌-◌, ◌*◌, ◌<◌, ◌≤◌, min, List, [], ◌∷◌, ◌++◌, length, get_or, take, drop, set, insert, remove, slice_range, sym, ap, ◌∙◌, arith, rules, drop-set-lt, length-set, append_assoc, take_at, length-append, take-append-drop}
 use Rattle.std.proofs.lemmas.List.{same_lists, places, same_from_push, get_or-set_same, get_or_default, get_or-drop, drop-drop, drop_more, drop_at, length-take-le, take_min, drop_min, take-set-le}
 use Rattle.std.specs.List.{remove_range}
+use lib.Seq.{paste}
 use Rattle.std.proofs.lemmas.Bool.{cases_eq, cases_lt}
 
 -- an element, where there is one
@@ -119,13 +120,6 @@ pub length-replaced : {X : Type 0} (start end : ℕ) (put old : List X) → star
     → length (take start old ++ put ++ drop end old) ≡ length old - (end - start) + length put
 length-replaced start end put old le inside = search (rules, places)
 
--- what is put in is the same after it changed places with the item that it stood before
-pub insert_shifted : {X : Type 0} (xs : List X) (i : ℕ) (x y : X) → i < length xs → y ≡ get_or xs i y
-    → insert (set xs i x) (i + 1) y ≡ insert xs i x
-insert_shifted xs i x y lt is =
-    let long = length-set xs i x in
-    same_lists _ _ (search (rules, places)) (λ k e h. grind (arith, places, get_or-set_same, cases_lt k i, cases_eq k i, cases_eq k (i + 1), get_or_default xs i e y))
-
 -- what is put in among the first n items moves the item behind them out
 pub insert_over : {X : Type 0} (xs ys : List X) (i n : ℕ) (x y : X) → i ≤ n → n < length xs → ys ++ y ∷ [] ≡ insert (take (n + 1) xs) i x
     → ys ≡ insert (take n xs) i x
@@ -157,3 +151,24 @@ insert_taken xs i x le = grind (arith, places)
 
 pub insert_removed : {X : Type 0} (xs : List X) (i : ℕ) (x : X) → i ≤ length xs → remove (insert xs i x) i ≡ xs
 insert_removed xs i x le = same_lists _ _ (search (rules, places)) (λ k e h. grind (arith, places, cases_lt k i))
+
+-- a run of elements was copied from one place of a list to another, block by block
+module _ {X : Type 0} (xs ys zs : List X) (from to : ℕ) where
+  pub moved_down : (i k : ℕ) → to ≤ from → from + i + k ≤ length xs → ys ≡ paste xs to (drop from xs) i
+      → zs ≡ paste ys (to + i) (drop (from + i) ys) k → zs ≡ paste xs to (drop from xs) (i + k)
+  moved_down i k down within first next = rw (next, first) (same_lists _ _ (search (rules, places)) (λ j d h. grind (arith, places)))
+
+  pub moved_up : (n m l k : ℕ) → m ≡ l + k → from ≤ to → l + k ≤ n → to + n ≤ length xs
+      → ys ≡ take (to + m) xs ++ drop m (take n (drop from xs)) ++ drop (to + n) xs
+      → zs ≡ paste ys (to + l) (drop (from + l) ys) k → zs ≡ take (to + l) xs ++ drop l (take n (drop from xs)) ++ drop (to + n) xs
+  moved_up n m l k all up within inside first next = rw (next, first, all) (same_lists _ _ (search (rules, places)) (λ j d h. grind (arith, places)))
+
+-- a block was written over the part of a list from `at` on
+pub written_front : {X : Type 0} (xs bs block part rest : List X) (at n : ℕ) → at + n ≤ length xs → length bs ≡ n → bs ≡ block
+    → part ≡ bs ++ drop n (take (length xs - at) (drop at xs)) → rest ≡ drop (length xs - at) (drop at xs) → take at xs ++ (part ++ rest) ≡ paste xs at block n
+written_front xs bs block part rest at n within long same is none = rw (none, is, ← same) (same_lists _ _ (search (rules, places, long)) (λ j d h. grind (arith, places, long)))
+
+-- a run of elements was copied by its first n and its last n
+pub moved_ends : {X : Type 0} (xs ys zs : List X) (from to count n : ℕ) → n ≤ count → count ≤ 2 * n → from + count ≤ length xs → to + count ≤ length xs
+    → ys ≡ paste xs to (take n (drop from xs)) n → zs ≡ paste ys (to + (count - n)) (take n (drop (from + (count - n)) xs)) n → zs ≡ paste xs to (drop from xs) count
+moved_ends xs ys zs from to count n enough no_gap inside within first last = rw (last, first) (same_lists _ _ (search (rules, places)) (λ j d h. grind (arith, places)))

@@ -1,7 +1,7 @@
 -- Items asked of a closure, or of an iterator as long as there is room, and what the iterators of a list yield.
-use Rattle.std.specs.Prelude.{◌≡◌, ℕ, ◌^◌, ◌<◌, ◌≤◌, ◌↔◌, List, ◌∷◌, ◌++◌, length, take, drop, Option, Some, None, Result, IsOk, IfOk, IfErr, MatchResult}
+use Rattle.std.specs.Prelude.{◌≡◌, ℕ, ◌+◌, ◌^◌, ◌<◌, ◌≤◌, ◌↔◌, List, ◌∷◌, ◌++◌, length, take, drop, Option, Some, None, Result, IsOk, IfOk, IfErr, MatchResult}
 use Rattle.std.specs.List.{FoldsTo}
-use Rattle.std.specs.Iterator.{Yields, YieldsThen, YieldsFirst, AlwaysYields, Drains}
+use Rattle.std.specs.Iterator.{Yields, YieldsThen, YieldsFirst, AlwaysYields, Drains, Count, IsFinite, size}
 use Rattle.std.specs.Iterator.Adapters.{IterYieldsInOrder, IterYieldsInReverse, IterMutYieldsInOrder, IterMutYieldsInReverse}
 use Rattle.std.specs.Slice.Iter.{iter_rest, iter_mut_rest}
 use Rattle.std.specs.declared.slice.Iter.{Iter}
@@ -40,6 +40,12 @@ module _ {U S A : Type 0} (becomes : U → S → Type 0) (steps : S → Option A
         → (it : S) × becomes iter it × (IsOk r ↔ (length (rest it) ≤ n)) × Adds (take n (rest it))
         × IfErr r (λ refused. drop n (rest it) ≡ refused.item ∷ rest refused.rest)
     pub known : (xs : List A) → IntoIterYields becomes steps iter xs → length xs ≤ n → IsOk r × Adds xs
+
+-- A list got from `old` items to `new` by those that s yielded: no more than s may yield. If there was no room for one, the
+-- rest can be iterated further, and may yield only what is left of that number.
+abbrev pub Follows : {S T X : Type 0} → (S → Type 0) → (S → Count) → S → ℕ → ℕ → Result X (NoRoom T S) → Type 0
+Follows can left s old new r = MatchResult r (λ _. new ≤ old + size (left s))
+    (λ refused. can refused.rest × IsFinite (left refused.rest) × (new + size (left refused.rest) < old + size (left s)))
 
 -- A call made a vector of the items of `iter`, of which n fit, and returned it if no more came, else with the rest of the iterator.
 -- `Lists v xs` says that xs is the list of v.

@@ -15,3 +15,4 @@ pub mod AnySplice
 pub mod Splice
 pub mod SplicedByWord
 pub mod Replacing
+pub mod Puts

@@ -2,6 +2,7 @@
 
 pub use crate::can_cut::CanCut;
 pub use crate::can_drain::CanDrain;
+pub use crate::can_put::CanPut;
 pub use crate::can_splice::CanSplice;
 pub use crate::drain::drain_held;
 pub use crate::extracting::extract_if;
@@ -11,12 +12,13 @@ pub use crate::owned::{OwnsItems, into_items};
 pub use crate::printing::{
     InBinary, InHex, InOctal, InUpperHex, ItemText, Plain, write_items, write_named,
 };
+pub use crate::putting::{put_answers, put_clones_of, put_iter, put_taken, put_until_full};
 pub use crate::range::{resolve_range, subslice};
 pub use crate::splice::splice_over;
 pub use crate::touches::Touches;
 pub use crate::tuned::cloning::{clone_each, clone_over, clone_over_from};
 pub use crate::tuned::comparing::{cmp_slices, eq_slices, hash_items, partial_cmp_slices};
-pub use crate::tuned::moving::{close_gap, move_to_end};
+pub use crate::tuned::moving::{close_gap, move_to_end, move_within, replace_within};
 pub use crate::tuned::shifting::remove_shifting;
 pub use crate::tuned::sizes::fit_registers;
 pub use crate::tuned::taking::{take_all, take_range};

@@ -4,6 +4,7 @@
 pub mod authors;
 mod can_cut;
 mod can_drain;
+mod can_put;
 mod can_splice;
 mod capacity_error;
 mod drain;
@@ -14,6 +15,7 @@ mod no_memory;
 mod no_room;
 mod owned;
 mod printing;
+mod putting;
 mod range;
 mod splice;
 mod touches;

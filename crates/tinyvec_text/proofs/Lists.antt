@@ -1,29 +1,28 @@
 -- Lists of bytes as texts.
-use Rattle.std.proofs.Common.{chars, ◌≡◌, ℕ, ◌+◌, ◌-◌, ◌<◌, ◌≤◌, inl, inr, List, All, ◌++◌, IsUtf8, IsTrue, subst, sym, refl, ◌∙◌, arith, ap, length, take, drop, take_at, drop_at, take-append-drop, length-take, length-append, length-take-le, length-drop}
-use Rattle.std.specs.Prelude.{Bool, false, Result, slice_range}
-use Rattle.std.proofs.Math.Seq.{drop-nil, take-take}
+use Rattle.std.proofs.Common.{chars, ◌≡◌, ℕ, ◌+◌, ◌-◌, ◌<◌, ◌≤◌, Ok, Err, List, All, ◌++◌, IsUtf8, IsTrue, subst, sym, refl, ◌∙◌, arith, ap, length, take, drop, take_at, drop_at, take-append-drop, length-take, length-take-le, length-drop}
+use Rattle.std.specs.Prelude.{false, Result, slice_range}
+use Rattle.std.proofs.Math.Seq.{take-take}
+use Rattle.std.proofs.lemmas.Bool.{le-leb, lt-leb}
 use Rattle.std.proofs.lemmas.Result.{on_ok_weaker, on_err_weaker}
 use Rattle.std.proofs.lemmas.List.{drop-drop, same_lists}
 use Rattle.std.proofs.lemmas.List.Elements.{All-append, All-drop, All-take}
-use Rattle.std.proofs.lemmas.Str.{IsUtf8-had, IsUtf8-append, chars-append}
+use Rattle.std.proofs.lemmas.Str.{IsUtf8-had}
 use Rattle.std.proofs.CharBoundary.{IsUtf8-three_parts}
 use Rattle.std.specs.declared.ops.Bound.{Bound}
 use Rattle.tinyvec_slots.specs.Ranges.{range_start, range_end, before, removed, after}
 use Rattle.tinyvec_slots.specs.Slots.{Slots, AreDefaults, SlotRule, items_in, len_in, spare_in}
 use Rattle.tinyvec_slots.proofs.BorderLemmas.{spare_from}
-use Rattle.tinyvec_slots.proofs.Lists.{length-replaced}
 use Rattle.tinyvec_array.proofs.Named.{array_slots}
 use Rattle.tinyvec.specs.SpliceLaws.{frame_becomes}
 use Rattle.tinyvec.specs.Lends.{tiny_with_items}
 use Rattle.tinyvec.specs.TinyVec.{tiny_items, tiny_len, tiny_spare, is_inline, IsInline, tiny_view}
-use Rattle.tinyvec.specs.Refused.{RefusedFor}
-use Rattle.tinyvec.specs.View.{TinyView, view_capacity, TinySlotRule, SameFrame, Becomes, Unchanged}
-use Rattle.tinyvec.specs.Room.{MakesRoom, GetsRoom}
+use Rattle.tinyvec.specs.View.{TinyView, SpareRule, SameFrame, Becomes, BecomesIn, Growth, Doubled, Reserved, place_for}
+use Rattle.tinyvec.specs.PlaceLaws.{was_inline}
 use Rattle.tinyvec.specs.declared.tiny_vec.TinyVec.TheVariants.{Inline, Heap}
 use Rattle.std.specs.String.Boundary.{IsSplitPoint}
-use Rattle.tinyvec.proofs.TinyLemmas.{tiny_items-with, tiny_framed-with, used_rule}
-use Rattle.tinyvec_text.specs.InlineText.{Text, Bytes, IsText, text_of, text_view, text_chars, text_len, IsBoundary}
-use Rattle.tinyvec_text.proofs.Boundaries.{split_from_boundary, utf8_put, chars_put}
+use Rattle.tinyvec.proofs.TinyLemmas.{tiny_items-with, tiny_framed-with}
+use Rattle.tinyvec_text.specs.InlineText.{Text, Bytes, IsText, ListGrows, text_of, text_chars, text_len, TextBecomes, TextStaysInPlace, TextGrows, char_growth, IsBoundary}
+use Rattle.tinyvec_text.proofs.Boundaries.{split_from_boundary}
 
 -- the range of bs with these ends, which is that of xs, goes from p up to q, and both are boundaries
 pub record CutsAt (bs xs : List ℕ) (start end : Bound ℕ) (p q : ℕ) : Type 0 where
@@ -45,57 +44,70 @@ text_cut v t same is i cut =
     split_from_boundary (tiny_items v) (text_utf8 v is) i (subst (λ (u : Text). IsBoundary (text_chars u) i) (sym same) cut)
 
 -- what a call leaves in the list of a text: spare slots that it vacates are zero
-zero_spare : {k : ℕ} (old new : Bytes k) → (IsInline new → IsInline old) → TinySlotRule (λ b. b ≡ 0) (tiny_view old) (tiny_view new)
+zero_spare : {k : ℕ} (old new : Bytes k) → (IsInline new → IsInline old) → SpareRule (λ b. b ≡ 0) (tiny_view old) (tiny_view new)
     → All (λ b. b ≡ 0) (tiny_spare old) → All (λ b. b ≡ 0) (tiny_spare new)
 zero_spare (Inline v a) (Inline w b) place rule zero =
-    let h = rule refl refl in
+    let h = rule in
     subst (All (λ b. b ≡ 0)) (sym h.2) (All-append (λ b. b ≡ 0) h.0 _ h.1.1 (All-drop (λ b. b ≡ 0) _ _ zero))
 zero_spare old (Heap w) place rule zero = λ k d few. absurd (omega (arith, few))
 zero_spare (Heap v) (Inline w b) place rule zero = absurd (let no = place refl in cc)
 
+-- a call that allocates nothing leaves the place
+still_inline : {old new : TinyView ℕ} {bs : List ℕ} → Becomes (λ b. b ≡ 0) old new bs → IsTrue new.place.inline → IsTrue old.place.inline
+still_inline h i = sym (ap (λ p. p.inline) h.place) ∙ i
+
 pub zero_becomes : {k : ℕ} (old new : Bytes k) (bs : List ℕ) → Becomes (λ b. b ≡ 0) (tiny_view old) (tiny_view new) bs
     → All (λ b. b ≡ 0) (tiny_spare old) → All (λ b. b ≡ 0) (tiny_spare new)
-zero_becomes old new bs made = zero_spare old new (λ i. subst IsTrue made.place i) made.slot_rule
+zero_becomes old new bs made = zero_spare old new (still_inline made) made.slot_rule
 
-text_kept : {k : ℕ} (old new : Bytes k) → (IsInline new → IsInline old) → TinySlotRule (λ b. b ≡ 0) (tiny_view old) (tiny_view new)
+text_kept : {k : ℕ} (old new : Bytes k) → (IsInline new → IsInline old) → SpareRule (λ b. b ≡ 0) (tiny_view old) (tiny_view new)
     → IsText old → IsUtf8 (tiny_items new) → IsText new
 text_kept old new place rule h utf8 = (∣ utf8 ∣₁, zero_spare old new place rule h.1)
 
 pub text_stays : {k : ℕ} (old new : Bytes k) (bs : List ℕ) → Becomes (λ b. b ≡ 0) (tiny_view old) (tiny_view new) bs → IsText old → IsUtf8 bs → IsText new
-text_stays old new bs made is utf8 = text_kept old new (λ i. subst IsTrue made.place i) made.slot_rule is (subst IsUtf8 (sym made.items) utf8)
+text_stays old new bs made is utf8 = text_kept old new (still_inline made) made.slot_rule is (subst IsUtf8 (sym made.items) utf8)
 
-pub text_same : {k : ℕ} (old new : Bytes k) → Unchanged (tiny_view old) (tiny_view new) → IsText old → IsText new
-text_same old new h is = (subst (λ bs. ∥ IsUtf8 bs ∥₁) (sym h.items) is.0, subst (All (λ b. b ≡ 0)) (sym h.spare) is.1)
+-- what such a call does to the text
+pub text_becomes : {k : ℕ} (old new : Bytes k) (t : Text) (bs cs : List ℕ) → text_of old ≡ t → Becomes (λ b. b ≡ 0) (tiny_view old) (tiny_view new) bs → chars bs ≡ cs
+    → TextBecomes t (text_of new) bs cs
+text_becomes old new t bs cs same made spelled = record {
+  bytes = made.items;
+  text = ap chars made.items ∙ spelled;
+  place = made.place ∙ ap (λ (u : Text). u.place) same;
+  fits = made.fits;
+}
 
--- a call that had room, or made it, left a list that is no shorter
-pub text_grown : {k : ℕ} {exact : Bool} {need : ℕ} (old new : Bytes k) (bs : List ℕ) → GetsRoom exact need (tiny_view old) (tiny_view new) → IsText old
-    → tiny_items new ≡ bs → tiny_len old ≤ length bs → IsUtf8 bs → IsText new
-text_grown old new bs room is made long utf8 =
-    text_kept old new (λ i. (room.place.0 i).0) (used_rule (λ b. b ≡ 0) (tiny_view old) (tiny_view new) (omega (arith, ap length made, long)) room.spare) is
-    (subst IsUtf8 (sym made) utf8)
+pub text_unmoved : {k : ℕ} (old new : Bytes k) (t : Text) (bs : List ℕ) → text_of old ≡ t → Becomes (λ b. b ≡ 0) (tiny_view old) (tiny_view new) bs → TextStaysInPlace t (text_of new)
+text_unmoved old new t bs same made = record { bytes = refl; text = refl; place = made.place ∙ ap (λ (u : Text). u.place) same; fits = made.fits }
 
--- text was appended
-module _ {k : ℕ} (old new : Bytes k) (t : Text) (same : text_of old ≡ t) (is : IsText old) (put : List ℕ) (utf8 : IsUtf8 put)
-    (made : tiny_items new ≡ tiny_items old ++ put) where
-  pub utf8_joined : IsUtf8 (tiny_items old ++ put)
-  utf8_joined = IsUtf8-append _ _ (text_utf8 old is) utf8
+pub text_same : {k : ℕ} (old new : Bytes k) → tiny_view new ≡ tiny_view old → IsText old → IsText new
+text_same old new h = subst (λ (v : TinyView ℕ). ∥ IsUtf8 v.items ∥₁ × All (λ b. b ≡ 0) v.spare) (sym h)
 
-  pub text_joined : {exact : Bool} {need : ℕ} → GetsRoom exact need (tiny_view old) (tiny_view new) → IsText new
-  text_joined room = text_grown old new _ room is made (omega (arith, length-append (tiny_items old) put)) utf8_joined
+-- how a character makes room
+pub wide_growth : (c : ℕ) → 128 ≤ c → char_growth c ≡ Reserved
+wide_growth c h = rw (le-leb 128 c h) refl
 
-  pub chars_joined : text_chars (text_of new) ≡ text_chars t ++ chars put
-  chars_joined = ap chars made ∙ chars-append _ _ (text_utf8 old is) ∙ ap (λ (u : Text). text_chars u ++ chars put) same
+pub ascii_growth : (c : ℕ) → c < 128 → char_growth c ≡ Doubled
+ascii_growth c h = rw (lt-leb 128 c h) refl
 
--- text was put in at i
-module _ {k : ℕ} (old new : Bytes k) (t : Text) (same : text_of old ≡ t) (is : IsText old) (i : ℕ) (cut : IsSplitPoint (tiny_items old) i) (put : List ℕ)
-    (utf8 : IsUtf8 put) (made : tiny_items new ≡ take i (tiny_items old) ++ put ++ drop i (tiny_items old)) where
-  pub text_put : {exact : Bool} {need : ℕ} → GetsRoom exact need (tiny_view old) (tiny_view new) → IsText new
-  text_put room = text_grown old new _ room is made (omega (arith, length-replaced i i put (tiny_items old) (omega arith) cut.0))
-      (utf8_put (tiny_items old) (text_utf8 old is) i i cut cut put utf8)
+-- a call that had room, or made it
+module _ {k : ℕ} (how : Growth) (need : ℕ) (old new : Bytes k) (bs : List ℕ) where
+  pub text_grown : BecomesIn (λ b. b ≡ 0) (tiny_view old) (tiny_view new) bs (place_for how need (tiny_view old).place) → IsText old → IsUtf8 bs → IsText new
+  text_grown put is utf8 =
+      text_kept old new (λ i. (was_inline how need (tiny_view old).place (ap (λ p. p.inline) (sym put.place) ∙ i)).0) put.slot_rule is (subst IsUtf8 (sym put.items) utf8)
 
-  pub chars_between : text_chars (text_of new) ≡ chars (take i t.bytes) ++ chars put ++ chars (drop i t.bytes)
-  chars_between = ap chars made ∙ chars_put (tiny_items old) (text_utf8 old is) i i cut cut put utf8
-      ∙ ap (λ (u : Text). chars (take i u.bytes) ++ chars put ++ chars (drop i u.bytes)) same
+  -- whatever its result
+  pub text_after : {X E : Type 0} (r : Result X E) → ListGrows how need old new bs r → IsText old → IsUtf8 bs → IsText new
+  text_after (Ok x) h is utf8 = text_grown h.ok is utf8
+  text_after (Err e) h is utf8 = text_same old new h.refused is
+
+  -- and what it does to the text
+  pub text_grows : {X E : Type 0} (cs : List ℕ) (r : Result X E) → ListGrows how need old new bs r → chars bs ≡ cs → TextGrows how need (text_of old) (text_of new) bs cs r
+  text_grows cs r h spelled = record {
+    ok = on_ok_weaker r (λ put. record { bytes = put.items; text = ap chars put.items ∙ spelled; place = put.place; fits = put.fits }) h.ok;
+    refused = on_err_weaker r (ap (λ (v : TinyView ℕ). record { bytes = v.items; place = v.place })) h.refused;
+    succeeds = h.succeeds;
+  }
 
 -- a list that was made of a text's bytes
 pub text_made : {k : ℕ} (n : ℕ) (v : Bytes k) → IsUtf8 (tiny_items v) → (IsInline v → AreDefaults (λ b. b ≡ 0) n (tiny_spare v)) → IsText v
@@ -126,22 +138,6 @@ text_range v t same is start end order first last p q n starts ends count =
       part = λ i. slice_range (bytes i) (range_start start) (range_end end (text_len t));
       back = λ i. drop (range_end end (text_len t)) (bytes i);
     })
-
--- a call that made room did so for the text
-pub text_room : {k : ℕ} {X E : Type 0} (exact : Bool) (need : ℕ) (old new : Bytes k) (r : Result X E) → MakesRoom exact need (tiny_view old) (tiny_view new) r
-    → MakesRoom exact need (text_view (text_of old)) (text_view (text_of new)) r
-text_room exact need old new r room = record {
-  keeps = record { capacity = room.keeps.capacity; same_room = room.keeps.same_room; fits = room.keeps.fits };
-  gets = on_ok_weaker r (λ got. record { place = got.place; spare = λ _ _ _. sym (drop-nil _); grown = got.grown }) room.gets;
-  succeeds = room.succeeds;
-  full = room.full;
-  refused = on_err_weaker r (λ h. record { items = h.items; spare = refl; place = h.place; capacity = h.capacity }) room.refused;
-}
-
--- a call that fails for no other reason than want of room
-pub no_room : {P : Type 0} (need : ℕ) (old new : TinyView ℕ) → RefusedFor need P old new → ¬ P → (view_capacity old < need) × Unchanged old new
-no_room need old new (inl h) never = h
-no_room need old new (inr h) never = absurd (never h.2)
 
 -- a write through the slice of the bytes leaves what the slice shows, and spare slots, place and room
 module _ (slots : ℕ) (old : Bytes slots) (ws : List ℕ) (long : length ws ≡ tiny_len old) where

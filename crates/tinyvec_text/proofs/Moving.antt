@@ -55,10 +55,6 @@ copied_block_up xs bs cs from to count l k up within ends h b =
 pub inserted : (xs zs bs ys : List ℕ) (i n : ℕ) → i ≤ length xs → n ≡ length xs - i → ys ≡ xs ++ zs → take i ys ++ bs ++ take n (drop i ys) ≡ take i xs ++ bs ++ drop i xs
 inserted xs zs bs ys i n le e is = rw is (same_lists _ _ (search (rules, places)) (λ k d h. grind (arith, places)))
 
--- what was put in at the end
-pub at_end : (xs bs : List ℕ) (n : ℕ) → n ≡ length xs → take n xs ++ bs ++ drop n xs ≡ xs ++ bs
-at_end xs bs n at = same_lists _ _ (search (rules, places)) (λ k d h. grind (arith, places))
-
 -- ys is xs and n bytes of zs, over which the n bytes at i were written
 pub repeated : (xs zs ys : List ℕ) (i l n : ℕ) → l ≡ length xs → i + n ≤ length xs → n ≤ length zs → ys ≡ xs ++ take n zs
     → take l ys ++ take (length ys - l) (drop i ys) ≡ xs ++ take n (drop i xs)

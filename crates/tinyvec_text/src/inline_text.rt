@@ -4,7 +4,7 @@ ghost use Rattle.std.specs.Str.{valid_up_to, error_len};
 ghost use Rattle.std.specs.Str.Lossy.{utf8_valid_len, utf8_error_len};
 ghost use Rattle.std.specs.String.{string_bytes, string_capacity};
 ghost use Rattle.std.specs.Str.{all_scalars};
-ghost use Rattle.tinyvec.specs.View.{lies_inline, capacity_in};
+ghost use Rattle.tinyvec.specs.View.{in_array};
 ghost use Rattle.tinyvec.specs.TinyVec.{tiny_items, tiny_spare};
 ghost use Rattle.tinyvec_text.specs.InlineText.{text_of, text_chars, text_len, TextMadeFor};
 
@@ -45,8 +45,7 @@ impl<const N: usize> InlineText<N> {
     pub fn new(alloc: Global) -> Self
         ensures bytes { result.bytes ≡ [] }
         ensures text { text_chars result ≡ [] }
-        ensures place { IsTrue (lies_inline result.place) }
-        ensures capacity { capacity_in result.place ≡ N }
+        ensures place { result.place ≡ in_array N }
     {
         InlineText {
             list: TinyVec::new(alloc),
@@ -97,8 +96,8 @@ impl<const N: usize> InlineText<N> {
     /// The length in bytes.
     pub fn len(&self) -> usize
         ensures value { result ≡ text_len self.now }
-        ensures fits { result ≤ capacity_in self.now.place }
-        ensures inline_capacity { IsTrue (lies_inline self.now.place) → capacity_in self.now.place ≡ N }
+        ensures fits { result ≤ self.now.place.capacity }
+        ensures inline_capacity { IsTrue self.now.place.inline → self.now.place.capacity ≡ N }
     {
         self.list.len()
     }
@@ -112,16 +111,16 @@ impl<const N: usize> InlineText<N> {
 
     /// Whether the text is in the array.
     pub fn is_inline(&self) -> bool
-        ensures { result ≡ lies_inline self.now.place }
+        ensures { result ≡ self.now.place.inline }
     {
         self.list.is_inline()
     }
 
     /// How many bytes fit in the text's place.
     pub fn capacity(&self) -> usize
-        ensures value { result ≡ capacity_in self.now.place }
+        ensures value { result ≡ self.now.place.capacity }
         ensures fits { text_len self.now ≤ result }
-        ensures inline_capacity { IsTrue (lies_inline self.now.place) → result ≡ N }
+        ensures inline_capacity { IsTrue self.now.place.inline → result ≡ N }
     {
         self.list.capacity()
     }
@@ -161,9 +160,9 @@ impl<const N: usize> InlineText<N> {
     /// allocator refuses, the text is returned.
     pub fn into_string(self) -> Result<String, NoMemory<Self>>
         ensures bytes { IfOk result (λ s. string_bytes s ≡ self.entry.bytes) }
-        ensures capacity { IfOk result (λ s. string_capacity s ≡ (if lies_inline self.entry.place
-            then text_len self.entry else capacity_in self.entry.place)) }
-        ensures succeeds { lies_inline self.entry.place ≡ false → IsOk result }
+        ensures capacity { IfOk result (λ s. string_capacity s ≡ (if self.entry.place.inline
+            then text_len self.entry else self.entry.place.capacity)) }
+        ensures succeeds { self.entry.place.inline ≡ false → IsOk result }
         ensures succeeds_empty { text_len self.entry ≡ 0 → IsOk result }
         ensures value_returned { IfErr result (λ refused. refused.0 ≡ self.entry) }
     {
@@ -186,8 +185,8 @@ impl<const N: usize> TryFrom<InlineText<N>> for String {
     // It fails only for an inline text that has a character.
     ghost try_from_gives = { λ t r. MatchResult r
         (λ s. (string_bytes s ≡ t.bytes)
-        × (string_capacity s ≡ (if lies_inline t.place then text_len t else capacity_in t.place)))
-        (λ refused. (refused.0 ≡ t) × IsTrue (lies_inline t.place) × (0 < text_len t)) };
+        × (string_capacity s ≡ (if t.place.inline then text_len t else t.place.capacity)))
+        (λ refused. (refused.0 ≡ t) × IsTrue t.place.inline × (0 < text_len t)) };
 
     fn try_from(text: InlineText<N>) -> Result<String, NoMemory<InlineText<N>>> {
         text.into_string()

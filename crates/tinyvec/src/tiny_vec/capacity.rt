@@ -1,9 +1,9 @@
 //! Room on the heap, and moves between the array and the heap.
-ghost use Rattle.std.specs.Prelude.{◌≡◌, ◌+◌, ◌*◌, ◌<◌, ◌≤◌, length, max, min, true, false, OnOk, OnErr, vec_len};
+ghost use Rattle.std.specs.Prelude.{IsTrue, ◌≡◌, ◌+◌, ◌*◌, ◌<◌, ◌≤◌, length, max, min, false, OnOk, OnErr, vec_len};
 ghost use Rattle.std.specs.Prelude.{vec_capacity, ◌-◌, ◌↔◌, IsOk, IfOk, IfErr};
-ghost use Rattle.tinyvec.specs.TinyVec.{tiny_items_of, tiny_len_of, is_inline, tiny_capacity_of, tiny_spare_of, IsInline};
-ghost use Rattle.tinyvec.specs.TinyVec.{tiny_view_of};
-ghost use Rattle.tinyvec.specs.Room.{MakesRoom, MovesToHeap};
+ghost use Rattle.tinyvec.specs.TinyVec.{view};
+ghost use Rattle.tinyvec.specs.View.{BecomesIn, Reserved, Exact, place_for};
+ghost use Rattle.tinyvec.specs.Room.{MovesToHeap};
 ghost use Rattle.std.specs.Box.{boxed_slice_items};
 ghost use Rattle.tinyvec_slots.specs.Slots.{AreDefaults};
 ghost use Rattle.tinyvec_array.specs.ArrayVec.{items_of, spare_of, slots_of};
@@ -19,16 +19,15 @@ impl<A: Array> TinyVec<A> {
     /// there is room already, it allocates nothing.
     #[inline(always)]
     pub fn reserve(&mut self, additional: usize) -> Result<(), AllocError>
-        ensures items { tiny_items_of A.Slots self.new ≡ tiny_items_of A.Slots self.old }
-        ensures room { MakesRoom (is_inline self.old) (tiny_len_of A.Slots self.old + additional)
-            (tiny_view_of A.Slots self.old) (tiny_view_of A.Slots self.new) result }
-        ensures enough { OnOk result (tiny_len_of A.Slots self.old + additional ≤ tiny_capacity_of A.Slots self.new) }
+        ensures ok { OnOk result (BecomesIn A.Item.is_default (view A.Slots self.old)
+            (view A.Slots self.new) (view A.Slots self.old).items
+            (place_for Reserved (length (view A.Slots self.old).items + additional) (view A.Slots self.old).place)) }
 
         // A list that has room, or is inline after the call, is unchanged.
-        ensures kept { tiny_len_of A.Slots self.old + additional ≤ tiny_capacity_of A.Slots self.old → self.new
-            ≡ self.old }
-        ensures stays { IsInline self.new → self.new ≡ self.old }
-        ensures inline_capacity { IsInline self.old → tiny_capacity_of A.Slots self.old ≡ A.CAPACITY }
+        ensures kept { length (view A.Slots self.old).items + additional ≤ (view A.Slots self.old).place.capacity
+            → IsOk result × (self.new ≡ self.old) }
+        ensures stays { IsTrue (view A.Slots self.new).place.inline → self.new ≡ self.old }
+        ensures refused { OnErr result (view A.Slots self.new ≡ view A.Slots self.old) }
     {
         if additional <= self.capacity() - self.len() {
             return Ok(());
@@ -40,14 +39,11 @@ impl<A: Array> TinyVec<A> {
     #[cold]
     #[inline(never)]
     pub(crate) fn grow(&mut self, n: usize) -> Result<(), AllocError>
-        requires { is_inline self.old ≡ false → tiny_capacity_of A.Slots self.old < tiny_len_of A.Slots self.old + n }
-        ensures moves { MovesToHeap n (tiny_view_of A.Slots self.old) (tiny_view_of A.Slots self.new) result }
-        ensures room { tiny_capacity_of A.Slots self.old < tiny_len_of A.Slots self.old + n
-            → MakesRoom (is_inline self.old) (tiny_len_of A.Slots self.old + n)
-            (tiny_view_of A.Slots self.old) (tiny_view_of A.Slots self.new) result }
+        requires { (view A.Slots self.old).place.inline ≡ false → (view A.Slots self.old).place.capacity < length (view A.Slots self.old).items + n }
+        ensures moves { MovesToHeap A.Item.is_default n (view A.Slots self.old) (view A.Slots self.new) result }
 
         // A list that is inline after the call is unchanged.
-        ensures stays { IsInline self.new → self.new ≡ self.old }
+        ensures stays { IsTrue (view A.Slots self.new).place.inline → self.new ≡ self.old }
     {
         match self {
             TinyVec::Inline(v, alloc) => {
@@ -61,34 +57,30 @@ impl<A: Array> TinyVec<A> {
 
     /// The same as `reserve`.
     pub fn try_reserve(&mut self, additional: usize) -> Result<(), AllocError>
-        ensures items { tiny_items_of A.Slots self.new ≡ tiny_items_of A.Slots self.old }
-        ensures room { MakesRoom (is_inline self.old) (tiny_len_of A.Slots self.old + additional)
-            (tiny_view_of A.Slots self.old) (tiny_view_of A.Slots self.new) result }
-        ensures enough { OnOk result (tiny_len_of A.Slots self.old + additional ≤ tiny_capacity_of A.Slots self.new) }
+        ensures ok { OnOk result (BecomesIn A.Item.is_default (view A.Slots self.old)
+            (view A.Slots self.new) (view A.Slots self.old).items
+            (place_for Reserved (length (view A.Slots self.old).items + additional) (view A.Slots self.old).place)) }
 
         // A list that has room, or is inline after the call, is unchanged.
-        ensures kept { tiny_len_of A.Slots self.old + additional ≤ tiny_capacity_of A.Slots self.old → self.new
-            ≡ self.old }
-        ensures stays { IsInline self.new → self.new ≡ self.old }
-        ensures inline_capacity { IsInline self.old → tiny_capacity_of A.Slots self.old ≡ A.CAPACITY }
+        ensures kept { length (view A.Slots self.old).items + additional ≤ (view A.Slots self.old).place.capacity
+            → IsOk result × (self.new ≡ self.old) }
+        ensures stays { IsTrue (view A.Slots self.new).place.inline → self.new ≡ self.old }
+        ensures refused { OnErr result (view A.Slots self.new ≡ view A.Slots self.old) }
     {
         self.reserve(additional)
     }
 
     /// Reserves room for `additional` items more, and on the heap for no further ones.
     pub fn reserve_exact(&mut self, additional: usize) -> Result<(), AllocError>
-        ensures items { tiny_items_of A.Slots self.new ≡ tiny_items_of A.Slots self.old }
-        ensures room { MakesRoom true (tiny_len_of A.Slots self.old + additional)
-            (tiny_view_of A.Slots self.old) (tiny_view_of A.Slots self.new) result }
-        ensures enough { OnOk result (tiny_len_of A.Slots self.old + additional ≤ tiny_capacity_of A.Slots self.new) }
+        ensures ok { OnOk result (BecomesIn A.Item.is_default (view A.Slots self.old)
+            (view A.Slots self.new) (view A.Slots self.old).items
+            (place_for Exact (length (view A.Slots self.old).items + additional) (view A.Slots self.old).place)) }
 
         // A list that has room, or is inline after the call, is unchanged.
-        ensures kept { tiny_len_of A.Slots self.old + additional ≤ tiny_capacity_of A.Slots self.old → self.new
-            ≡ self.old }
-        ensures stays { IsInline self.new → self.new ≡ self.old }
-        ensures exact { OnOk result (tiny_capacity_of A.Slots self.new
-            ≡ max (tiny_capacity_of A.Slots self.old) (tiny_len_of A.Slots self.old + additional)) }
-        ensures inline_capacity { IsInline self.old → tiny_capacity_of A.Slots self.old ≡ A.CAPACITY }
+        ensures kept { length (view A.Slots self.old).items + additional ≤ (view A.Slots self.old).place.capacity
+            → IsOk result × (self.new ≡ self.old) }
+        ensures stays { IsTrue (view A.Slots self.new).place.inline → self.new ≡ self.old }
+        ensures refused { OnErr result (view A.Slots self.new ≡ view A.Slots self.old) }
     {
         match self {
             TinyVec::Inline(_, _) => self.reserve(additional),
@@ -103,18 +95,15 @@ impl<A: Array> TinyVec<A> {
 
     /// The same as `reserve_exact`.
     pub fn try_reserve_exact(&mut self, additional: usize) -> Result<(), AllocError>
-        ensures items { tiny_items_of A.Slots self.new ≡ tiny_items_of A.Slots self.old }
-        ensures room { MakesRoom true (tiny_len_of A.Slots self.old + additional)
-            (tiny_view_of A.Slots self.old) (tiny_view_of A.Slots self.new) result }
-        ensures enough { OnOk result (tiny_len_of A.Slots self.old + additional ≤ tiny_capacity_of A.Slots self.new) }
+        ensures ok { OnOk result (BecomesIn A.Item.is_default (view A.Slots self.old)
+            (view A.Slots self.new) (view A.Slots self.old).items
+            (place_for Exact (length (view A.Slots self.old).items + additional) (view A.Slots self.old).place)) }
 
         // A list that has room, or is inline after the call, is unchanged.
-        ensures kept { tiny_len_of A.Slots self.old + additional ≤ tiny_capacity_of A.Slots self.old → self.new
-            ≡ self.old }
-        ensures stays { IsInline self.new → self.new ≡ self.old }
-        ensures exact { OnOk result (tiny_capacity_of A.Slots self.new
-            ≡ max (tiny_capacity_of A.Slots self.old) (tiny_len_of A.Slots self.old + additional)) }
-        ensures inline_capacity { IsInline self.old → tiny_capacity_of A.Slots self.old ≡ A.CAPACITY }
+        ensures kept { length (view A.Slots self.old).items + additional ≤ (view A.Slots self.old).place.capacity
+            → IsOk result × (self.new ≡ self.old) }
+        ensures stays { IsTrue (view A.Slots self.new).place.inline → self.new ≡ self.old }
+        ensures refused { OnErr result (view A.Slots self.new ≡ view A.Slots self.old) }
     {
         self.reserve_exact(additional)
     }
@@ -135,9 +124,9 @@ impl<A: Array> TinyVec<A> {
 
     /// Moves an inline list to the heap, with a capacity of its length. A list on the heap stays as it is.
     pub fn move_to_the_heap(&mut self) -> Result<(), AllocError>
-        ensures moves { MovesToHeap 0 (tiny_view_of A.Slots self.old) (tiny_view_of A.Slots self.new) result }
-        ensures succeeds { is_inline self.old ≡ false → IsOk result }
-        ensures kept { is_inline self.old ≡ false → self.new ≡ self.old }
+        ensures moves { MovesToHeap A.Item.is_default 0 (view A.Slots self.old) (view A.Slots self.new) result }
+        ensures succeeds { (view A.Slots self.old).place.inline ≡ false → IsOk result }
+        ensures kept { (view A.Slots self.old).place.inline ≡ false → self.new ≡ self.old }
     {
         if self.is_inline() {
             return self.grow(0);
@@ -147,18 +136,18 @@ impl<A: Array> TinyVec<A> {
 
     /// The same as `move_to_the_heap`.
     pub fn try_move_to_the_heap(&mut self) -> Result<(), AllocError>
-        ensures moves { MovesToHeap 0 (tiny_view_of A.Slots self.old) (tiny_view_of A.Slots self.new) result }
-        ensures succeeds { is_inline self.old ≡ false → IsOk result }
-        ensures kept { is_inline self.old ≡ false → self.new ≡ self.old }
+        ensures moves { MovesToHeap A.Item.is_default 0 (view A.Slots self.old) (view A.Slots self.new) result }
+        ensures succeeds { (view A.Slots self.old).place.inline ≡ false → IsOk result }
+        ensures kept { (view A.Slots self.old).place.inline ≡ false → self.new ≡ self.old }
     {
         self.move_to_the_heap()
     }
 
     /// Moves an inline list to the heap, and reserves room there for `additional` items more.
     pub fn move_to_the_heap_and_reserve(&mut self, additional: usize) -> Result<(), AllocError>
-        ensures moves { MovesToHeap additional (tiny_view_of A.Slots self.old) (tiny_view_of A.Slots self.new) result }
-        ensures kept { is_inline self.old ≡ false
-            → tiny_len_of A.Slots self.old + additional ≤ tiny_capacity_of A.Slots self.old → self.new ≡ self.old }
+        ensures moves { MovesToHeap A.Item.is_default additional (view A.Slots self.old) (view A.Slots self.new) result }
+        ensures kept { (view A.Slots self.old).place.inline ≡ false
+            → length (view A.Slots self.old).items + additional ≤ (view A.Slots self.old).place.capacity → self.new ≡ self.old }
     {
         match self {
             TinyVec::Inline(_, _) => self.grow(additional),
@@ -168,9 +157,9 @@ impl<A: Array> TinyVec<A> {
 
     /// The same as `move_to_the_heap_and_reserve`.
     pub fn try_move_to_the_heap_and_reserve(&mut self, additional: usize) -> Result<(), AllocError>
-        ensures moves { MovesToHeap additional (tiny_view_of A.Slots self.old) (tiny_view_of A.Slots self.new) result }
-        ensures kept { is_inline self.old ≡ false
-            → tiny_len_of A.Slots self.old + additional ≤ tiny_capacity_of A.Slots self.old → self.new ≡ self.old }
+        ensures moves { MovesToHeap A.Item.is_default additional (view A.Slots self.old) (view A.Slots self.new) result }
+        ensures kept { (view A.Slots self.old).place.inline ≡ false
+            → length (view A.Slots self.old).items + additional ≤ (view A.Slots self.old).place.capacity → self.new ≡ self.old }
     {
         self.move_to_the_heap_and_reserve(additional)
     }
@@ -178,34 +167,34 @@ impl<A: Array> TinyVec<A> {
     /// Moves a list on the heap into the array if it fits, which allocates nothing. Otherwise shrinks the allocation; if
     /// the allocator refuses, nothing changes and no error is returned.
     pub fn shrink_to_fit(&mut self)
-        ensures items { tiny_items_of A.Slots self.new ≡ tiny_items_of A.Slots self.old }
-        ensures place { IsInline self.new ↔ (tiny_len_of A.Slots self.old ≤ A.CAPACITY) }
-        ensures spare { is_inline self.old ≡ false → IsInline self.new
-            → AreDefaults A.Item.is_default (A.CAPACITY - tiny_len_of A.Slots self.old)
-            (tiny_spare_of A.Slots self.new) }
-        ensures kept { IsInline self.old → self.new ≡ self.old }
-        ensures capacity { is_inline self.new ≡ false
-            → tiny_capacity_of A.Slots self.new ≤ tiny_capacity_of A.Slots self.old }
-        ensures fits { tiny_len_of A.Slots self.new ≤ tiny_capacity_of A.Slots self.new }
-        ensures inline_capacity { IsInline self.new → tiny_capacity_of A.Slots self.new ≡ A.CAPACITY }
+        ensures items { (view A.Slots self.new).items ≡ (view A.Slots self.old).items }
+        ensures place { IsTrue (view A.Slots self.new).place.inline ↔ (length (view A.Slots self.old).items ≤ A.CAPACITY) }
+        ensures spare { (view A.Slots self.old).place.inline ≡ false → IsTrue (view A.Slots self.new).place.inline
+            → AreDefaults A.Item.is_default (A.CAPACITY - length (view A.Slots self.old).items)
+            (view A.Slots self.new).spare }
+        ensures kept { IsTrue (view A.Slots self.old).place.inline → self.new ≡ self.old }
+        ensures capacity { (view A.Slots self.new).place.inline ≡ false
+            → (view A.Slots self.new).place.capacity ≤ (view A.Slots self.old).place.capacity }
+        ensures fits { length (view A.Slots self.new).items ≤ (view A.Slots self.new).place.capacity }
+        ensures inline_capacity { IsTrue (view A.Slots self.new).place.inline → (view A.Slots self.new).place.capacity ≡ A.CAPACITY }
     {
         self.shrink_to(0);
     }
 
     /// As `shrink_to_fit`, but keeps room for `min_capacity` items, if there was that room.
     pub fn shrink_to(&mut self, min_capacity: usize)
-        ensures items { tiny_items_of A.Slots self.new ≡ tiny_items_of A.Slots self.old }
-        ensures place { is_inline self.old ≡ false
-            → (IsInline self.new ↔ (max (tiny_len_of A.Slots self.old) min_capacity ≤ A.CAPACITY)) }
-        ensures spare { is_inline self.old ≡ false → IsInline self.new
-            → AreDefaults A.Item.is_default (A.CAPACITY - tiny_len_of A.Slots self.old)
-            (tiny_spare_of A.Slots self.new) }
-        ensures kept { IsInline self.old → self.new ≡ self.old }
-        ensures capacity { is_inline self.new ≡ false
-            → tiny_capacity_of A.Slots self.new ≤ tiny_capacity_of A.Slots self.old }
-        ensures lower_bound { min min_capacity (tiny_capacity_of A.Slots self.old) ≤ tiny_capacity_of A.Slots self.new }
-        ensures fits { tiny_len_of A.Slots self.new ≤ tiny_capacity_of A.Slots self.new }
-        ensures inline_capacity { IsInline self.new → tiny_capacity_of A.Slots self.new ≡ A.CAPACITY }
+        ensures items { (view A.Slots self.new).items ≡ (view A.Slots self.old).items }
+        ensures place { (view A.Slots self.old).place.inline ≡ false
+            → (IsTrue (view A.Slots self.new).place.inline ↔ (max (length (view A.Slots self.old).items) min_capacity ≤ A.CAPACITY)) }
+        ensures spare { (view A.Slots self.old).place.inline ≡ false → IsTrue (view A.Slots self.new).place.inline
+            → AreDefaults A.Item.is_default (A.CAPACITY - length (view A.Slots self.old).items)
+            (view A.Slots self.new).spare }
+        ensures kept { IsTrue (view A.Slots self.old).place.inline → self.new ≡ self.old }
+        ensures capacity { (view A.Slots self.new).place.inline ≡ false
+            → (view A.Slots self.new).place.capacity ≤ (view A.Slots self.old).place.capacity }
+        ensures lower_bound { min min_capacity (view A.Slots self.old).place.capacity ≤ (view A.Slots self.new).place.capacity }
+        ensures fits { length (view A.Slots self.new).items ≤ (view A.Slots self.new).place.capacity }
+        ensures inline_capacity { IsTrue (view A.Slots self.new).place.inline → (view A.Slots self.new).place.capacity ≡ A.CAPACITY }
     {
         let wanted = self.len().max(min_capacity);
         if let TinyVec::Heap(v) = self {
@@ -222,11 +211,11 @@ impl<A: Array> TinyVec<A> {
     /// Converts to a `Vec`. A list on the heap keeps its allocation; an inline one gets a capacity of its length. If the
     /// allocator refuses, the vector is returned.
     pub fn into_vec(self) -> Result<Vec<A::Item>, NoMemory<Self>>
-        ensures items { IfOk result (λ v. v.items ≡ tiny_items_of A.Slots self) }
-        ensures capacity { IfOk result (λ v. IsInline self → vec_capacity v ≡ tiny_len_of A.Slots self) }
-        ensures same_room { IfOk result (λ v. is_inline self ≡ false → vec_capacity v ≡ tiny_capacity_of A.Slots self) }
-        ensures succeeds { is_inline self ≡ false → IsOk result }
-        ensures succeeds_empty { tiny_len_of A.Slots self ≡ 0 → IsOk result }
+        ensures items { IfOk result (λ v. v.items ≡ (view A.Slots self).items) }
+        ensures capacity { IfOk result (λ v. IsTrue (view A.Slots self).place.inline → vec_capacity v ≡ length (view A.Slots self).items) }
+        ensures same_room { IfOk result (λ v. (view A.Slots self).place.inline ≡ false → vec_capacity v ≡ (view A.Slots self).place.capacity) }
+        ensures succeeds { (view A.Slots self).place.inline ≡ false → IsOk result }
+        ensures succeeds_empty { length (view A.Slots self).items ≡ 0 → IsOk result }
         ensures value_returned { IfErr result (λ refused. refused.0 ≡ self) }
     {
         match self {
@@ -240,9 +229,9 @@ impl<A: Array> TinyVec<A> {
 
     /// Converts to a boxed slice. If the allocator refuses, the items are dropped; `into_vec` returns them.
     pub fn into_boxed_slice(self) -> Result<BoxedSlice<A::Item>, AllocError>
-        ensures items { IfOk result (λ b. boxed_slice_items b ≡ tiny_items_of A.Slots self) }
-        ensures succeeds { is_inline self ≡ false → IsOk result }
-        ensures succeeds_empty { tiny_len_of A.Slots self ≡ 0 → IsOk result }
+        ensures items { IfOk result (λ b. boxed_slice_items b ≡ (view A.Slots self).items) }
+        ensures succeeds { (view A.Slots self).place.inline ≡ false → IsOk result }
+        ensures succeeds_empty { length (view A.Slots self).items ≡ 0 → IsOk result }
     {
         Ok(self.into_vec()?.into_boxed_slice())
     }

@@ -1,12 +1,10 @@
 //! Clones.
-ghost use Rattle.std.specs.Prelude.{◌≡◌, ◌≤◌, ◌++◌, ℕ, All, min, false, length, take, IfOk, OnOk, OnErr, IsOk};
+ghost use Rattle.std.specs.Prelude.{IsTrue, ◌≡◌, ◌≤◌, ◌++◌, ℕ, All, min, false, length, take, IfOk, OnOk, OnErr, IsOk};
 ghost use Rattle.std.specs.List.{AllZip};
 ghost use Rattle.tinyvec_slots.specs.Clones.{RefusedAt, AreClones, ClonesOver, ClonesInPart};
-ghost use Rattle.tinyvec.specs.TinyVec.{tiny_items_of, tiny_len_of, tiny_spare_of, is_inline, tiny_capacity_of, IsInline};
-ghost use Rattle.tinyvec.specs.TinyVec.{tiny_view_of};
-ghost use Rattle.tinyvec.specs.View.{TinySlotRule, SameFrame, IsTinyClone, IsTinyInfallible};
+ghost use Rattle.tinyvec.specs.TinyVec.{view};
+ghost use Rattle.tinyvec.specs.View.{BecomesIn, Reserved, place_for, SameFrame, IsTinyClone, IsTinyInfallible};
 ghost use Rattle.tinyvec.specs.Refused.{RefusedFor};
-ghost use Rattle.tinyvec.specs.Room.{KeepsRoom, GetsRoom};
 
 use crate::TinyVec;
 use crate::tuned::push_clones;
@@ -21,15 +19,15 @@ impl<A: Array> TinyVec<A> {
     pub fn clone(&self) -> Result<Self, AllocError>
     where
         A::Item: Clone,
-        ensures copied { IfOk result (λ v. IsTinyClone A.Item.is_clone (tiny_view_of A.Slots self.now)
-            (tiny_view_of A.Slots v)) }
-        ensures refused { OnErr result (IsInline self.now
-            → (j : ℕ) × RefusedAt A.Item.is_infallible (tiny_items_of A.Slots self.now
-            ++ tiny_spare_of A.Slots self.now) j) }
-        ensures succeeds { IsInline self.now
-            → All A.Item.is_infallible (tiny_items_of A.Slots self.now ++ tiny_spare_of A.Slots self.now)
+        ensures copied { IfOk result (λ v. IsTinyClone A.Item.is_clone (view A.Slots self.now)
+            (view A.Slots v)) }
+        ensures refused { OnErr result (IsTrue (view A.Slots self.now).place.inline
+            → (j : ℕ) × RefusedAt A.Item.is_infallible ((view A.Slots self.now).items
+            ++ (view A.Slots self.now).spare) j) }
+        ensures succeeds { IsTrue (view A.Slots self.now).place.inline
+            → All A.Item.is_infallible ((view A.Slots self.now).items ++ (view A.Slots self.now).spare)
             → IsOk result }
-        ensures succeeds_empty { is_inline self.now ≡ false → tiny_len_of A.Slots self.now ≡ 0 → IsOk result }
+        ensures succeeds_empty { (view A.Slots self.now).place.inline ≡ false → length (view A.Slots self.now).items ≡ 0 → IsOk result }
     {
         let v = match self {
             TinyVec::Inline(v, alloc) => {
@@ -47,12 +45,12 @@ impl<A: Array> TinyVec<A> {
     fn overwrite(&mut self, source: &[A::Item]) -> Result<(), AllocError>
     where
         A::Item: Clone,
-        requires same_len { length source.now ≡ tiny_len_of A.Slots self.old }
-        ensures ok { OnOk result (AllZip A.Item.is_clone source.now (tiny_items_of A.Slots self.new)) }
+        requires same_len { length source.now ≡ length (view A.Slots self.old).items }
+        ensures ok { OnOk result (AllZip A.Item.is_clone source.now (view A.Slots self.new).items) }
         ensures refused { OnErr result ((j : ℕ) × RefusedAt A.Item.is_infallible source.now j
-            × ClonesOver A.Item.is_clone (take j source.now) j (tiny_items_of A.Slots self.old)
-            (tiny_items_of A.Slots self.new)) }
-        ensures frame { SameFrame (tiny_view_of A.Slots self.old) (tiny_view_of A.Slots self.new) }
+            × ClonesOver A.Item.is_clone (take j source.now) j (view A.Slots self.old).items
+            (view A.Slots self.new).items) }
+        ensures frame { SameFrame (view A.Slots self.old) (view A.Slots self.new) }
         ensures succeeds { All A.Item.is_infallible source.now → IsOk result }
     {
         clone_over(self.as_mut_slice(), source)
@@ -62,25 +60,21 @@ impl<A: Array> TinyVec<A> {
     pub fn clone_from(&mut self, source: &Self) -> Result<(), AllocError>
     where
         A::Item: Clone,
-        ensures items { OnOk result (AreClones A.Item.is_clone (tiny_items_of A.Slots source.now)
-            (tiny_items_of A.Slots self.new)) }
-        ensures room { OnOk result (GetsRoom (is_inline self.old) (tiny_len_of A.Slots source.now)
-            (tiny_view_of A.Slots self.old) (tiny_view_of A.Slots self.new)) }
-        ensures keeps { KeepsRoom (tiny_len_of A.Slots source.now) (tiny_view_of A.Slots self.old)
-            (tiny_view_of A.Slots self.new) }
-        ensures slot_rule { OnOk result (TinySlotRule A.Item.is_default (tiny_view_of A.Slots self.old)
-            (tiny_view_of A.Slots self.new)) }
+        ensures items { OnOk result (AreClones A.Item.is_clone (view A.Slots source.now).items
+            (view A.Slots self.new).items) }
+        ensures ok { OnOk result (BecomesIn A.Item.is_default (view A.Slots self.old)
+            (view A.Slots self.new) (view A.Slots self.new).items
+            (place_for Reserved (length (view A.Slots source.now).items) (view A.Slots self.old).place)) }
 
         // If there is room only clones allocate.
-        ensures succeeds { tiny_len_of A.Slots source.now ≤ tiny_capacity_of A.Slots self.old
-            → All A.Item.is_infallible (tiny_items_of A.Slots source.now) → IsOk result }
-        ensures refused { OnErr result (RefusedFor (tiny_len_of A.Slots source.now)
+        ensures succeeds { length (view A.Slots source.now).items ≤ (view A.Slots self.old).place.capacity
+            → All A.Item.is_infallible (view A.Slots source.now).items → IsOk result }
+        ensures refused { OnErr result (RefusedFor (length (view A.Slots source.now).items)
             (ClonesInPart A.Item.is_default A.Item.is_infallible A.Item.is_clone
-            (tiny_items_of A.Slots source.now) (tiny_items_of A.Slots self.old) (tiny_items_of A.Slots self.new)
-            (min (tiny_len_of A.Slots self.old) (tiny_len_of A.Slots source.now))
-            (IsInline self.new) (tiny_spare_of A.Slots self.old) (tiny_spare_of A.Slots self.new))
-            (tiny_view_of A.Slots self.old) (tiny_view_of A.Slots self.new)) }
-        ensures inline_capacity { IsInline self.old → tiny_capacity_of A.Slots self.old ≡ A.CAPACITY }
+            (view A.Slots source.now).items (view A.Slots self.old).items (view A.Slots self.new).items
+            (min (length (view A.Slots self.old).items) (length (view A.Slots source.now).items))
+            (IsTrue (view A.Slots self.new).place.inline) (view A.Slots self.old).spare (view A.Slots self.new).spare)
+            (view A.Slots self.old) (view A.Slots self.new)) }
     {
         let len = self.len();
         let count = source.len();
@@ -98,9 +92,9 @@ impl<A: Array> Clone for TinyVec<A>
 where
     A::Item: Clone,
 {
-    ghost is_clone = { λ v w. IsTinyClone A.Item.is_clone (tiny_view_of A.Slots v) (tiny_view_of A.Slots w) };
+    ghost is_clone = { λ v w. IsTinyClone A.Item.is_clone (view A.Slots v) (view A.Slots w) };
 
-    ghost is_infallible = { λ v. IsTinyInfallible A.Item.is_infallible (tiny_view_of A.Slots v) };
+    ghost is_infallible = { λ v. IsTinyInfallible A.Item.is_infallible (view A.Slots v) };
 
     /// Clones the vector, spare slots too. The clone is in the same place.
     fn clone(&self) -> Result<Self, AllocError> {

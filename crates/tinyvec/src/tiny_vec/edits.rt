@@ -1,26 +1,28 @@
 //! Items that are pushed, popped, inserted, removed and cut off.
+ghost use Rattle.std.specs.Prelude.{IsTrue, length, ◌==◌};
+ghost use Rattle.tinyvec_array.specs.ArrayVec.{spare_of};
 ghost use Rattle.std.specs.Prelude.{◌≡◌, ◌+◌, ◌-◌, ◌<◌, ◌↔◌, [], ◌∷◌, ◌++◌, take, drop, slice_get, IsSome, IfSome, IsOk};
 ghost use Rattle.std.specs.Prelude.{OnOk, OnErr, IfErr, ◌≤◌, if◌then◌else◌, is_ok, insert, remove, slice_index_or, vec_len};
-ghost use Rattle.std.specs.Prelude.{vec_capacity, IfOk, IfNone, false};
-ghost use Rattle.tinyvec.specs.TinyVec.{tiny_items_of, tiny_len_of, tiny_capacity_of, IsInline, tiny_view_of};
-ghost use Rattle.tinyvec.specs.View.{IsTail, Becomes, Unchanged};
-ghost use Rattle.tinyvec.specs.Room.{MakesRoom};
+ghost use Rattle.std.specs.Prelude.{vec_capacity, IfOk, IfNone};
+ghost use Rattle.tinyvec.specs.TinyVec.{view};
+ghost use Rattle.tinyvec.specs.View.{IsTail, Becomes, BecomesIn, Doubled, place_for};
 ghost use Rattle.tinyvec.specs.OnHeap.{HeapBecomes};
 ghost use Rattle.std.specs.List.{swap_remove};
 ghost use Rattle.std.specs.Borrow.{sem};
 
 use crate::TinyVec;
 use std::alloc::AllocError;
-use tinyvec_array::Array;
+use std::mem;
+use tinyvec_array::{Array, ArrayVec};
 use tinyvec_slots::NoMemory;
 use tinyvec_slots::authors::{move_to_end, remove_shifting, take_all};
 
 impl<A: Array> TinyVec<A> {
     /// Appends `value` to a list that has room. It allocates nothing, so it cannot fail.
     pub fn push_reserved(&mut self, value: A::Item)
-        requires { tiny_len_of A.Slots self.old < tiny_capacity_of A.Slots self.old }
-        ensures { Becomes A.Item.is_default (tiny_view_of A.Slots self.old)
-            (tiny_view_of A.Slots self.new) (tiny_items_of A.Slots self.old ++ value ∷ []) }
+        requires { length (view A.Slots self.old).items < (view A.Slots self.old).place.capacity }
+        ensures { Becomes A.Item.is_default (view A.Slots self.old)
+            (view A.Slots self.new) ((view A.Slots self.old).items ++ value ∷ []) }
     {
         match self {
             TinyVec::Inline(v, _) => v.push(value),
@@ -33,20 +35,16 @@ impl<A: Array> TinyVec<A> {
     // Inlined, since LLVM otherwise passes items that need a drop, and the result that may hold one, through memory.
     #[inline(always)]
     pub fn push(&mut self, value: A::Item) -> Result<(), NoMemory<A::Item>>
-        ensures items { tiny_items_of A.Slots self.new
-            ≡ (if is_ok result then tiny_items_of A.Slots self.old ++ value ∷ [] else tiny_items_of A.Slots self.old) }
-        ensures len { tiny_len_of A.Slots self.new ≡
-            (if is_ok result then tiny_len_of A.Slots self.old + 1 else tiny_len_of A.Slots self.old) }
-        ensures room { MakesRoom false (tiny_len_of A.Slots self.old + 1)
-            (tiny_view_of A.Slots self.old) (tiny_view_of A.Slots self.new) result }
-        ensures inline_capacity { IsInline self.old → tiny_capacity_of A.Slots self.old ≡ A.CAPACITY }
-        ensures succeeds_inline { IsInline self.old → tiny_len_of A.Slots self.old < A.CAPACITY → IsOk result }
-        ensures full { OnErr result (tiny_len_of A.Slots self.old ≡ tiny_capacity_of A.Slots self.old) }
-        ensures value_returned { IfErr result (λ refused. refused.0 ≡ value) }
+        ensures ok { OnOk result (BecomesIn A.Item.is_default (view A.Slots self.old)
+            (view A.Slots self.new) ((view A.Slots self.old).items ++ value ∷ [])
+            (place_for Doubled (length (view A.Slots self.old).items + 1) (view A.Slots self.old).place)) }
+        ensures err { IfErr result (λ refused. (refused.0 ≡ value)
+            × (view A.Slots self.new ≡ view A.Slots self.old)) }
+        ensures succeeds { length (view A.Slots self.old).items < (view A.Slots self.old).place.capacity → IsOk result }
     {
         // One test of the variant; growing is kept out of the usual path.
         match self {
-            TinyVec::Inline(v, _) if !v.is_full() => v.push(value),
+            TinyVec::Inline(v, _) if !is_full(v) => v.push(value),
             TinyVec::Heap(v) if v.len() < v.capacity() => v.push_reserved(value),
             _ => {
                 let n = self.len().max(1);
@@ -64,14 +62,11 @@ impl<A: Array> TinyVec<A> {
     /// Appends `value`, and returns it for writing. A full list grows as by `push`. If the allocator refuses, nothing
     /// changes and `value` is returned.
     pub fn push_mut(&mut self, value: A::Item) -> Result<&mut A::Item, NoMemory<A::Item>>
-        ensures* writes_back { sem 𝓛 (lends_added A.row A.Len.row A.Item.row A.Slots self.entry
-            (λ x. tiny_items_of A.Slots self.old ++ x ∷ []) result) }
-        ensures value { IfOk result (λ x. x.now ≡ value) }
-        ensures succeeds { tiny_len_of A.Slots self.old < tiny_capacity_of A.Slots self.old → IsOk result }
-        ensures inline_capacity { IsInline self.old → tiny_capacity_of A.Slots self.old ≡ A.CAPACITY }
-        ensures succeeds_inline { IsInline self.old → tiny_len_of A.Slots self.old < A.CAPACITY → IsOk result }
-        ensures full { OnErr result (tiny_len_of A.Slots self.old ≡ tiny_capacity_of A.Slots self.old) }
-        ensures value_returned { IfErr result (λ refused. refused.0 ≡ value) }
+        ensures* writes_back { sem 𝓛 (lends_added A.row A.Len.row A.Item.row A.Slots self.entry A.Item.is_default
+            (λ x. (view A.Slots self.old).items ++ x ∷ []) result) }
+        ensures ok { IfOk result (λ x. x.now ≡ value) }
+        ensures err { IfErr result (λ refused. refused.0 ≡ value) }
+        ensures succeeds { length (view A.Slots self.old).items < (view A.Slots self.old).place.capacity → IsOk result }
     {
         let at = self.len();
         if let Err(refused) = self.push(value) {
@@ -82,11 +77,11 @@ impl<A: Array> TinyVec<A> {
 
     /// Removes the last item and returns it. Its slot is reset to a default if the list is inline.
     pub fn pop(&mut self) -> Option<A::Item>
-        ensures variant { IsSome result ↔ (0 < tiny_len_of A.Slots self.old) }
-        ensures some { IfSome result (λ x. tiny_items_of A.Slots self.old ≡ tiny_items_of A.Slots self.new ++ x ∷ []) }
-        ensures value { result ≡ slice_get (tiny_items_of A.Slots self.old) (tiny_len_of A.Slots self.old - 1) }
-        ensures becomes { Becomes A.Item.is_default (tiny_view_of A.Slots self.old)
-            (tiny_view_of A.Slots self.new) (take (tiny_len_of A.Slots self.old - 1) (tiny_items_of A.Slots self.old)) }
+        ensures variant { IsSome result ↔ (0 < length (view A.Slots self.old).items) }
+        ensures some { IfSome result (λ x. (view A.Slots self.old).items ≡ (view A.Slots self.new).items ++ x ∷ []) }
+        ensures value { result ≡ slice_get (view A.Slots self.old).items (length (view A.Slots self.old).items - 1) }
+        ensures becomes { Becomes A.Item.is_default (view A.Slots self.old)
+            (view A.Slots self.new) (take (length (view A.Slots self.old).items - 1) (view A.Slots self.old).items) }
     {
         match self {
             TinyVec::Inline(v, _) => v.pop(),
@@ -96,10 +91,10 @@ impl<A: Array> TinyVec<A> {
 
     // `insert` into a list that has room.
     fn insert_reserved(&mut self, index: usize, element: A::Item)
-        requires in_list { index ≤ tiny_len_of A.Slots self.old }
-        requires room { tiny_len_of A.Slots self.old < tiny_capacity_of A.Slots self.old }
-        ensures { Becomes A.Item.is_default (tiny_view_of A.Slots self.old)
-            (tiny_view_of A.Slots self.new) (insert (tiny_items_of A.Slots self.old) index element) }
+        requires in_list { index ≤ length (view A.Slots self.old).items }
+        requires room { length (view A.Slots self.old).items < (view A.Slots self.old).place.capacity }
+        ensures { Becomes A.Item.is_default (view A.Slots self.old)
+            (view A.Slots self.new) (insert (view A.Slots self.old).items index element) }
     {
         match self {
             TinyVec::Inline(v, _) => v.insert(index, element),
@@ -114,18 +109,13 @@ impl<A: Array> TinyVec<A> {
     // Inlined, so that the variant is tested once for this call and the next.
     #[inline(always)]
     pub fn insert(&mut self, index: usize, element: A::Item) -> Result<(), NoMemory<A::Item>>
-        requires { index ≤ tiny_len_of A.Slots self.old }
-        ensures items { tiny_items_of A.Slots self.new
-            ≡ (if is_ok result then insert
-            (tiny_items_of A.Slots self.old) index element else tiny_items_of A.Slots self.old) }
-        ensures len { tiny_len_of A.Slots self.new ≡
-            (if is_ok result then tiny_len_of A.Slots self.old + 1 else tiny_len_of A.Slots self.old) }
-        ensures room { MakesRoom false (tiny_len_of A.Slots self.old + 1)
-            (tiny_view_of A.Slots self.old) (tiny_view_of A.Slots self.new) result }
-        ensures inline_capacity { IsInline self.old → tiny_capacity_of A.Slots self.old ≡ A.CAPACITY }
-        ensures succeeds_inline { IsInline self.old → tiny_len_of A.Slots self.old < A.CAPACITY → IsOk result }
-        ensures full { OnErr result (tiny_len_of A.Slots self.old ≡ tiny_capacity_of A.Slots self.old) }
-        ensures value_returned { IfErr result (λ refused. refused.0 ≡ element) }
+        requires { index ≤ length (view A.Slots self.old).items }
+        ensures ok { OnOk result (BecomesIn A.Item.is_default (view A.Slots self.old)
+            (view A.Slots self.new) (insert (view A.Slots self.old).items index element)
+            (place_for Doubled (length (view A.Slots self.old).items + 1) (view A.Slots self.old).place)) }
+        ensures err { IfErr result (λ refused. (refused.0 ≡ element)
+            × (view A.Slots self.new ≡ view A.Slots self.old)) }
+        ensures succeeds { length (view A.Slots self.old).items < (view A.Slots self.old).place.capacity → IsOk result }
     {
         match self {
             TinyVec::Inline(v, _) if !v.is_full() => v.insert(index, element),
@@ -150,15 +140,12 @@ impl<A: Array> TinyVec<A> {
         index: usize,
         element: A::Item,
     ) -> Result<&mut A::Item, NoMemory<A::Item>>
-        requires { index ≤ tiny_len_of A.Slots self.old }
-        ensures* writes_back { sem 𝓛 (lends_added A.row A.Len.row A.Item.row A.Slots self.entry
-            (insert (tiny_items_of A.Slots self.old) index) result) }
-        ensures value { IfOk result (λ x. x.now ≡ element) }
-        ensures succeeds { tiny_len_of A.Slots self.old < tiny_capacity_of A.Slots self.old → IsOk result }
-        ensures inline_capacity { IsInline self.old → tiny_capacity_of A.Slots self.old ≡ A.CAPACITY }
-        ensures succeeds_inline { IsInline self.old → tiny_len_of A.Slots self.old < A.CAPACITY → IsOk result }
-        ensures full { OnErr result (tiny_len_of A.Slots self.old ≡ tiny_capacity_of A.Slots self.old) }
-        ensures value_returned { IfErr result (λ refused. refused.0 ≡ element) }
+        requires { index ≤ length (view A.Slots self.old).items }
+        ensures* writes_back { sem 𝓛 (lends_added A.row A.Len.row A.Item.row A.Slots self.entry A.Item.is_default
+            (insert (view A.Slots self.old).items index) result) }
+        ensures ok { IfOk result (λ x. x.now ≡ element) }
+        ensures err { IfErr result (λ refused. refused.0 ≡ element) }
+        ensures succeeds { length (view A.Slots self.old).items < (view A.Slots self.old).place.capacity → IsOk result }
     {
         if let Err(refused) = self.insert(index, element) {
             return Err(refused);
@@ -170,10 +157,10 @@ impl<A: Array> TinyVec<A> {
     // Inlined like `insert`.
     #[inline(always)]
     pub fn remove(&mut self, index: usize) -> A::Item
-        requires { index < tiny_len_of A.Slots self.old }
-        ensures value { result ≡ slice_index_or (tiny_items_of A.Slots self.old) index result }
-        ensures becomes { Becomes A.Item.is_default (tiny_view_of A.Slots self.old)
-            (tiny_view_of A.Slots self.new) (remove (tiny_items_of A.Slots self.old) index) }
+        requires { index < length (view A.Slots self.old).items }
+        ensures value { result ≡ slice_index_or (view A.Slots self.old).items index result }
+        ensures becomes { Becomes A.Item.is_default (view A.Slots self.old)
+            (view A.Slots self.new) (remove (view A.Slots self.old).items index) }
     {
         match self {
             TinyVec::Inline(v, _) => v.remove(index),
@@ -183,10 +170,10 @@ impl<A: Array> TinyVec<A> {
 
     /// Removes the item at `index` and returns it. The last one takes its place.
     pub fn swap_remove(&mut self, index: usize) -> A::Item
-        requires { index < tiny_len_of A.Slots self.old }
-        ensures value { result ≡ slice_index_or (tiny_items_of A.Slots self.old) index result }
-        ensures becomes { Becomes A.Item.is_default (tiny_view_of A.Slots self.old)
-            (tiny_view_of A.Slots self.new) (swap_remove (tiny_items_of A.Slots self.old) index result) }
+        requires { index < length (view A.Slots self.old).items }
+        ensures value { result ≡ slice_index_or (view A.Slots self.old).items index result }
+        ensures becomes { Becomes A.Item.is_default (view A.Slots self.old)
+            (view A.Slots self.new) (swap_remove (view A.Slots self.old).items index result) }
     {
         match self {
             TinyVec::Inline(v, _) => v.swap_remove(index),
@@ -198,8 +185,8 @@ impl<A: Array> TinyVec<A> {
     /// is inline.
     #[inline(always)]
     pub fn truncate(&mut self, new_len: usize)
-        ensures { Becomes A.Item.is_default (tiny_view_of A.Slots self.old)
-            (tiny_view_of A.Slots self.new) (take new_len (tiny_items_of A.Slots self.old)) }
+        ensures { Becomes A.Item.is_default (view A.Slots self.old)
+            (view A.Slots self.new) (take new_len (view A.Slots self.old).items) }
     {
         match self {
             TinyVec::Inline(v, _) => v.truncate(new_len),
@@ -209,7 +196,7 @@ impl<A: Array> TinyVec<A> {
 
     /// Empties the list. Each vacated slot is reset to a default if the list is inline.
     pub fn clear(&mut self)
-        ensures { Becomes A.Item.is_default (tiny_view_of A.Slots self.old) (tiny_view_of A.Slots self.new) [] }
+        ensures { Becomes A.Item.is_default (view A.Slots self.old) (view A.Slots self.new) [] }
     {
         match self {
             TinyVec::Inline(v, _) => {
@@ -227,13 +214,13 @@ impl<A: Array> TinyVec<A> {
     /// Splits the list at `at` and returns the items from `at` on. The result is in the same place. An inline list
     /// allocates nothing; one on the heap allocates room for those items.
     pub fn split_off(&mut self, at: usize) -> Result<Self, AllocError>
-        requires { at ≤ tiny_len_of A.Slots self.old }
-        ensures becomes { Becomes A.Item.is_default (tiny_view_of A.Slots self.old) (tiny_view_of A.Slots self.new)
-            (if is_ok result then take at (tiny_items_of A.Slots self.old) else tiny_items_of A.Slots self.old) }
-        ensures tail { IfOk result (λ v. IsTail A.Item.is_default A.CAPACITY at (tiny_view_of A.Slots self.old)
-            (tiny_view_of A.Slots v)) }
-        ensures succeeds { IsInline self.old → IsOk result }
-        ensures succeeds_at_the_end { at ≡ tiny_len_of A.Slots self.old → IsOk result }
+        requires { at ≤ length (view A.Slots self.old).items }
+        ensures becomes { Becomes A.Item.is_default (view A.Slots self.old) (view A.Slots self.new)
+            (if is_ok result then take at (view A.Slots self.old).items else (view A.Slots self.old).items) }
+        ensures tail { IfOk result (λ v. IsTail A.Item.is_default A.CAPACITY at (view A.Slots self.old)
+            (view A.Slots v)) }
+        ensures succeeds { IsTrue (view A.Slots self.old).place.inline → IsOk result }
+        ensures succeeds_at_the_end { at ≡ length (view A.Slots self.old).items → IsOk result }
         ensures refused { OnErr result (self.new ≡ self.old) }
     {
         match self {
@@ -244,17 +231,32 @@ impl<A: Array> TinyVec<A> {
 
     /// Removes the item at `index` and returns it, or returns `None` if the list has no such item. The later ones move down.
     pub fn pop_at(&mut self, index: usize) -> Option<A::Item>
-        ensures variant { IsSome result ↔ (index < tiny_len_of A.Slots self.old) }
-        ensures value { result ≡ slice_get (tiny_items_of A.Slots self.old) index }
-        ensures none { IfNone result (Unchanged (tiny_view_of A.Slots self.old) (tiny_view_of A.Slots self.new)) }
-        ensures becomes { Becomes A.Item.is_default (tiny_view_of A.Slots self.old)
-            (tiny_view_of A.Slots self.new) (remove (tiny_items_of A.Slots self.old) index) }
+        ensures variant { IsSome result ↔ (index < length (view A.Slots self.old).items) }
+        ensures value { result ≡ slice_get (view A.Slots self.old).items index }
+        ensures none { IfNone result (view A.Slots self.new ≡ view A.Slots self.old) }
+        ensures becomes { Becomes A.Item.is_default (view A.Slots self.old)
+            (view A.Slots self.new) (remove (view A.Slots self.old).items index) }
     {
         if index >= self.len() {
             return None;
         }
         Some(self.remove(index))
     }
+}
+
+// `is_full` of an array. A loop of pushes of small items is faster by `<` than by `==`.
+#[inline(always)]
+fn is_full<A: Array>(v: &ArrayVec<A>) -> bool
+    ensures value { result ≡ (length (spare_of A.Slots v.now) == 0) }
+{
+    let slots = v.as_inner().as_slice();
+    if slots.len() * mem::size_of::<A::Item>() / 16 > slots.len() {
+        return v.is_full();
+    }
+    if v.len() < v.capacity() {
+        return false;
+    }
+    true
 }
 
 // Up to this many items, shifting one by one beats a rotation, and `Vec::remove`.

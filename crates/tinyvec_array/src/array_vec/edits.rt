@@ -1,6 +1,8 @@
 //! Items that are pushed, popped, inserted, removed and cut off.
-ghost use Rattle.std.specs.Prelude.{◌≡◌, ◌-◌, ◌<◌, ◌↔◌, [], ◌∷◌, ◌++◌, length, take, slice_get, slice_index_or, IsSome, OnSome, IfNone, IfSome, ◌≤◌, remove, insert};
-ghost use Rattle.tinyvec_array.specs.ArrayVec.{items_of, spare_of, slots_of, len_of, SameLender, Gains, Loses};
+ghost use Rattle.std.specs.Prelude.{◌≡◌, ◌+◌, ◌-◌, ◌<◌, ◌↔◌, [], ◌∷◌, ◌++◌, length, take, drop, slice_get, slice_index_or, IsSome, IfNone, IfSome, ◌≤◌, remove, insert};
+ghost use Rattle.tinyvec_array.specs.ArrayVec.{items_of, spare_of, slots_of, len_of, SameLender};
+ghost use Rattle.tinyvec_array.specs.View.{view, Becomes, NothingVacated};
+ghost use Rattle.tinyvec_slots.specs.Ranges.{Within};
 ghost use Rattle.std.specs.Borrow.{sem};
 ghost use Rattle.std.specs.List.{swap_remove, SwappedAt};
 
@@ -10,14 +12,15 @@ use crate::tuned::resetting::fill_default;
 use crate::tuned::shifting::{insert_shifting, last_to};
 use crate::{ArrayVec, Slots};
 use std::mem;
-use tinyvec_slots::authors::remove_shifting;
+use tinyvec_slots::authors::{remove_shifting, replace_within};
 
 // What puts items in needs no default.
 impl<S: Slots> ArrayVec<S> {
     /// Appends `value`.
     pub fn push(&mut self, value: S::Item)
         requires { 0 < length (spare_of S.Slots self.old) }
-        ensures { Gains S.Slots 1 self.old self.new (items_of S.Slots self.old ++ value ∷ []) }
+        ensures { Becomes NothingVacated (view S.Slots self.old) (view S.Slots self.new)
+            (items_of S.Slots self.old ++ value ∷ []) }
     {
         let len = self.len();
         let at = bounded_index(len, self.slots.most());
@@ -29,7 +32,8 @@ impl<S: Slots> ArrayVec<S> {
     pub fn try_push(&mut self, value: S::Item) -> Option<S::Item>
         ensures variant { IsSome result ↔ (length (spare_of S.Slots self.old) ≡ 0) }
         ensures refused { IfSome result (λ y. (y ≡ value) × (self.new ≡ self.old)) }
-        ensures becomes { IfNone result (Gains S.Slots 1 self.old self.new (items_of S.Slots self.old ++ value ∷ [])) }
+        ensures becomes { IfNone result (Becomes NothingVacated (view S.Slots self.old) (view S.Slots self.new)
+            (items_of S.Slots self.old ++ value ∷ [])) }
     {
         if self.is_full() {
             return Some(value);
@@ -57,7 +61,8 @@ impl<S: Slots> ArrayVec<S> {
     pub fn insert(&mut self, index: usize, element: S::Item)
         requires in_list { index ≤ len_of S.Slots self.old }
         requires room { 0 < length (spare_of S.Slots self.old) }
-        ensures { Gains S.Slots 1 self.old self.new (insert (items_of S.Slots self.old) index element) }
+        ensures { Becomes NothingVacated (view S.Slots self.old) (view S.Slots self.new)
+            (insert (items_of S.Slots self.old) index element) }
     {
         self.put_in(index, element);
     }
@@ -67,7 +72,7 @@ impl<S: Slots> ArrayVec<S> {
         requires { index ≤ len_of S.Slots self.old }
         ensures variant { IsSome result ↔ (length (spare_of S.Slots self.old) ≡ 0) }
         ensures refused { IfSome result (λ y. (y ≡ element) × (self.new ≡ self.old)) }
-        ensures becomes { IfNone result (Gains S.Slots 1 self.old self.new
+        ensures becomes { IfNone result (Becomes NothingVacated (view S.Slots self.old) (view S.Slots self.new)
             (insert (items_of S.Slots self.old) index element)) }
     {
         if self.is_full() {
@@ -130,8 +135,8 @@ where
     /// Removes the last item and returns it. Its slot is reset to a default.
     pub fn pop(&mut self) -> Option<S::Item>
         ensures variant { IsSome result ↔ (0 < len_of S.Slots self.old) }
-        ensures becomes { OnSome result (Loses S.Slots S.Item.is_default 1 self.old self.new
-            (take (len_of S.Slots self.old - 1) (items_of S.Slots self.old))) }
+        ensures becomes { Becomes S.Item.is_default (view S.Slots self.old) (view S.Slots self.new)
+            (take (len_of S.Slots self.old - 1) (items_of S.Slots self.old)) }
         ensures some { IfSome result (λ x. items_of S.Slots self.old ≡ items_of S.Slots self.new ++ x ∷ []) }
         ensures value { result ≡ slice_get (items_of S.Slots self.old) (len_of S.Slots self.old - 1) }
         ensures none { IfNone result (self.new ≡ self.old) }
@@ -145,7 +150,7 @@ where
     // Takes the last item.
     pub(crate) fn take_last(&mut self) -> S::Item
         requires { 0 < len_of S.Slots self.old }
-        ensures becomes { Loses S.Slots S.Item.is_default 1 self.old self.new
+        ensures becomes { Becomes S.Item.is_default (view S.Slots self.old) (view S.Slots self.new)
             (take (len_of S.Slots self.old - 1) (items_of S.Slots self.old)) }
         ensures last { items_of S.Slots self.old ≡ items_of S.Slots self.new ++ result ∷ [] }
         ensures value { result ≡ slice_index_or (items_of S.Slots self.old) (len_of S.Slots self.old - 1) result }
@@ -164,7 +169,8 @@ where
     pub fn remove(&mut self, index: usize) -> S::Item
         requires { index < len_of S.Slots self.old }
         ensures value { result ≡ slice_index_or (items_of S.Slots self.old) index result }
-        ensures becomes { Loses S.Slots S.Item.is_default 1 self.old self.new (remove (items_of S.Slots self.old) index) }
+        ensures becomes { Becomes S.Item.is_default (view S.Slots self.old) (view S.Slots self.new)
+            (remove (items_of S.Slots self.old) index) }
     {
         let len = self.len();
         if prefers_shifting_in(&self.slots, index, len) {
@@ -181,8 +187,8 @@ where
     pub fn pop_at(&mut self, index: usize) -> Option<S::Item>
         ensures variant { IsSome result ↔ (index < len_of S.Slots self.old) }
         ensures value { result ≡ slice_get (items_of S.Slots self.old) index }
-        ensures becomes { OnSome result (Loses S.Slots S.Item.is_default 1 self.old self.new
-            (remove (items_of S.Slots self.old) index)) }
+        ensures becomes { Becomes S.Item.is_default (view S.Slots self.old) (view S.Slots self.new)
+            (remove (items_of S.Slots self.old) index) }
         ensures none { IfNone result (self.new ≡ self.old) }
     {
         if index >= self.len() {
@@ -195,7 +201,7 @@ where
     pub fn swap_remove(&mut self, index: usize) -> S::Item
         requires { index < len_of S.Slots self.old }
         ensures value { result ≡ slice_index_or (items_of S.Slots self.old) index result }
-        ensures becomes { Loses S.Slots S.Item.is_default 1 self.old self.new
+        ensures becomes { Becomes S.Item.is_default (view S.Slots self.old) (view S.Slots self.new)
             (swap_remove (items_of S.Slots self.old) index result) }
     {
         let last = self.len() - 1;
@@ -205,7 +211,7 @@ where
 
     /// Keeps the first `new_len` items, or all if there are no more. Each vacated slot is reset to a default.
     pub fn truncate(&mut self, new_len: usize)
-        ensures { Loses S.Slots S.Item.is_default (len_of S.Slots self.old - new_len) self.old self.new
+        ensures { Becomes S.Item.is_default (view S.Slots self.old) (view S.Slots self.new)
             (take new_len (items_of S.Slots self.old)) }
     {
         let len = self.len();
@@ -218,8 +224,29 @@ where
 
     /// Empties the list. Each vacated slot is reset to a default.
     pub fn clear(&mut self)
-        ensures { Loses S.Slots S.Item.is_default (len_of S.Slots self.old) self.old self.new [] }
+        ensures { Becomes S.Item.is_default (view S.Slots self.old) (view S.Slots self.new) [] }
     {
         self.truncate(0);
+    }
+
+    // `replace_range` of a list that has room.
+    #[inline(always)]
+    pub(crate) fn replace_fitting(&mut self, start: usize, end: usize, new: &[S::Item])
+    where
+        S::Item: Copy,
+        requires in_list { Within start end (len_of S.Slots self.old) }
+        requires room { len_of S.Slots self.old - (end - start) + length new.now ≤ length (slots_of S.Slots self.old) }
+        ensures { Becomes S.Item.is_default (view S.Slots self.old) (view S.Slots self.new)
+            (take start (items_of S.Slots self.old) ++ new.now ++ drop end (items_of S.Slots self.old)) }
+    {
+        let len = self.len();
+        let new_len = len - (end - start) + new.len();
+        let most = self.slots.most();
+        replace_within(self.slots.as_slice_mut(), start, end, len, new, most);
+        if new_len < len {
+            self.truncate(new_len);
+            return;
+        }
+        self.len = self.slots.to_len(new_len);
     }
 }

@@ -1,18 +1,18 @@
 //! Growing by other lists, by clones, by iterators and by closures.
 ghost use Rattle.std.specs.Prelude.{◌≡◌, ◌+◌, ◌≤◌, ◌++◌, length, take, drop, IsOk, OnOk, OnErr, [], ◌-◌, ◌∷◌, List, IfErr, Some, ◌<◌, ◌↔◌, ℕ, All, Err, reverse, IsSome, IfSome, IfNone, IfOk, MatchResult};
 ghost use Rattle.tinyvec_slots.specs.Clones.{AddsClones, AppendsAllOrNone, ClonesOver, RefusedAt, ResizesByClones, CutsToClones};
-ghost use Rattle.tinyvec_array.specs.ArrayVec.{items_of, spare_of, len_of, slots_of, view_of, SameLender, Gains, Loses, Grows};
-ghost use Rattle.tinyvec_slots.specs.Slots.{AreDefaults};
+ghost use Rattle.tinyvec_array.specs.ArrayVec.{items_of, spare_of, len_of, slots_of, view_of, SameLender};
+ghost use Rattle.tinyvec_array.specs.View.{view, Becomes, StaysInPlace, NothingVacated};
 ghost use Rattle.tinyvec_slots.specs.Ranges.{IsRangeOf, removed};
 ghost use Rattle.tinyvec_slots.specs.Filling.{Fills, Extends, AppendsResultsTo};
 
-use crate::tuned::cloning::{clone_within, fill_clones};
-use crate::tuned::filling::fill_by_answers;
+use crate::tuned::cloning::clone_within;
 use crate::{ArrayVec, NoMemory, NoRoom, Slots, TakesClones, TryFromSliceError};
 use std::alloc::AllocError;
-use std::mem;
 use std::ops::RangeBounds;
-use tinyvec_slots::authors::resolve_range;
+use tinyvec_slots::authors::{
+    put_answers, put_clones_of, put_taken, put_until_full, resolve_range,
+};
 
 // What writes clones, by blocks as the slots want them.
 impl<S: TakesClones> ArrayVec<S> {
@@ -67,7 +67,8 @@ impl<S: Slots> ArrayVec<S> {
     where
         S::Item: Copy,
         requires room { length other.now ≤ length (spare_of S.Slots self.old) }
-        ensures { Gains S.Slots (length other.now) self.old self.new (items_of S.Slots self.old ++ other.now) }
+        ensures { Becomes NothingVacated (view S.Slots self.old) (view S.Slots self.new)
+            (items_of S.Slots self.old ++ other.now) }
     {
         let len = self.len();
         let end = len + other.len();
@@ -103,19 +104,12 @@ impl<S: Slots> ArrayVec<S> {
         requires { (it : I.IntoIter) → I.into_iter_gives iter it → I.IntoIter.can_next it }
         ensures items { Fills I.into_iter_gives I.IntoIter.next_gives iter (length (spare_of S.Slots self.old))
             (λ xs. items_of S.Slots self.new ≡ items_of S.Slots self.old ++ xs) result }
-        ensures grows { Grows S.Slots self.old self.new }
+        ensures grows { StaysInPlace NothingVacated (view S.Slots self.old) (view S.Slots self.new) }
 
         // An iterator that stopped at a full vector can be iterated further.
         ensures goes_on { length (spare_of S.Slots self.new) ≡ 0 → I.IntoIter.can_next result }
     {
-        let mut items = iter.into_iter();
-        while !self.is_full() {
-            match items.next() {
-                Some(item) => self.push(item),
-                None => return items,
-            }
-        }
-        items
+        put_until_full(self, iter.into_iter())
     }
 
     /// Appends the items. On overflow, returns the first item that did not fit and the rest of the iterator, so `iter`
@@ -128,7 +122,7 @@ impl<S: Slots> ArrayVec<S> {
         ensures items { Extends I.into_iter_gives I.IntoIter.next_gives iter (length (spare_of S.Slots self.old))
             (λ xs. items_of S.Slots self.new ≡ items_of S.Slots self.old ++ xs) result }
         ensures full { OnErr result (spare_of S.Slots self.new ≡ []) }
-        ensures grows { Grows S.Slots self.old self.new }
+        ensures grows { StaysInPlace NothingVacated (view S.Slots self.old) (view S.Slots self.new) }
 
         // The returned iterator can be iterated further.
         ensures goes_on { IfErr result (λ refused. I.IntoIter.can_next refused.rest) }
@@ -183,10 +177,7 @@ impl<S: Slots> ArrayVec<S> {
         ensures lender { SameLender S.Slots self.old self.new }
         ensures grown { ResizesByClones S.Item.Clone n x.now result (view_of S.Slots self.old) (view_of S.Slots self.new) }
     {
-        let len = self.len();
-        fill_clones(self.slots.as_slice_mut(), len, n, x)?;
-        self.len = self.slots.to_len(n);
-        Ok(())
+        put_clones_of(self, n, x)
     }
 
     // Cuts the list to `n` items, and fills the vacated slots with clones of `x`, the last slot first.
@@ -234,9 +225,7 @@ impl<S: Slots> ArrayVec<S> {
         ensures items { AppendsResultsTo F.step (items_of S.Slots self.old) (items_of S.Slots self.new) f.old f.new }
         ensures spare { spare_of S.Slots self.new ≡ drop (n - len_of S.Slots self.old) (spare_of S.Slots self.old) }
     {
-        let len = self.len();
-        fill_by_answers(self.slots.as_slice_mut(), len, n, f);
-        self.len = self.slots.to_len(n);
+        put_answers(self, n, f);
     }
 
     // Truncates to `n` items, and fills the emptied slots with what `f` returns, the last slot first.
@@ -272,25 +261,14 @@ impl<S: Slots> ArrayVec<S>
 where
     S::Item: Default,
 {
-    // Moves the items of `from` to the end, and leaves defaults there.
-    pub(crate) fn append_slots(&mut self, from: &mut [S::Item])
-        requires { length from.old ≤ length (spare_of S.Slots self.old) }
-        ensures becomes { Gains S.Slots (length from.old) self.old self.new (items_of S.Slots self.old ++ from.old) }
-        ensures left { AreDefaults S.Item.is_default (length from.old) from.new }
-    {
-        for i in 0..from.len() {
-            self.push(mem::take(&mut from[i]));
-        }
-    }
-
     /// Moves the items of `other` to the end, and leaves `other` empty. Each item moves once.
     pub fn append(&mut self, other: &mut Self)
         requires { len_of S.Slots other.old ≤ length (spare_of S.Slots self.old) }
-        ensures becomes { Gains S.Slots (len_of S.Slots other.old) self.old self.new
+        ensures becomes { Becomes NothingVacated (view S.Slots self.old) (view S.Slots self.new)
             (items_of S.Slots self.old ++ items_of S.Slots other.old) }
-        ensures emptied { Loses S.Slots S.Item.is_default (len_of S.Slots other.old) other.old other.new [] }
+        ensures emptied { Becomes S.Item.is_default (view S.Slots other.old) (view S.Slots other.new) [] }
     {
-        self.append_slots(other.as_mut_slice());
+        put_taken(self, other.as_mut_slice());
         other.set_len(0);
     }
 
@@ -298,10 +276,10 @@ where
     /// in `Err`.
     pub fn append_if_fits<'o>(&mut self, other: &'o mut Self) -> Result<&'o mut Self, &'o mut Self>
         ensures variant { IsOk result ↔ (len_of S.Slots other.old ≤ length (spare_of S.Slots self.old)) }
-        ensures becomes { OnOk result (Gains S.Slots (len_of S.Slots other.old) self.old self.new
+        ensures becomes { OnOk result (Becomes NothingVacated (view S.Slots self.old) (view S.Slots self.new)
             (items_of S.Slots self.old ++ items_of S.Slots other.old)) }
-        ensures emptied { IfOk result
-            (λ emptied. Loses S.Slots S.Item.is_default (len_of S.Slots other.old) other.old emptied.now []) }
+        ensures emptied { IfOk result (λ emptied. Becomes S.Item.is_default (view S.Slots other.old)
+            (view S.Slots emptied.now) []) }
         ensures refused { IfErr result (λ back. (self.new ≡ self.old) × (back.now ≡ other.old)) }
         ensures same_reference { MatchResult result (λ emptied. emptied.ghost_name ≡ other.entry.ghost_name)
             (λ back. back.ghost_name ≡ other.entry.ghost_name) }
@@ -321,7 +299,7 @@ where
         ensures variant { IsSome result ↔ (length (spare_of S.Slots self.old) < len_of S.Slots other.old) }
         ensures refused { IfSome result (λ back. (back.now ≡ other.old) × (self.new ≡ self.old)) }
         ensures same_reference { IfSome result (λ back. back.ghost_name ≡ other.entry.ghost_name) }
-        ensures becomes { IfNone result (Gains S.Slots (len_of S.Slots other.old) self.old self.new
+        ensures becomes { IfNone result (Becomes NothingVacated (view S.Slots self.old) (view S.Slots self.new)
             (items_of S.Slots self.old ++ items_of S.Slots other.old)) }
     {
         match self.append_if_fits(other) {

@@ -5,7 +5,8 @@ ghost use Rattle.std.specs.List.{dedup as dedup_list};
 ghost use Rattle.std.specs.List.Retain.{IsFiltered, RetainsInTurn, IsDeduped, PopsIf};
 ghost use Rattle.tinyvec_slots.specs.Ranges.{range_start, range_end, IsRangeOf};
 ghost use Rattle.tinyvec_slots.specs.Extracting.{Extracts};
-ghost use Rattle.tinyvec_array.specs.ArrayVec.{items_of, len_of, Shortens};
+ghost use Rattle.tinyvec_array.specs.ArrayVec.{items_of, len_of};
+ghost use Rattle.tinyvec_array.specs.View.{view, ShortensInPlace};
 ghost use Rattle.tinyvec_array.specs.CutLaws.{CutOf};
 
 use crate::{ArrayVec, Slots};
@@ -22,7 +23,7 @@ where
     pub fn retain<F: FnMut(&S::Item) -> bool>(&mut self, mut f: F)
         requires { F.IsAlwaysCallable f }
         ensures filtered { IsFiltered (CalledAt F.FnMut) f (items_of S.Slots self.old) (items_of S.Slots self.new) }
-        ensures shorter { Shortens S.Slots S.Item.is_default self.old self.new }
+        ensures shorter { ShortensInPlace S.Item.is_default (view S.Slots self.old) (view S.Slots self.new) }
     {
         tinyvec_slots::authors::retain(self, &mut f);
     }
@@ -32,7 +33,7 @@ where
     pub fn retain_mut<F: FnMut(&mut S::Item) -> bool>(&mut self, mut f: F)
         requires { F.IsAlwaysCallable f }
         ensures filtered { RetainsInTurn (CalledAtMut F.FnMut) f (items_of S.Slots self.old) (items_of S.Slots self.new) }
-        ensures shorter { Shortens S.Slots S.Item.is_default self.old self.new }
+        ensures shorter { ShortensInPlace S.Item.is_default (view S.Slots self.old) (view S.Slots self.new) }
     {
         tinyvec_slots::authors::retain_mut(self, &mut f);
     }
@@ -42,7 +43,7 @@ where
     where
         S::Item: PartialEq,
         ensures items { items_of S.Slots self.new ≡ dedup_list S.Item.eq (items_of S.Slots self.old) }
-        ensures shorter { Shortens S.Slots S.Item.is_default self.old self.new }
+        ensures shorter { ShortensInPlace S.Item.is_default (view S.Slots self.old) (view S.Slots self.new) }
     {
         self.dedup_by(|current, last| *current == *last);
     }
@@ -53,7 +54,7 @@ where
         requires { F.IsAlwaysCallable same }
         ensures filtered { IsDeduped (CalledAtPairMut F.FnMut) same (items_of S.Slots self.old)
             (items_of S.Slots self.new) }
-        ensures shorter { Shortens S.Slots S.Item.is_default self.old self.new }
+        ensures shorter { ShortensInPlace S.Item.is_default (view S.Slots self.old) (view S.Slots self.new) }
     {
         tinyvec_slots::authors::dedup_by(self, &mut same);
     }
@@ -64,7 +65,7 @@ where
         requires { F.IsAlwaysCallable key }
         ensures filtered { IsDeduped (ComparesKeys F.FnMut K.eq) key (items_of S.Slots self.old)
             (items_of S.Slots self.new) }
-        ensures shorter { Shortens S.Slots S.Item.is_default self.old self.new }
+        ensures shorter { ShortensInPlace S.Item.is_default (view S.Slots self.old) (view S.Slots self.new) }
     {
         tinyvec_slots::authors::dedup_by_key(self, &mut key);
     }
@@ -75,7 +76,7 @@ where
         requires { (x : S.Item) → slice_get (items_of S.Slots self.old) (len_of S.Slots self.old - 1) ≡ Some x
             → FnOnceTakesAtMut F.FnOnce predicate x }
         ensures popped { PopsIf F.FnOnce (items_of S.Slots self.old) (items_of S.Slots self.new) predicate result }
-        ensures shorter { Shortens S.Slots S.Item.is_default self.old self.new }
+        ensures shorter { ShortensInPlace S.Item.is_default (view S.Slots self.old) (view S.Slots self.new) }
     {
         tinyvec_slots::authors::pop_if(self, predicate)
     }

@@ -5,7 +5,8 @@ ghost use Rattle.std.specs.List.{AllZip, AppendsResults};
 ghost use Rattle.tinyvec_slots.specs.Slots.{AreDefaults, SlotRule, split_at};
 ghost use Rattle.tinyvec_slots.specs.Clones.{RefusedAt, ClonesAreEqual, AreClones, ClonesInPart, ResizesByClones};
 ghost use Rattle.tinyvec_slots.specs.Filling.{Collects};
-ghost use Rattle.tinyvec_array.specs.ArrayVec.{view_of, items_of, spare_of, slots_of, len_of, SameLender, Loses};
+ghost use Rattle.tinyvec_array.specs.ArrayVec.{view_of, items_of, spare_of, slots_of, len_of, SameLender};
+ghost use Rattle.tinyvec_array.specs.View.{view, Becomes};
 
 use crate::parts::part_of;
 use crate::tuned::indexing::knows_slots;
@@ -13,7 +14,7 @@ use crate::{
     Array, ArrayVec, ArrayVecIterator, FromIterRest, NoMemory, NoRoom, Slots, TryFromSliceError,
 };
 use std::alloc::AllocError;
-use tinyvec_slots::authors::{clone_each, clone_over_from, into_items};
+use tinyvec_slots::authors::{clone_each, clone_over_from, into_items, put_taken};
 
 impl<A: Array> ArrayVec<A> {
     /// The array, spare slots too.
@@ -122,10 +123,12 @@ impl<A: Array> ArrayVec<A> {
         }
     }
 
-    /// Splits the list at `at` and returns the items from `at` on. They are moved one by one.
+    /// Splits the list at `at` and returns the items from `at` on. Each is moved once.
+    // Inlined, since a call would copy the returned vector once more.
+    #[inline(always)]
     pub fn split_off(&mut self, at: usize) -> Self
         requires { at ≤ len_of A.Slots self.old }
-        ensures becomes { Loses A.Slots A.Item.is_default (len_of A.Slots self.old - at) self.old self.new
+        ensures becomes { Becomes A.Item.is_default (view A.Slots self.old) (view A.Slots self.new)
             (take at (items_of A.Slots self.old)) }
         ensures tail { items_of A.Slots result ≡ drop at (items_of A.Slots self.old) }
         ensures tail_spare { AreDefaults A.Item.is_default (A.CAPACITY - (len_of A.Slots self.old - at))
@@ -133,7 +136,7 @@ impl<A: Array> ArrayVec<A> {
     {
         let len = self.len();
         let mut back = ArrayVec::new();
-        back.append_slots(part_of(&mut self.slots, at, len));
+        put_taken(&mut back, part_of(&mut self.slots, at, len));
         self.set_len(at);
         back
     }

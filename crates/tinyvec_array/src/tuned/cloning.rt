@@ -1,5 +1,5 @@
 //! Writing clones into slots, without a default.
-ghost use Rattle.std.specs.Prelude.{◌+◌, ◌-◌, ◌<◌, ◌≤◌, ℕ, length, take, slice_range, replicate, IfOk, IsOk, OnOk, OnErr};
+ghost use Rattle.std.specs.Prelude.{◌+◌, ◌-◌, ◌<◌, ◌≤◌, ℕ, length, take, slice_range, IfOk, OnOk, OnErr};
 ghost use Rattle.tinyvec_slots.specs.Ranges.{Within};
 ghost use Rattle.tinyvec_slots.specs.Clones.{RefusedAt, ClonesOver, ClonesOverFrom, WritesClones};
 
@@ -130,34 +130,4 @@ fn clone_range<T: Clone>(
         (slice_range from.now start end) result }
 {
     clone_each_from(to, 0, &from[start..end])
-}
-
-// Writes a clone of `x` into each slot from `start` up to `end`.
-pub(crate) fn fill_clones<T: Clone>(
-    to: &mut [T],
-    start: usize,
-    end: usize,
-    x: &T,
-) -> Result<(), AllocError>
-    requires in_bounds { Within start end (length to.old) }
-    ensures ok { OnOk result (ClonesOverFrom T.is_clone start (replicate (end - start) x.now) (end - start)
-        to.old to.new) }
-    ensures refused { OnErr result ((j : ℕ) × (j < end - start) × ¬ (T.is_infallible x.now)
-        × ClonesOverFrom T.is_clone start (replicate j x.now) j to.old to.new) }
-    ensures succeeds { T.is_infallible x.now → IsOk result }
-{
-    clone_to_all(&mut to[start..end], x)
-}
-
-// Writes a clone of `x` into each slot.
-fn clone_to_all<T: Clone>(to: &mut [T], x: &T) -> Result<(), AllocError>
-    ensures ok { OnOk result (ClonesOver T.is_clone (replicate (length to.old) x.now) (length to.old) to.old to.new) }
-    ensures refused { OnErr result ((j : ℕ) × (j < length to.old) × ¬ (T.is_infallible x.now)
-        × ClonesOver T.is_clone (replicate j x.now) j to.old to.new) }
-    ensures succeeds { T.is_infallible x.now → IsOk result }
-{
-    for i in 0..to.len() {
-        to[i] = x.clone()?;
-    }
-    Ok(())
 }

@@ -1,6 +1,5 @@
 //! An `InlineText`: the list of its bytes.
 ghost use Rattle.std.specs.Prelude.{◌≡◌, ◌*◌, ◌≤◌, ◌↔◌, ℕ, List, max, IsTrue, IfErr, IfOk};
-ghost use Rattle.tinyvec.specs.View.{lies_inline, capacity_in};
 ghost use Rattle.tinyvec_text.specs.InlineText.{text_len};
 ghost use Rattle.tinyvec_borsh.specs.Reading.{FailsFor, ReadsSpelling};
 ghost use Rattle.tinyvec_borsh.specs.Text.{AreNoText, SpellsText, TextFits, TextReason};
@@ -47,10 +46,10 @@ impl<const N: usize> BorshDeserialize for InlineText<N> {
             (R.remaining reader.old.inner) (R.remaining reader.new.inner)) }
         ensures valid { IfOk result (λ t. TextFits t.bytes) }
         ensures fails { FailsFor R.remaining (TextReason N) reader.old reader.new result }
-        ensures place { IfOk result (λ t. IsTrue (lies_inline t.place) ↔ (text_len t ≤ N)) }
-        ensures capacity { IfOk result (λ t. capacity_in t.place ≤ max N (2 * text_len t)) }
-        ensures fits { IfOk result (λ t. text_len t ≤ capacity_in t.place) }
-        ensures inline_capacity { IfOk result (λ t. IsTrue (lies_inline t.place) → capacity_in t.place ≡ N) }
+        ensures place { IfOk result (λ t. IsTrue t.place.inline ↔ (text_len t ≤ N)) }
+        ensures capacity { IfOk result (λ t. t.place.capacity ≤ max N (2 * text_len t)) }
+        ensures fits { IfOk result (λ t. text_len t ≤ t.place.capacity) }
+        ensures inline_capacity { IfOk result (λ t. IsTrue t.place.inline → t.place.capacity ≡ N) }
 
         // Of what is no text just its bytes were taken.
         ensures rest { IfErr result (λ e. e ≡ BorshError.InvalidUtf8 → (bytes : List ℕ) × AreNoText bytes

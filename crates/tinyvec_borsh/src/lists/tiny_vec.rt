@@ -1,9 +1,9 @@
 //! A `TinyVec` of what can be written and read.
-ghost use Rattle.std.specs.Prelude.{◌≡◌, ◌<◌, ◌≤◌, ◌^◌, ◌-◌, ◌*◌, ◌++◌, ◌⊎◌, ◌↔◌, List, length, map, max, IfOk, OnOk};
+ghost use Rattle.std.specs.Prelude.{◌≡◌, ◌<◌, ◌≤◌, ◌^◌, ◌+◌, ◌-◌, ◌*◌, ◌++◌, ◌⊎◌, ◌↔◌, List, length, map, max, IfOk, IsTrue, OnOk};
 ghost use Rattle.std.specs.List.{AllByRecursion};
 ghost use Rattle.tinyvec_slots.specs.Slots.{AreDefaults};
-ghost use Rattle.tinyvec.specs.TinyVec.{IsInline, tiny_items_of, tiny_len_of, tiny_spare_of, tiny_view_of, tiny_capacity_of};
-ghost use Rattle.tinyvec.specs.View.{PlaceRule, TinySlotRule};
+ghost use Rattle.tinyvec.specs.TinyVec.{view};
+ghost use Rattle.tinyvec.specs.View.{BecomesIn, Growth, place_for};
 ghost use Rattle.tinyvec_borsh.specs.Both.{IsBehind};
 ghost use Rattle.tinyvec_borsh.specs.Items.{AfterItems, ListFits, MayAllocate, TinyReason};
 ghost use Rattle.tinyvec_borsh.specs.Items.{SpellsItems, SpellsList};
@@ -46,7 +46,7 @@ where
 {
     ghost Content = { List A.Item.Content };
 
-    ghost content_of = { λ v. map A.Item.content_of (tiny_items_of A.Slots v) };
+    ghost content_of = { λ v. map A.Item.content_of (view A.Slots v).items };
 
     ghost Spells = { SpellsList A.Item.Spells };
 
@@ -81,18 +81,18 @@ where
         alloc: Global,
         reader: &mut Counted<R>,
     ) -> Result<Self, BorshError>
-        ensures ok { IfOk result (λ v. ReadsSpelling (SpellsList A.Item.Spells (map A.Item.content_of (tiny_items_of A.Slots v)))
+        ensures ok { IfOk result (λ v. ReadsSpelling (SpellsList A.Item.Spells (map A.Item.content_of (view A.Slots v).items))
             (R.remaining reader.old.inner) (R.remaining reader.new.inner)) }
         ensures valid { IfOk result (λ v. ListFits A.Item.Spells A.Item.Fits (2 ^ 64 - 1)
-            (map A.Item.content_of (tiny_items_of A.Slots v))) }
+            (map A.Item.content_of (view A.Slots v).items)) }
         ensures fails { FailsFor R.remaining (TinyReason A.Item.Spells A.Item.Fits A.Item.Reason A.CAPACITY)
             reader.old reader.new result }
-        ensures place { IfOk result (λ v. IsInline v ↔ (tiny_len_of A.Slots v ≤ A.CAPACITY)) }
-        ensures spare { IfOk result (λ v. IsInline v
-            → AreDefaults A.Item.is_default (A.CAPACITY - tiny_len_of A.Slots v) (tiny_spare_of A.Slots v)) }
-        ensures capacity { IfOk result (λ v. tiny_capacity_of A.Slots v ≤ max A.CAPACITY (2 * tiny_len_of A.Slots v)) }
-        ensures fits { IfOk result (λ v. tiny_len_of A.Slots v ≤ tiny_capacity_of A.Slots v) }
-        ensures inline_capacity { IfOk result (λ v. IsInline v → tiny_capacity_of A.Slots v ≡ A.CAPACITY) }
+        ensures place { IfOk result (λ v. IsTrue (view A.Slots v).place.inline ↔ (length (view A.Slots v).items ≤ A.CAPACITY)) }
+        ensures spare { IfOk result (λ v. IsTrue (view A.Slots v).place.inline
+            → AreDefaults A.Item.is_default (A.CAPACITY - length (view A.Slots v).items) (view A.Slots v).spare) }
+        ensures capacity { IfOk result (λ v. (view A.Slots v).place.capacity ≤ max A.CAPACITY (2 * length (view A.Slots v).items)) }
+        ensures fits { IfOk result (λ v. length (view A.Slots v).items ≤ (view A.Slots v).place.capacity) }
+        ensures inline_capacity { IfOk result (λ v. IsTrue (view A.Slots v).place.inline → (view A.Slots v).place.capacity ≡ A.CAPACITY) }
     {
         let count = u64::deserialize_reader(alloc, reader)?;
         let ahead = count.min(ITEMS_AHEAD) as usize;
@@ -106,7 +106,8 @@ where
     }
 }
 
-// Reads more of the items, which are `count` in all: a block into defaults while there is room, else one, which is pushed.
+// Reads more of the items, which are `count` in all: a block into defaults while there is room, else one, which is pushed. The
+// last has its room before it is read, so that no list is read to its end and lost.
 fn read_more<A: Array, R: Read>(
     alloc: Global,
     v: &mut TinyVec<A>,
@@ -115,33 +116,33 @@ fn read_more<A: Array, R: Read>(
 ) -> Result<(), BorshError>
 where
     A::Item: BorshDeserialize,
-    requires { tiny_len_of A.Slots v.old < count }
-    ensures ok { OnOk result ((xs : List A.Item) × (tiny_items_of A.Slots v.new ≡ tiny_items_of A.Slots v.old ++ xs)
-        × (0 < length xs) × (tiny_len_of A.Slots v.new ≤ count) × AllByRecursion A.Item.Fits (map A.Item.content_of xs)
+    requires { length (view A.Slots v.old).items < count }
+    ensures ok { OnOk result ((xs : List A.Item) × (how : Growth)
+        × BecomesIn A.Item.is_default (view A.Slots v.old) (view A.Slots v.new) ((view A.Slots v.old).items ++ xs)
+        (place_for how (length (view A.Slots v.new).items) (view A.Slots v.old).place)
+        × (0 < length xs) × (length (view A.Slots v.new).items ≤ count) × AllByRecursion A.Item.Fits (map A.Item.content_of xs)
         × ReadsSpelling (SpellsItems A.Item.Spells (map A.Item.content_of xs))
         (R.remaining reader.old.inner) (R.remaining reader.new.inner)) }
-    ensures place { OnOk result (PlaceRule (tiny_len_of A.Slots v.new) (tiny_view_of A.Slots v.old) (tiny_view_of A.Slots v.new)) }
-    ensures slot_rule { OnOk result (TinySlotRule A.Item.is_default (tiny_view_of A.Slots v.old) (tiny_view_of A.Slots v.new)) }
-    ensures capacity { OnOk result (tiny_capacity_of A.Slots v.new ≤ max (tiny_capacity_of A.Slots v.old) (2 * count)) }
-    ensures keeps_room { OnOk result (tiny_capacity_of A.Slots v.old ≤ tiny_capacity_of A.Slots v.new) }
     ensures fails { FailsFor R.remaining (λ e input.
-        AfterItems A.Item.Spells A.Item.Fits A.Item.Reason (count - tiny_len_of A.Slots v.old) e input
-        ⊎ ((e ≡ BorshError.Memory) × (tiny_len_of A.Slots v.old ≡ tiny_capacity_of A.Slots v.old)
-        × IsBehind A.Item.Spells A.Item.Fits (λ _. Unit {0}) input)) reader.old reader.new result }
+        AfterItems A.Item.Spells A.Item.Fits A.Item.Reason (count - length (view A.Slots v.old).items) e input
+        ⊎ ((e ≡ BorshError.Memory) × (length (view A.Slots v.old).items ≡ (view A.Slots v.old).place.capacity)
+        × ((length (view A.Slots v.old).items + 1 ≡ count) ⊎ IsBehind A.Item.Spells A.Item.Fits (λ _. Unit {0}) input)))
+        reader.old reader.new result }
 {
     let start = v.len();
     let room = v.capacity() - start;
-    if room == 0 {
+    let left = count - start as u64;
+    if room == 0 && left > 1 {
         let item = A::Item::deserialize_reader(alloc, reader)?;
         let Ok(()) = v.push(item) else {
             return Err(BorshError::Memory);
         };
         return Ok(());
     }
-    let many = room.min(items_in_block::<A::Item>());
-    let end = start + (count - start as u64).min(many as u64) as usize;
+    let many = room.min(items_in_block::<A::Item>()).max(1);
+    let end = start + left.min(many as u64) as usize;
     let Ok(()) = v.resize_with(end, || A::Item::default()) else {
-        unreachable!()
+        return Err(BorshError::Memory);
     };
     read_items(alloc, v.as_mut_slice(), start, end, reader)
 }

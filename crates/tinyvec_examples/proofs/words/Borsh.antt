@@ -118,7 +118,7 @@ pub example-CountsIo : CountsIo {T = ℕ} 3 4 (Err Io)
 example-CountsIo = record { exact = refl; grows = omega arith }
 
 pub example-FailsFor : FailsFor {T = ℕ} known Reason (holding []) (holding []) (Err Ended)
-example-FailsFor = record { err = example-TooFewBytes; taken = record { bytes = []; taken = search rules; end = λ is. refl; needed = λ front back some is. absurd (omega (arith, some, ap length is, length-append front back)); short = λ io. cc }; grows = omega arith; failed = record { exact = refl; grows = omega arith } }
+example-FailsFor = record { err = example-TooFewBytes; taken = record { bytes = []; taken = search rules; end = λ is. refl; needed = λ front back some is. absurd (omega (arith, some, ap length is, length-append front back)); short = λ no. absurd (no tt) }; grows = omega arith; failed = record { exact = refl; grows = omega arith } }
 
 pub example-SpellsText : SpellsText (104 ∷ []) (1 ∷ 0 ∷ 0 ∷ 0 ∷ 0 ∷ 0 ∷ 0 ∷ 0 ∷ 104 ∷ [])
 example-SpellsText = record {

@@ -1,5 +1,5 @@
 -- Examples of iterators. One that is seen as the list of what is left is written as that list.
-use Rattle.std.proofs.Common.{◌≡◌, ℕ, List, [], ◌∷◌, Some, None, true, false, refl, rules}
+use Rattle.std.proofs.Common.{◌≡◌, ℕ, List, [], ◌∷◌, Some, true, false, refl, rules}
 use Rattle.std.specs.Prelude.{Ok, Err}
 use Rattle.std.specs.declared.iter.Fuse.{Fuse}
 use Rattle.std.specs.declared.slice.Iter.{Iter}
@@ -7,7 +7,7 @@ use Rattle.std.specs.declared.slice.IterMut.{IterMut}
 use Rattle.std.specs.Slice.Iter.{iter_rest, iter_mut_rest}
 use Rattle.std.specs.Iterator.{endless}
 use Rattle.std.specs.Iterator.Adapters.{fuse_done, fuse_source}
-use Rattle.tinyvec_slots.specs.Ends.{RunsWord, TakesFromEnds, answered_by, untaken, front, back}
+use Rattle.tinyvec_slots.specs.Ends.{RunsWord, TakesFromEnds, back}
 use Rattle.tinyvec_slots.specs.Filling.{IntoIterYields, ShowsItems, Fills, Extends, Collects, Iterates, IteratesMut}
 use Rattle.tinyvec_slots.specs.Fused.{FusedCan, FusedFinite, fused_rest}
 use Rattle.tinyvec_slots.specs.Replacing.{FusedYields}
@@ -53,16 +53,6 @@ example-Iterates it h = h.rest
 
 pub example-IteratesMut : (it : IterMut ℕ) → IteratesMut (1 ∷ 2 ∷ []) it → iter_mut_rest it ≡ 1 ∷ 2 ∷ []
 example-IteratesMut it h = h.rest
-
-pub example-answered_by : answered_by (back ∷ front ∷ []) (nums (1 ∷ 2 ∷ 3 ∷ [])) ≡ Some 3 ∷ Some 1 ∷ []
-example-answered_by = refl
-
-pub example-untaken : untaken (back ∷ front ∷ []) (nums (1 ∷ 2 ∷ 3 ∷ [])) ≡ 2 ∷ []
-example-untaken = refl
-
--- the third letter finds nothing
-pub example-TakesFromEnds : TakesFromEnds (nums (1 ∷ 2 ∷ [])) (back ∷ front ∷ back ∷ []) (Some 2 ∷ Some 1 ∷ None ∷ []) []
-example-TakesFromEnds = record { given = 2 ∷ 1 ∷ []; by_word = record { count = refl; first = refl; last = refl }; answered = refl; middle = refl }
 
 pub example-GivesFromEnds : GivesFromEnds (nums (1 ∷ 2 ∷ [])) → RunsWord GivesFirst GivesLast (nums (1 ∷ 2 ∷ [])) (back ∷ []) (Some 2 ∷ []) (1 ∷ []) → TakesFromEnds (nums (1 ∷ 2 ∷ [])) (back ∷ []) (Some 2 ∷ []) (1 ∷ [])
 example-GivesFromEnds h asked = h _ _ _ asked

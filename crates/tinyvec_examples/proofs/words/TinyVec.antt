@@ -7,9 +7,9 @@ use Rattle.tinyvec_array.specs.declared.slots.Slots as Storage
 use Rattle.tinyvec_array.proofs.Named.{array_slots}
 use Rattle.tinyvec.specs.declared.tiny_vec.TinyVec.{TinyVec}
 use Rattle.tinyvec.specs.declared.tiny_vec.TinyVec.TheVariants.{Inline}
-use Rattle.tinyvec.specs.TinyVec.{tiny_items, tiny_items_of, tiny_len_of, tiny_spare, tiny_spare_of, is_inline, IsInline, tiny_capacity, tiny_capacity_of, tiny_allocator, tiny_view, tiny_view_of}
-use Rattle.tinyvec.specs.View.{TinyView, view_capacity, HoldsInline, IsNew, Becomes, StaysInPlace, ShortensInPlace, IsTail, Unchanged, IsTinyClone, IsTinyInfallible, PlaceRule, TinySlotRule, in_array}
-use Rattle.tinyvec.specs.Room.{IsCollected, KeepsRoom, GetsRoom, GrowsTo, GrowsByPushes, MadeFor, MakesRoom, MovesToHeap}
+use Rattle.tinyvec.specs.TinyVec.{view, tiny_items, tiny_spare, is_inline, IsInline, tiny_capacity, tiny_allocator, tiny_view}
+use Rattle.tinyvec.specs.View.{in_array, on_heap, Doubled, Reserved, Exact, takes_need, place_for, place_pushed, heap_for, TinyView, BecomesIn, HoldsInline, IsNew, IsTail, IsTinyClone, IsTinyInfallible}
+use Rattle.tinyvec.specs.Room.{GrowsByPushes, MadeFor, IsCollected, MovesToHeap}
 use Rattle.tinyvec.specs.Refused.{RefusedFor, ClonesBehind, ClonesRefused}
 use Rattle.tinyvec.specs.Following.{PushesItems}
 use Rattle.tinyvec_slots.specs.Filling.{IntoIterYields}
@@ -24,6 +24,29 @@ G = array_slots 4
 abbrev pub done : Result Unit Unit
 done = Ok _
 
+-- of tinyvec.specs.View: `in_array 4` and `on_heap 8` are each a `Place`
+pub example-Place : ((in_array 4).inline ≡ true) × ((on_heap 8).capacity ≡ 8)
+example-Place = (refl, refl)
+
+pub example-in_array : (in_array 4).capacity ≡ 4
+example-in_array = refl
+
+-- of tinyvec.specs.View: `Doubled`, `Reserved` and `Exact` are each a `Growth`
+pub example-Growth : (place_for Doubled 9 (on_heap 8) ≡ on_heap 16) × (place_for Reserved 9 (on_heap 8) ≡ on_heap 16) × (place_for Exact 9 (on_heap 8) ≡ on_heap 9)
+example-Growth = (refl, refl, refl)
+
+pub example-takes_need : (takes_need Reserved (in_array 4) ≡ true) × (takes_need Reserved (on_heap 8) ≡ false)
+example-takes_need = (refl, refl)
+
+pub example-place_for : (place_for Doubled 4 (in_array 4) ≡ in_array 4) × (place_for Doubled 5 (in_array 4) ≡ on_heap 8) × (place_for Reserved 5 (in_array 4) ≡ on_heap 5)
+example-place_for = (refl, refl, refl)
+
+pub example-place_pushed : (place_pushed 4 (in_array 4) ≡ in_array 4) × (place_pushed 9 (in_array 4) ≡ on_heap 16)
+example-place_pushed = (refl, refl)
+
+pub example-heap_for : (heap_for 3 (in_array 4) ≡ on_heap 3) × (heap_for 3 (on_heap 8) ≡ on_heap 8)
+example-heap_for = (refl, refl)
+
 module _ (alloc : Global) where
   abbrev pub inline : List ℕ → List ℕ → TinyVec (List ℕ) ℕ (UpTo 4)
   inline xs ys = Inline (record { slots = xs ++ ys; len = up_to 4 (length xs) }) alloc
@@ -31,27 +54,15 @@ module _ (alloc : Global) where
   pub example-tiny_items : tiny_items (inline (1 ∷ 2 ∷ []) (0 ∷ 0 ∷ [])) ≡ 1 ∷ 2 ∷ []
   example-tiny_items = refl
 
-  pub example-tiny_items_of : tiny_items_of G (inline (1 ∷ 2 ∷ []) (0 ∷ 0 ∷ [])) ≡ 1 ∷ 2 ∷ []
-  example-tiny_items_of = refl
-
-  pub example-tiny_view_of : tiny_view_of G (inline (1 ∷ []) (0 ∷ 0 ∷ 0 ∷ [])) ≡ record { items = 1 ∷ []; spare = 0 ∷ 0 ∷ 0 ∷ []; place = in_array 4 }
-  example-tiny_view_of = refl
+  pub example-view : view G (inline (1 ∷ []) (0 ∷ 0 ∷ 0 ∷ [])) ≡ record { items = 1 ∷ []; spare = 0 ∷ 0 ∷ 0 ∷ []; place = in_array 4 }
+  example-view = refl
 
   -- v is a `TinyView ℕ`
   pub example-TinyView : (v : TinyView ℕ) → v.items ++ v.spare ≡ 1 ∷ 0 ∷ [] → length (v.items ++ v.spare) ≡ 2
   example-TinyView v slots = ap length slots
 
-  pub example-view_capacity : view_capacity (tiny_view (inline (1 ∷ []) (0 ∷ 0 ∷ 0 ∷ []))) ≡ 4
-  example-view_capacity = refl
-
-  pub example-tiny_len_of : tiny_len_of G (inline (1 ∷ 2 ∷ []) (0 ∷ 0 ∷ [])) ≡ 2
-  example-tiny_len_of = refl
-
   pub example-tiny_spare : tiny_spare (inline (1 ∷ 2 ∷ []) (0 ∷ 0 ∷ [])) ≡ 0 ∷ 0 ∷ []
   example-tiny_spare = refl
-
-  pub example-tiny_spare_of : tiny_spare_of G (inline (1 ∷ 2 ∷ []) (0 ∷ 0 ∷ [])) ≡ 0 ∷ 0 ∷ []
-  example-tiny_spare_of = refl
 
   pub example-is_inline : is_inline (inline (1 ∷ 2 ∷ []) (0 ∷ 0 ∷ [])) ≡ true
   example-is_inline = refl
@@ -63,40 +74,13 @@ module _ (alloc : Global) where
   example-HoldsInline = search rules
 
   pub example-IsNew : IsNew D 2 (tiny_view (inline [] (0 ∷ 0 ∷ [])))
-  example-IsNew = record { items = refl; spare = search rules; place = search rules; capacity = refl }
+  example-IsNew = record { items = refl; spare = search rules; place = refl }
 
   pub example-tiny_capacity : tiny_capacity (inline (1 ∷ 2 ∷ []) (0 ∷ 0 ∷ [])) ≡ 4
   example-tiny_capacity = refl
 
-  pub example-tiny_capacity_of : tiny_capacity_of G (inline (1 ∷ 2 ∷ []) (0 ∷ 0 ∷ [])) ≡ 4
-  example-tiny_capacity_of = refl
-
   pub example-tiny_allocator : tiny_allocator (inline (1 ∷ 2 ∷ []) (0 ∷ 0 ∷ [])) ≡ alloc
   example-tiny_allocator = refl
-
-  pub example-Becomes : Becomes D (tiny_view (inline (1 ∷ 2 ∷ []) (7 ∷ 8 ∷ []))) (tiny_view (inline (1 ∷ []) (0 ∷ 7 ∷ 8 ∷ []))) (1 ∷ [])
-  example-Becomes = record {
-    items = refl;
-    place = refl;
-    slot_rule = λ _ _. (0 ∷ [], search rules, refl);
-    capacity = refl;
-    fits = omega arith;
-  }
-
-  pub example-StaysInPlace : StaysInPlace D (tiny_view (inline (1 ∷ 2 ∷ []) (7 ∷ 8 ∷ []))) (tiny_view (inline (1 ∷ []) (0 ∷ 7 ∷ 8 ∷ [])))
-  example-StaysInPlace = example-Becomes
-
-  pub example-ShortensInPlace : ShortensInPlace D (tiny_view (inline (1 ∷ 2 ∷ []) (7 ∷ 8 ∷ []))) (tiny_view (inline (2 ∷ []) (0 ∷ 7 ∷ 8 ∷ [])))
-  example-ShortensInPlace = record {
-    bound = omega arith;
-    frame = record {
-      items = refl;
-      place = refl;
-      slot_rule = λ _ _. (0 ∷ [], search rules, refl);
-      capacity = refl;
-      fits = omega arith;
-    };
-  }
 
   pub example-IsTail : IsTail D 4 1 (tiny_view (inline (1 ∷ 2 ∷ []) (7 ∷ 8 ∷ []))) (tiny_view (inline (2 ∷ []) (0 ∷ 0 ∷ 0 ∷ [])))
   example-IsTail = record {
@@ -107,9 +91,6 @@ module _ (alloc : Global) where
     inline_capacity = λ _ _. refl;
     fits = omega arith;
   }
-
-  pub example-Unchanged : Unchanged (tiny_view (inline (1 ∷ []) (0 ∷ 0 ∷ 0 ∷ []))) (tiny_view (inline (1 ∷ []) (0 ∷ 0 ∷ 0 ∷ [])))
-  example-Unchanged = search rules
 
   pub example-tiny_with_items : tiny_with_items G (inline (1 ∷ 2 ∷ []) (0 ∷ 0 ∷ [])) (3 ∷ 4 ∷ []) ≡ inline (3 ∷ 4 ∷ []) (0 ∷ 0 ∷ [])
   example-tiny_with_items = refl
@@ -127,35 +108,16 @@ module _ (alloc : Global) where
   example-lends_item = refl
 
   -- of tinyvec.specs.Lends: `inline [1] [7, 8, 0]` lent by `lends_added` at the end, by a reference that shows 5 last
-  pub example-lends_added : (tiny_items (inline (1 ∷ 5 ∷ []) (8 ∷ 0 ∷ [])) ≡ (1 ∷ []) ++ 5 ∷ [])
-      × MakesRoom false 2 (tiny_view (inline (1 ∷ []) (7 ∷ 8 ∷ 0 ∷ []))) (tiny_view (inline (1 ∷ 5 ∷ []) (8 ∷ 0 ∷ []))) done
-  example-lends_added = (refl, search rules)
+  pub example-lends_added : BecomesIn D (tiny_view (inline (1 ∷ []) (7 ∷ 8 ∷ 0 ∷ []))) (tiny_view (inline (1 ∷ 5 ∷ []) (8 ∷ 0 ∷ []))) (1 ∷ 5 ∷ []) (place_for Doubled 2 (in_array 4))
+  example-lends_added = search rules
 
   pub example-GrowsByPushes : GrowsByPushes D (tiny_view (inline (1 ∷ []) (7 ∷ 8 ∷ 0 ∷ []))) (tiny_view (inline (1 ∷ 5 ∷ []) (8 ∷ 0 ∷ [])))
   example-GrowsByPushes = search rules
 
-  pub example-MakesRoom : MakesRoom false 2 (tiny_view (inline (1 ∷ []) (7 ∷ 8 ∷ 0 ∷ []))) (tiny_view (inline (1 ∷ 5 ∷ []) (8 ∷ 0 ∷ []))) done
-  example-MakesRoom = search rules
-
   pub example-MadeFor : MadeFor D 4 2 1 (tiny_view (inline (1 ∷ []) (0 ∷ 0 ∷ 0 ∷ [])))
   example-MadeFor = search rules
 
-  pub example-PlaceRule : PlaceRule 2 (tiny_view (inline (1 ∷ []) (7 ∷ 8 ∷ 0 ∷ []))) (tiny_view (inline (1 ∷ 5 ∷ []) (8 ∷ 0 ∷ [])))
-  example-PlaceRule = search rules
-
-  pub example-TinySlotRule : TinySlotRule D (tiny_view (inline (1 ∷ 2 ∷ []) (7 ∷ 8 ∷ []))) (tiny_view (inline (1 ∷ []) (0 ∷ 7 ∷ 8 ∷ [])))
-  example-TinySlotRule i j = (0 ∷ [], search rules, refl)
-
-  pub example-KeepsRoom : KeepsRoom 3 (tiny_view (inline (1 ∷ 2 ∷ []) (0 ∷ 0 ∷ []))) (tiny_view (inline (1 ∷ 2 ∷ 3 ∷ []) (0 ∷ [])))
-  example-KeepsRoom = record { capacity = omega arith; same_room = λ _. refl; fits = omega arith }
-
-  pub example-GetsRoom : GetsRoom false 2 (tiny_view (inline (1 ∷ []) (7 ∷ 8 ∷ 0 ∷ []))) (tiny_view (inline (1 ∷ 5 ∷ []) (8 ∷ 0 ∷ [])))
-  example-GetsRoom = search rules
-
-  pub example-GrowsTo : (v : TinyVec (List ℕ) ℕ (UpTo 4)) → GrowsTo true 9 (tiny_view (inline (1 ∷ []) (0 ∷ 0 ∷ 0 ∷ []))) (tiny_view v) → tiny_capacity v ≡ 9
-  example-GrowsTo v h = search rules
-
-  pub example-MovesToHeap : (v : TinyVec (List ℕ) ℕ (UpTo 4)) → MovesToHeap 2 (tiny_view (inline (1 ∷ []) (0 ∷ 0 ∷ 0 ∷ []))) (tiny_view v) done → tiny_capacity v ≡ 3
+  pub example-MovesToHeap : (v : TinyVec (List ℕ) ℕ (UpTo 4)) → MovesToHeap D 2 (tiny_view (inline (1 ∷ []) (0 ∷ 0 ∷ 0 ∷ []))) (tiny_view v) done → tiny_capacity v ≡ 3
   example-MovesToHeap v h = search rules
 
   pub example-ClonesBehind : ClonesBehind C (7 ∷ []) 1 (tiny_view (inline (1 ∷ []) (0 ∷ 0 ∷ 0 ∷ []))) (tiny_view (inline (1 ∷ []) (7 ∷ 0 ∷ 0 ∷ [])))
@@ -179,8 +141,6 @@ module _ (alloc : Global) where
     spare = (refl, (refl, (refl, tt)));
     if_clones_equal = λ _. (refl, refl);
     place = refl;
-    capacity = search rules;
-    inline_capacity = λ _. refl;
   }
 
   pub example-IsTinyInfallible : IsTinyInfallible I (tiny_view (inline (1 ∷ []) (0 ∷ 0 ∷ 0 ∷ [])))

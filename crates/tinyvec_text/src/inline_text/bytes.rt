@@ -3,16 +3,18 @@ ghost use Rattle.std.specs.Prelude.{◌≡◌, ◌+◌, ◌-◌, ◌*◌, ◌≤
 ghost use Rattle.tinyvec_slots.specs.Slots.{SlotRule};
 ghost use Rattle.tinyvec_array.specs.ArrayVec.{items, items_len, all_slots, spare, view};
 ghost use Rattle.tinyvec.specs.TinyVec.{tiny_items, tiny_len, tiny_spare, tiny_capacity, is_inline, IsInline, tiny_view};
-ghost use Rattle.tinyvec_text.specs.InlineText.{AddsBytes, InsertsBytes};
-ghost use Rattle.tinyvec.specs.View.{IsTail, Becomes};
+ghost use Rattle.tinyvec_text.specs.InlineText.{AddsBytes, ListGrows};
+ghost use Rattle.tinyvec.specs.View.{IsTail, Becomes, Reserved};
 ghost use Rattle.tinyvec.specs.OnHeap.{HeapBecomes};
 
 use std::alloc::{AllocError, Global};
 use std::mem;
 use tinyvec::{ArrayVec, TinyVec};
 
-// So many bytes are moved at a time.
-const BLOCK: usize = 8192;
+// So many bytes are appended at a time, and so many moved.
+const BLOCK: usize = 16384;
+
+const MOVED: usize = 8192;
 
 /// A list on the heap that has these bytes, and no more room.
 pub fn copied_to_heap<const N: usize>(
@@ -24,14 +26,8 @@ pub fn copied_to_heap<const N: usize>(
     ensures capacity { IfOk result (λ v. tiny_capacity v ≡ length bytes.now) }
     ensures succeeds { length bytes.now ≡ 0 → IsOk result }
 {
-    if bytes.is_empty() {
-        return Ok(TinyVec::from_vec(Vec::new(alloc)));
-    }
-    let copy = Vec::from_slice(alloc, bytes)?;
-    // It always is: `from_slice` copies faster than all that say so.
-    if copy.capacity() != bytes.len() {
-        return Err(AllocError);
-    }
+    let mut copy = Vec::with_capacity(alloc, bytes.len())?;
+    append_many(&mut copy, bytes);
     Ok(TinyVec::from_vec(copy))
 }
 
@@ -156,8 +152,8 @@ pub fn put_bytes<const N: usize>(
     bytes: &[u8],
 ) -> Result<(), AllocError>
     requires { index ≤ tiny_len list.old }
-    ensures { InsertsBytes N (length bytes.now) list.old list.new result
-        (take index (tiny_items list.old) ++ bytes.now ++ drop index (tiny_items list.old)) }
+    ensures { ListGrows Reserved (tiny_len list.old + length bytes.now) list.old list.new
+        (take index (tiny_items list.old) ++ bytes.now ++ drop index (tiny_items list.old)) result }
 {
     match list {
         TinyVec::Inline(v, _) if bytes.len() <= v.capacity() - v.len() => insert_inline(
@@ -182,8 +178,8 @@ pub fn put_byte<const N: usize>(
     byte: u8,
 ) -> Result<(), AllocError>
     requires { index ≤ tiny_len list.old }
-    ensures { InsertsBytes N 1 list.old list.new result
-        (take index (tiny_items list.old) ++ byte ∷ [] ++ drop index (tiny_items list.old)) }
+    ensures { ListGrows Reserved (tiny_len list.old + 1) list.old list.new
+        (take index (tiny_items list.old) ++ byte ∷ [] ++ drop index (tiny_items list.old)) result }
 {
     match list {
         TinyVec::Inline(v, _) if v.len() < v.capacity() => insert_inline(v, index, &[byte]),
@@ -204,8 +200,8 @@ fn put_byte_slow<const N: usize>(
     byte: u8,
 ) -> Result<(), AllocError>
     requires { index ≤ tiny_len list.old }
-    ensures { InsertsBytes N 1 list.old list.new result
-        (take index (tiny_items list.old) ++ byte ∷ [] ++ drop index (tiny_items list.old)) }
+    ensures { ListGrows Reserved (tiny_len list.old + 1) list.old list.new
+        (take index (tiny_items list.old) ++ byte ∷ [] ++ drop index (tiny_items list.old)) result }
 {
     put_bytes(list, index, &[byte])
 }
@@ -231,7 +227,7 @@ fn insert_on_heap(heap: &mut Vec<u8>, index: usize, bytes: &[u8])
     ensures { HeapBecomes heap.old heap.new (take index heap.old.items ++ bytes.now ++ drop index heap.old.items) }
 {
     let behind = heap.len() - index;
-    append_on_heap(heap, bytes, false);
+    append_on_heap(heap, bytes);
     put_before(heap.as_mut_slice(), index, behind, bytes, bytes.len());
 }
 
@@ -254,13 +250,13 @@ fn move_down(bytes: &mut [u8], from: usize, to: usize)
     ensures { take (length bytes.old - (from - to)) bytes.new ≡ take to bytes.old ++ drop from bytes.old }
 {
     let count = bytes.len() - from;
-    if count <= BLOCK {
+    if count <= MOVED {
         move_block(bytes, from, to, count);
         return;
     }
     let mut done = 0;
     while done < count {
-        let some = BLOCK.min(count - done);
+        let some = MOVED.min(count - done);
         move_block(bytes, from + done, to + done, some);
         done += some;
     }
@@ -273,13 +269,13 @@ fn move_up(bytes: &mut [u8], from: usize, to: usize, count: usize)
     ensures front { take from bytes.new ≡ take from bytes.old }
     ensures back { drop to bytes.new ≡ take count (drop from bytes.old) }
 {
-    if count <= BLOCK {
+    if count <= MOVED {
         move_block(bytes, from, to, count);
         return;
     }
     let mut left = count;
     while 0 < left {
-        let some = BLOCK.min(left);
+        let some = MOVED.min(left);
         left -= some;
         move_block(bytes, from + left, to + left, some);
     }
@@ -294,26 +290,23 @@ fn move_block(bytes: &mut [u8], from: usize, to: usize, count: usize)
     ensures front { take (to + count) bytes.new ≡ take to bytes.old ++ take count (drop from bytes.old) }
     ensures rest { drop (to + count) bytes.new ≡ drop (to + count) bytes.old }
 {
-    let mut block = [0; BLOCK];
+    let mut block = [0; MOVED];
     block[..count].copy_from_slice(&bytes[from..from + count]);
     bytes[to..to + count].copy_from_slice(&block[..count]);
 }
 
-/// Appends `bytes`, as `extend_from_slice_copy` does. A few go onto the heap one by one if `each` is true, which suits a
-/// list that is a local variable. Else they go by a local variable, which suits a number that LLVM does not know.
+/// Appends `bytes`, as `extend_from_slice_copy` does.
 #[inline(always)]
 pub fn push_bytes<const N: usize>(
     list: &mut TinyVec<[u8; N]>,
     bytes: &[u8],
-    each: bool,
 ) -> Result<(), AllocError>
-    ensures { InsertsBytes N (length bytes.now) list.old list.new result (tiny_items list.old ++ bytes.now) }
+    ensures { ListGrows Reserved (tiny_len list.old + length bytes.now) list.old list.new
+        (tiny_items list.old ++ bytes.now) result }
 {
     match list {
         TinyVec::Inline(v, _) if bytes.len() <= v.capacity() - v.len() => append_inline(v, bytes),
-        TinyVec::Heap(v) if v.len() + bytes.len() <= v.capacity() => {
-            append_on_heap(v, bytes, each);
-        }
+        TinyVec::Heap(v) if v.len() + bytes.len() <= v.capacity() => append_on_heap(v, bytes),
         _ => return push_slow(list, bytes),
     }
     Ok(())
@@ -327,8 +320,8 @@ pub fn push_part<const N: usize>(
     count: usize,
 ) -> Result<(), AllocError>
     requires { start + count ≤ tiny_len list.old }
-    ensures { InsertsBytes N count list.old list.new result
-        (tiny_items list.old ++ take count (drop start (tiny_items list.old))) }
+    ensures { ListGrows Reserved (tiny_len list.old + count) list.old list.new
+        (tiny_items list.old ++ take count (drop start (tiny_items list.old))) result }
 {
     match list {
         TinyVec::Inline(v, _) if count <= v.capacity() - v.len() => repeat_inline(v, start, count),
@@ -347,8 +340,8 @@ fn push_part_slow<const N: usize>(
     count: usize,
 ) -> Result<(), AllocError>
     requires { start + count ≤ tiny_len list.old }
-    ensures { InsertsBytes N count list.old list.new result
-        (tiny_items list.old ++ take count (drop start (tiny_items list.old))) }
+    ensures { ListGrows Reserved (tiny_len list.old + count) list.old list.new
+        (tiny_items list.old ++ take count (drop start (tiny_items list.old))) result }
 {
     list.reserve(count)?;
     match list {
@@ -414,7 +407,7 @@ fn repeat_blocks(heap: &mut Vec<u8>, start: usize, count: usize)
 
 // `repeat_on_heap` of a block, as by `append_block`.
 fn repeat_block(heap: &mut Vec<u8>, start: usize, count: usize)
-    requires few { count ≤ 8192 }
+    requires few { count ≤ 16384 }
     requires in_list { start + count ≤ vec_len heap.old }
     requires room { vec_len heap.old + count ≤ vec_capacity heap.old }
     ensures { HeapBecomes heap.old heap.new (heap.old.items ++ take count (drop start heap.old.items)) }
@@ -424,15 +417,15 @@ fn repeat_block(heap: &mut Vec<u8>, start: usize, count: usize)
     append_few(heap, &block[..count]);
 }
 
-/// Appends `bytes` to a list that has room. `each` is as of `push_bytes`.
+/// Appends `bytes` to a list that has room.
 #[inline(always)]
-pub fn append_bytes<const N: usize>(list: &mut TinyVec<[u8; N]>, bytes: &[u8], each: bool)
+pub fn append_bytes<const N: usize>(list: &mut TinyVec<[u8; N]>, bytes: &[u8])
     requires { tiny_len list.old + length bytes.now ≤ tiny_capacity list.old }
     ensures { Becomes (λ b. b ≡ 0) (tiny_view list.old) (tiny_view list.new) (tiny_items list.old ++ bytes.now) }
 {
     match list {
         TinyVec::Inline(v, _) => append_inline(v, bytes),
-        TinyVec::Heap(heap) => append_on_heap(heap, bytes, each),
+        TinyVec::Heap(heap) => append_on_heap(heap, bytes),
     }
 }
 
@@ -440,10 +433,11 @@ pub fn append_bytes<const N: usize>(list: &mut TinyVec<[u8; N]>, bytes: &[u8], e
 #[cold]
 #[inline(never)]
 fn push_slow<const N: usize>(list: &mut TinyVec<[u8; N]>, bytes: &[u8]) -> Result<(), AllocError>
-    ensures { InsertsBytes N (length bytes.now) list.old list.new result (tiny_items list.old ++ bytes.now) }
+    ensures { ListGrows Reserved (tiny_len list.old + length bytes.now) list.old list.new
+        (tiny_items list.old ++ bytes.now) result }
 {
     list.reserve(bytes.len())?;
-    append_bytes(list, bytes, false);
+    append_bytes(list, bytes);
     Ok(())
 }
 
@@ -454,7 +448,8 @@ fn append_inline<const N: usize>(v: &mut ArrayVec<[u8; N]>, bytes: &[u8])
     ensures { AddsBytes (view v.old) (view v.new) (items v.old ++ bytes.now) }
 {
     let len = v.len();
-    insert_inline(v, len, bytes);
+    v.set_len(len + bytes.len());
+    write_over(&mut v.as_mut_slice()[len..], bytes, N);
 }
 
 // Writes `bytes` over as many, which are not more than `most`. Up to 64 go by two blocks that overlap.
@@ -525,9 +520,9 @@ fn write_ends<const W: usize>(to: &mut [u8], bytes: &[u8])
     *back = *last;
 }
 
-// Appends `bytes` to a list on the heap that has room. `each` is as of `push_bytes`.
+// Appends `bytes` to a list on the heap that has room.
 #[inline(always)]
-fn append_on_heap(heap: &mut Vec<u8>, bytes: &[u8], each: bool)
+fn append_on_heap(heap: &mut Vec<u8>, bytes: &[u8])
     requires room { vec_len heap.old + length bytes.now ≤ vec_capacity heap.old }
     ensures { HeapBecomes heap.old heap.new (heap.old.items ++ bytes.now) }
 {
@@ -536,34 +531,22 @@ fn append_on_heap(heap: &mut Vec<u8>, bytes: &[u8], each: bool)
         append_many(heap, bytes);
         return;
     }
-    if each {
-        append_each(heap, bytes);
-        return;
-    }
     append_few(heap, bytes);
 }
 
-// Appends a few bytes, or a block, by way of a local variable, whose length and pointer LLVM keeps in registers.
+// Appends a few bytes, or a block, by way of a local variable, whose length and pointer LLVM keeps in registers. Of a number
+// that it knows it makes a write or two.
 #[inline(always)]
 fn append_few(heap: &mut Vec<u8>, bytes: &[u8])
     requires room { vec_len heap.old + length bytes.now ≤ vec_capacity heap.old }
     ensures { HeapBecomes heap.old heap.new (heap.old.items ++ bytes.now) }
 {
     let mut vec = mem::replace(heap, Vec::new(*heap.allocator()));
-    append_each(&mut vec, bytes);
+    for i in 0..bytes.len() {
+        vec.push_reserved(bytes[i]);
+    }
     // LLVM leaves out the empty vector that was there if it is not dropped.
     mem::forget(mem::replace(heap, vec));
-}
-
-// Appends bytes one by one. Of a number that LLVM knows, it makes a write or two.
-#[inline(always)]
-fn append_each(heap: &mut Vec<u8>, bytes: &[u8])
-    requires room { vec_len heap.old + length bytes.now ≤ vec_capacity heap.old }
-    ensures { HeapBecomes heap.old heap.new (heap.old.items ++ bytes.now) }
-{
-    for i in 0..bytes.len() {
-        heap.push_reserved(bytes[i]);
-    }
 }
 
 // Appends many bytes. A call of its own, so that a few need no registers saved.
@@ -596,7 +579,7 @@ fn append_blocks(heap: &mut Vec<u8>, bytes: &[u8])
 // Appends a block by way of the stack. LLVM makes one `memmove` of it, and no block. Without `inline(always)`: LLVM drops
 // the block only if it has simplified this before it inlines it.
 fn append_block(heap: &mut Vec<u8>, bytes: &[u8])
-    requires few { length bytes.now ≤ 8192 }
+    requires few { length bytes.now ≤ 16384 }
     requires room { vec_len heap.old + length bytes.now ≤ vec_capacity heap.old }
     ensures { HeapBecomes heap.old heap.new (heap.old.items ++ bytes.now) }
 {

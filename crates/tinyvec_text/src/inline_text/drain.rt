@@ -58,7 +58,7 @@ impl<const N: usize> InlineText<N> {
         let part = resolve_range(range, self.list.len());
         let bytes = subslice(self.list.as_slice(), part.start, part.end);
         let mut list = TinyVec::with_capacity(*self.list.allocator(), bytes.len())?;
-        append_bytes(&mut list, bytes, false);
+        append_bytes(&mut list, bytes);
         let text = InlineText { list };
         remove_bytes(&mut self.list, part.start, part.end);
         Ok(InlineTextDrain { text, at: 0 })

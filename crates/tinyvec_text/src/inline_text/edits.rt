@@ -1,10 +1,9 @@
 //! Text that is pushed, popped, inserted, removed, replaced and cut off.
-ghost use Rattle.std.specs.Prelude.{◌≡◌, ◌+◌, ◌-◌, ◌%◌, ◌<◌, ◌≤◌, ◌++◌, ◌∷◌, [], ◌↔◌, length, if◌then◌else◌, is_ok, min, max, true, false, IsTrue, IsOk, IfOk, OnOk, OnErr, chars, encode_utf8, ◌&&◌, nat_le, ℕ, List, take, drop, All, IsSome, IfSome, IfNone, IsUtf8, slice_index};
+ghost use Rattle.std.specs.Prelude.{◌≡◌, ◌+◌, ◌-◌, ◌%◌, ◌<◌, ◌≤◌, ◌++◌, ◌∷◌, [], ◌↔◌, length, min, max, false, IsTrue, IsOk, IfOk, OnOk, OnErr, chars, encode_utf8, ℕ, List, take, drop, All, IsSome, IfSome, IfNone, IsUtf8, slice_index};
 ghost use Rattle.std.specs.Char.{IsScalar};
-ghost use Rattle.tinyvec.specs.View.{lies_inline, capacity_in};
-ghost use Rattle.tinyvec.specs.Room.{MakesRoom};
-ghost use Rattle.tinyvec.specs.TinyVec.{tiny_items, tiny_spare, tiny_capacity, is_inline};
-ghost use Rattle.tinyvec_text.specs.InlineText.{text_chars, text_len, text_view, TextReserves, TextShrinks, TextStaysInPlace, TextBecomes, TextKeepsFront, TextMadeFor, IsTextTail, IsFirstChar, IsBoundary};
+ghost use Rattle.tinyvec.specs.View.{Reserved, Exact};
+ghost use Rattle.tinyvec.specs.TinyVec.{tiny_items, tiny_spare, tiny_view};
+ghost use Rattle.tinyvec_text.specs.InlineText.{text_chars, text_len, TextGrows, TextPushes, TextReserves, TextShrinks, TextStaysInPlace, TextBecomes, TextKeepsFront, TextMadeFor, IsTextTail, IsFirstChar, IsBoundary};
 ghost use Rattle.tinyvec_slots.specs.Ranges.{range_start, range_end, before, removed, after};
 ghost use Rattle.std.specs.String.Boundary.{IsSplitPoint};
 
@@ -37,16 +36,16 @@ impl<const N: usize> InlineText<N> {
     /// Appends `string` to a text that has room. It allocates nothing, so it cannot fail.
     #[inline(always)]
     pub fn push_str_reserved(&mut self, string: &str)
-        requires { text_len self.old + length string.now ≤ capacity_in self.old.place }
+        requires { text_len self.old + length string.now ≤ self.old.place.capacity }
         ensures { TextBecomes self.old self.new (self.old.bytes ++ string.now) (text_chars self.old ++ chars string.now) }
     {
-        append_bytes(&mut self.list, string.as_bytes(), true);
+        append_bytes(&mut self.list, string.as_bytes());
     }
 
     /// Appends `ch` to a text that has room. It allocates nothing, so it cannot fail.
     #[inline(always)]
     pub fn push_reserved(&mut self, ch: char)
-        requires { text_len self.old + length (encode_utf8 ch) ≤ capacity_in self.old.place }
+        requires { text_len self.old + length (encode_utf8 ch) ≤ self.old.place.capacity }
         ensures becomes { TextBecomes self.old self.new (self.old.bytes ++ encode_utf8 ch) (text_chars self.old ++ ch ∷ []) }
         ensures ascii { ch < 128 → self.new.bytes ≡ self.old.bytes ++ ch ∷ [] }
     {
@@ -61,38 +60,17 @@ impl<const N: usize> InlineText<N> {
     /// Appends `string`. Allocates only if the bytes don't fit.
     #[inline(always)]
     pub fn push_str(&mut self, string: &str) -> Result<(), AllocError>
-        ensures bytes { self.new.bytes ≡ (if is_ok result then self.old.bytes ++ string.now else self.old.bytes) }
-        ensures text { OnOk result (text_chars self.new ≡ text_chars self.old ++ chars string.now) }
-        ensures room { MakesRoom (lies_inline self.old.place) (text_len self.old + length string.now)
-            (text_view self.old) (text_view self.new) result }
-        ensures inline_capacity { IsTrue (lies_inline self.old.place) → capacity_in self.old.place ≡ N }
+        ensures { TextGrows Reserved (text_len self.old + length string.now) self.old self.new
+            (self.old.bytes ++ string.now) (text_chars self.old ++ chars string.now) result }
     {
-        self.append(string, true)
-    }
-
-    // `push_str`. `each` is for `push_bytes`.
-    #[inline(always)]
-    pub(super) fn append(&mut self, string: &str, each: bool) -> Result<(), AllocError>
-        ensures bytes { self.new.bytes ≡ (if is_ok result then self.old.bytes ++ string.now else self.old.bytes) }
-        ensures text { OnOk result (text_chars self.new ≡ text_chars self.old ++ chars string.now) }
-        ensures room { MakesRoom (lies_inline self.old.place) (text_len self.old + length string.now)
-            (text_view self.old) (text_view self.new) result }
-        ensures inline_capacity { IsTrue (lies_inline self.old.place) → capacity_in self.old.place ≡ N }
-    {
-        push_bytes(&mut self.list, string.as_bytes(), each)?;
-        Ok(())
+        push_bytes(&mut self.list, string.as_bytes())
     }
 
     /// Appends `ch`. Allocates only if the bytes don't fit.
     #[inline(always)]
     pub fn push(&mut self, ch: char) -> Result<(), AllocError>
-        ensures bytes { self.new.bytes
-            ≡ (if is_ok result then self.old.bytes ++ encode_utf8 ch else self.old.bytes) }
+        ensures grows { TextPushes ch self.old self.new result }
         ensures ascii { ch < 128 → OnOk result (self.new.bytes ≡ self.old.bytes ++ ch ∷ []) }
-        ensures text { OnOk result (text_chars self.new ≡ text_chars self.old ++ ch ∷ []) }
-        ensures room { MakesRoom (lies_inline self.old.place && nat_le 128 ch)
-            (text_len self.old + length (encode_utf8 ch)) (text_view self.old) (text_view self.new) result }
-        ensures inline_capacity { IsTrue (lies_inline self.old.place) → capacity_in self.old.place ≡ N }
     {
         // Most characters are ASCII, and have room.
         if ch.is_ascii() && self.len() < self.capacity() {
@@ -106,13 +84,7 @@ impl<const N: usize> InlineText<N> {
     #[cold]
     #[inline(never)]
     fn push_slow(&mut self, ch: char) -> Result<(), AllocError>
-        ensures bytes { self.new.bytes
-            ≡ (if is_ok result then self.old.bytes ++ encode_utf8 ch else self.old.bytes) }
-        ensures ascii { ch < 128 → OnOk result (self.new.bytes ≡ self.old.bytes ++ ch ∷ []) }
-        ensures text { OnOk result (text_chars self.new ≡ text_chars self.old ++ ch ∷ []) }
-        ensures room { MakesRoom (lies_inline self.old.place && nat_le 128 ch)
-            (text_len self.old + length (encode_utf8 ch)) (text_view self.old) (text_view self.new) result }
-        ensures inline_capacity { IsTrue (lies_inline self.old.place) → capacity_in self.old.place ≡ N }
+        ensures { TextPushes ch self.old self.new result }
     {
         if ch.is_ascii() {
             self.list.push(ch as u8)?;
@@ -125,12 +97,7 @@ impl<const N: usize> InlineText<N> {
     #[inline(never)]
     fn push_wide(&mut self, c: char) -> Result<(), AllocError>
         requires { 128 ≤ c }
-        ensures bytes { self.new.bytes
-            ≡ (if is_ok result then self.old.bytes ++ encode_utf8 c else self.old.bytes) }
-        ensures text { OnOk result (text_chars self.new ≡ text_chars self.old ++ c ∷ []) }
-        ensures room { MakesRoom (lies_inline self.old.place && nat_le 128 c)
-            (text_len self.old + length (encode_utf8 c)) (text_view self.old) (text_view self.new) result }
-        ensures inline_capacity { IsTrue (lies_inline self.old.place) → capacity_in self.old.place ≡ N }
+        ensures { TextPushes c self.old self.new result }
     {
         let code = c as u32;
         if code < 0x800 {
@@ -148,34 +115,25 @@ impl<const N: usize> InlineText<N> {
     // `push` of the character that has these bytes. Inlined, so that LLVM knows how many they are.
     #[inline(always)]
     fn push_spelled(&mut self, c: char, bytes: &[u8]) -> Result<(), AllocError>
-        requires { encode_utf8 c ≡ bytes.now }
-        ensures bytes { self.new.bytes
-            ≡ (if is_ok result then self.old.bytes ++ encode_utf8 c else self.old.bytes) }
-        ensures text { OnOk result (text_chars self.new ≡ text_chars self.old ++ c ∷ []) }
-        ensures room { MakesRoom (lies_inline self.old.place) (text_len self.old + length (encode_utf8 c))
-            (text_view self.old) (text_view self.new) result }
-        ensures inline_capacity { IsTrue (lies_inline self.old.place) → capacity_in self.old.place ≡ N }
+        requires wide { 128 ≤ c }
+        requires spelled { encode_utf8 c ≡ bytes.now }
+        ensures { TextPushes c self.old self.new result }
     {
-        push_bytes(&mut self.list, bytes, true)?;
-        Ok(())
+        push_bytes(&mut self.list, bytes)
     }
 
     /// Makes room for `additional` more bytes. An inline text moves to the heap if they don't fit the array.
     pub fn reserve(&mut self, additional: usize) -> Result<(), AllocError>
-        ensures { TextReserves (lies_inline self.old.place) N additional self.old self.new result }
+        ensures { TextReserves Reserved additional self.old self.new result }
     {
-        self.list.reserve(additional)?;
-        Ok(())
+        self.list.reserve(additional)
     }
 
     /// As `reserve`, but room that is allocated is for no further bytes.
     pub fn reserve_exact(&mut self, additional: usize) -> Result<(), AllocError>
-        ensures room { TextReserves true N additional self.old self.new result }
-        ensures exact { OnOk result (capacity_in self.new.place
-            ≡ max (capacity_in self.old.place) (text_len self.old + additional)) }
+        ensures { TextReserves Exact additional self.old self.new result }
     {
-        self.list.reserve_exact(additional)?;
-        Ok(())
+        self.list.reserve_exact(additional)
     }
 
     /// Moves a text on the heap into the array if it fits, which allocates nothing. Otherwise shrinks the allocation; if
@@ -189,13 +147,13 @@ impl<const N: usize> InlineText<N> {
     /// As `shrink_to_fit`, but keeps room for `min_capacity` bytes, if there was that room.
     pub fn shrink_to(&mut self, min_capacity: usize)
         ensures bytes { self.new.bytes ≡ self.old.bytes }
-        ensures place { lies_inline self.old.place ≡ false
-            → (IsTrue (lies_inline self.new.place) ↔ (max (text_len self.old) min_capacity ≤ N)) }
-        ensures kept { IsTrue (lies_inline self.old.place) → self.new ≡ self.old }
-        ensures capacity { lies_inline self.new.place ≡ false
-            → capacity_in self.new.place ≤ capacity_in self.old.place }
-        ensures lower_bound { min min_capacity (capacity_in self.old.place) ≤ capacity_in self.new.place }
-        ensures fits { text_len self.new ≤ capacity_in self.new.place }
+        ensures place { self.old.place.inline ≡ false
+            → (IsTrue self.new.place.inline ↔ (max (text_len self.old) min_capacity ≤ N)) }
+        ensures kept { IsTrue self.old.place.inline → self.new ≡ self.old }
+        ensures capacity { self.new.place.inline ≡ false
+            → self.new.place.capacity ≤ self.old.place.capacity }
+        ensures lower_bound { min min_capacity self.old.place.capacity ≤ self.new.place.capacity }
+        ensures fits { text_len self.new ≤ self.new.place.capacity }
     {
         self.list.shrink_to(min_capacity);
     }
@@ -225,13 +183,9 @@ impl<const N: usize> InlineText<N> {
     /// Puts `ch` at the byte `index`, where a character begins or the text ends. Allocates only if the bytes don't fit.
     pub fn insert(&mut self, index: usize, ch: char) -> Result<(), AllocError>
         requires { IsBoundary (text_chars self.old) index }
-        ensures bytes { self.new.bytes
-            ≡ (if is_ok result then take index self.old.bytes ++ encode_utf8 ch ++ drop index self.old.bytes else self.old.bytes) }
-        ensures text { OnOk result (text_chars self.new
-            ≡ chars (take index self.old.bytes) ++ ch ∷ [] ++ chars (drop index self.old.bytes)) }
-        ensures room { MakesRoom (lies_inline self.old.place) (text_len self.old + length (encode_utf8 ch))
-            (text_view self.old) (text_view self.new) result }
-        ensures inline_capacity { IsTrue (lies_inline self.old.place) → capacity_in self.old.place ≡ N }
+        ensures { TextGrows Reserved (text_len self.old + length (encode_utf8 ch)) self.old self.new
+            (take index self.old.bytes ++ encode_utf8 ch ++ drop index self.old.bytes)
+            (chars (take index self.old.bytes) ++ ch ∷ [] ++ chars (drop index self.old.bytes)) result }
     {
         // Most characters are ASCII.
         if ch.is_ascii() {
@@ -244,13 +198,9 @@ impl<const N: usize> InlineText<N> {
     #[inline(never)]
     fn insert_wide(&mut self, index: usize, ch: char) -> Result<(), AllocError>
         requires { IsBoundary (text_chars self.old) index }
-        ensures bytes { self.new.bytes
-            ≡ (if is_ok result then take index self.old.bytes ++ encode_utf8 ch ++ drop index self.old.bytes else self.old.bytes) }
-        ensures text { OnOk result (text_chars self.new
-            ≡ chars (take index self.old.bytes) ++ ch ∷ [] ++ chars (drop index self.old.bytes)) }
-        ensures room { MakesRoom (lies_inline self.old.place) (text_len self.old + length (encode_utf8 ch))
-            (text_view self.old) (text_view self.new) result }
-        ensures inline_capacity { IsTrue (lies_inline self.old.place) → capacity_in self.old.place ≡ N }
+        ensures { TextGrows Reserved (text_len self.old + length (encode_utf8 ch)) self.old self.new
+            (take index self.old.bytes ++ encode_utf8 ch ++ drop index self.old.bytes)
+            (chars (take index self.old.bytes) ++ ch ∷ [] ++ chars (drop index self.old.bytes)) result }
     {
         let mut buffer = [0; 4];
         self.insert_str(index, ch.encode_utf8(&mut buffer))
@@ -261,16 +211,11 @@ impl<const N: usize> InlineText<N> {
     fn insert_ascii(&mut self, index: usize, ch: char) -> Result<(), AllocError>
         requires boundary { IsBoundary (text_chars self.old) index }
         requires ascii { ch < 128 }
-        ensures bytes { self.new.bytes
-            ≡ (if is_ok result then take index self.old.bytes ++ encode_utf8 ch ++ drop index self.old.bytes else self.old.bytes) }
-        ensures text { OnOk result (text_chars self.new
-            ≡ chars (take index self.old.bytes) ++ ch ∷ [] ++ chars (drop index self.old.bytes)) }
-        ensures room { MakesRoom (lies_inline self.old.place) (text_len self.old + length (encode_utf8 ch))
-            (text_view self.old) (text_view self.new) result }
-        ensures inline_capacity { IsTrue (lies_inline self.old.place) → capacity_in self.old.place ≡ N }
+        ensures { TextGrows Reserved (text_len self.old + length (encode_utf8 ch)) self.old self.new
+            (take index self.old.bytes ++ encode_utf8 ch ++ drop index self.old.bytes)
+            (chars (take index self.old.bytes) ++ ch ∷ [] ++ chars (drop index self.old.bytes)) result }
     {
-        put_byte(&mut self.list, index, ch as u8)?;
-        Ok(())
+        put_byte(&mut self.list, index, ch as u8)
     }
 
     /// Puts `string` at the byte `index`, where a character begins or the text ends. Allocates only if the bytes don't fit.
@@ -278,16 +223,11 @@ impl<const N: usize> InlineText<N> {
     #[inline(always)]
     pub fn insert_str(&mut self, index: usize, string: &str) -> Result<(), AllocError>
         requires { IsBoundary (text_chars self.old) index }
-        ensures bytes { self.new.bytes
-            ≡ (if is_ok result then take index self.old.bytes ++ string.now ++ drop index self.old.bytes else self.old.bytes) }
-        ensures text { OnOk result (text_chars self.new
-            ≡ chars (take index self.old.bytes) ++ chars string.now ++ chars (drop index self.old.bytes)) }
-        ensures room { MakesRoom (lies_inline self.old.place) (text_len self.old + length string.now)
-            (text_view self.old) (text_view self.new) result }
-        ensures inline_capacity { IsTrue (lies_inline self.old.place) → capacity_in self.old.place ≡ N }
+        ensures { TextGrows Reserved (text_len self.old + length string.now) self.old self.new
+            (take index self.old.bytes ++ string.now ++ drop index self.old.bytes)
+            (chars (take index self.old.bytes) ++ chars string.now ++ chars (drop index self.old.bytes)) result }
     {
-        put_bytes(&mut self.list, index, string.as_bytes())?;
-        Ok(())
+        put_bytes(&mut self.list, index, string.as_bytes())
     }
 
     /// Puts `replace_with` in the place of the range, whose ends are boundaries. Allocates only if the bytes don't fit.
@@ -300,15 +240,11 @@ impl<const N: usize> InlineText<N> {
         requires start_le_end { range_start (R.start_bound range) ≤ range_end (R.end_bound range) (text_len self.old) }
         requires start_boundary { IsBoundary (text_chars self.old) (range_start (R.start_bound range)) }
         requires end_boundary { IsBoundary (text_chars self.old) (range_end (R.end_bound range) (text_len self.old)) }
-        ensures bytes { self.new.bytes ≡ (if is_ok result
-            then before self.old.bytes (R.start_bound range) ++ replace_with.now ++ after self.old.bytes (R.end_bound range)
-            else self.old.bytes) }
-        ensures text { OnOk result (text_chars self.new ≡ chars (before self.old.bytes (R.start_bound range))
-            ++ chars replace_with.now ++ chars (after self.old.bytes (R.end_bound range))) }
-        ensures room { MakesRoom (lies_inline self.old.place) (text_len self.old
-            - (range_end (R.end_bound range) (text_len self.old) - range_start (R.start_bound range)) + length replace_with.now)
-            (text_view self.old) (text_view self.new) result }
-        ensures inline_capacity { IsTrue (lies_inline self.old.place) → capacity_in self.old.place ≡ N }
+        ensures { TextGrows Reserved (text_len self.old - (range_end (R.end_bound range) (text_len self.old)
+            - range_start (R.start_bound range)) + length replace_with.now) self.old self.new
+            (before self.old.bytes (R.start_bound range) ++ replace_with.now ++ after self.old.bytes (R.end_bound range))
+            (chars (before self.old.bytes (R.start_bound range)) ++ chars replace_with.now
+            ++ chars (after self.old.bytes (R.end_bound range))) result }
     {
         let part = resolve_range(range, self.list.len());
         let bytes = replace_with.as_bytes();
@@ -324,18 +260,13 @@ impl<const N: usize> InlineText<N> {
         requires start_le_end { range_start (R.start_bound range) ≤ range_end (R.end_bound range) (text_len self.old) }
         requires start_boundary { IsBoundary (text_chars self.old) (range_start (R.start_bound range)) }
         requires end_boundary { IsBoundary (text_chars self.old) (range_end (R.end_bound range) (text_len self.old)) }
-        ensures bytes { self.new.bytes ≡ (if is_ok result
-            then self.old.bytes ++ removed self.old.bytes (R.start_bound range) (R.end_bound range) else self.old.bytes) }
-        ensures text { OnOk result (text_chars self.new
-            ≡ text_chars self.old ++ chars (removed self.old.bytes (R.start_bound range) (R.end_bound range))) }
-        ensures room { MakesRoom (lies_inline self.old.place)
-            (text_len self.old + length (removed self.old.bytes (R.start_bound range) (R.end_bound range)))
-            (text_view self.old) (text_view self.new) result }
-        ensures inline_capacity { IsTrue (lies_inline self.old.place) → capacity_in self.old.place ≡ N }
+        ensures { TextGrows Reserved
+            (text_len self.old + length (removed self.old.bytes (R.start_bound range) (R.end_bound range))) self.old self.new
+            (self.old.bytes ++ removed self.old.bytes (R.start_bound range) (R.end_bound range))
+            (text_chars self.old ++ chars (removed self.old.bytes (R.start_bound range) (R.end_bound range))) result }
     {
         let part = resolve_range(range, self.list.len());
-        push_part(&mut self.list, part.start, part.end - part.start)?;
-        Ok(())
+        push_part(&mut self.list, part.start, part.end - part.start)
     }
 
     /// Removes and returns the character at the byte `index`. Does not allocate, and the text stays in its place.
@@ -361,7 +292,7 @@ impl<const N: usize> InlineText<N> {
         ensures tail { IfOk result (IsTextTail N at self.old) }
         ensures text { IfOk result (λ t. text_chars self.old ≡ text_chars self.new ++ text_chars t) }
         ensures frame { TextStaysInPlace self.old self.new }
-        ensures succeeds { IsTrue (lies_inline self.old.place) → IsOk result }
+        ensures succeeds { IsTrue self.old.place.inline → IsOk result }
         ensures succeeds_at_the_end { at ≡ text_len self.old → IsOk result }
         ensures refused { OnErr result (self.new ≡ self.old) }
     {
@@ -395,8 +326,7 @@ fn pop_wide<const N: usize>(list: &mut TinyVec<[u8; N]>, last: u8) -> char
     requires utf8 { IsUtf8 (tiny_items list.old ++ last ∷ []) }
     ensures parts { tiny_items list.old ++ last ∷ [] ≡ tiny_items list.new ++ encode_utf8 result }
     ensures front { IsUtf8 (tiny_items list.new) }
-    ensures place { is_inline list.new ≡ is_inline list.old }
-    ensures capacity { tiny_capacity list.new ≡ tiny_capacity list.old }
+    ensures place { (tiny_view list.new).place ≡ (tiny_view list.old).place }
     ensures spare { All (λ b. b ≡ 0) (tiny_spare list.old) → All (λ b. b ≡ 0) (tiny_spare list.new) }
 {
     let Some(third) = list.pop() else {

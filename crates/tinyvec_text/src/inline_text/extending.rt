@@ -3,8 +3,7 @@ ghost use Rattle.std.specs.Prelude.{◌≡◌, ℕ, ◌+◌, ◌<◌, ◌≤◌,
 ghost use Rattle.std.specs.List.{flat_map};
 ghost use Rattle.std.specs.Iterator.{IsFinite, HoldsAlong, YieldsThen, DrainsIf, ExtendsWithItems};
 ghost use Rattle.tinyvec_slots.specs.Filling.{IntoIterYields};
-ghost use Rattle.tinyvec.specs.View.{capacity_in};
-ghost use Rattle.tinyvec_text.specs.InlineText.{text_len, TextCollects, TextExtends, empty_text, place_after_chars, place_after_texts};
+ghost use Rattle.tinyvec_text.specs.InlineText.{text_len, empty_text, place_after_chars, place_after_texts};
 
 use super::InlineText;
 use std::alloc::{AllocError, Global};
@@ -20,18 +19,17 @@ impl<const N: usize> Extend<char> for InlineText<N> {
         ensures ran { ExtendsWithItems U.into_iter_gives U.IntoIter.next_gives
             (λ t cs u. (u.bytes ≡ t.bytes ++ encode_utf8_all cs) × (u.place ≡ place_after_chars t cs))
             iter self.old self.new result }
-        ensures grows { TextExtends N self.old self.new }
 
         // It fails only at a character that finds no room.
         ensures full { OnErr result ((it : U.IntoIter) × (cs : List ℕ) × (c : ℕ) × (rest : U.IntoIter)
             × U.into_iter_gives iter it × YieldsThen U.IntoIter.next_gives it cs (Some c) rest
             × (self.new.bytes ≡ self.old.bytes ++ encode_utf8_all cs)
-            × (capacity_in self.new.place < text_len self.new + length (encode_utf8 c))
+            × (self.new.place.capacity < text_len self.new + length (encode_utf8 c))
             × (self.new.place ≡ place_after_chars self.old cs)) }
 
         // If known characters fit, it allocates nothing.
         ensures known { (cs : List ℕ) → IntoIterYields U.into_iter_gives U.IntoIter.next_gives iter cs
-            → text_len self.old + length (encode_utf8_all cs) ≤ capacity_in self.old.place → IsOk result }
+            → text_len self.old + length (encode_utf8_all cs) ≤ self.old.place.capacity → IsOk result }
     {
         let _room = self.capacity();
         let mut rest = iter.into_iter();
@@ -54,18 +52,17 @@ impl<'a, const N: usize> Extend<&'a str> for InlineText<N> {
         ensures ran { ExtendsWithItems U.into_iter_gives U.IntoIter.next_gives
             (λ t xs u. (u.bytes ≡ t.bytes ++ flat_map (λ x. x.now) xs)
             × (u.place ≡ place_after_texts (λ x. x.now) t xs)) iter self.old self.new result }
-        ensures grows { TextExtends N self.old self.new }
 
         // It fails only at a text that finds no room.
         ensures full { OnErr result ((it : U.IntoIter) × (xs : _) × (x : _) × (rest : U.IntoIter)
             × U.into_iter_gives iter it × YieldsThen U.IntoIter.next_gives it xs (Some x) rest
             × (self.new.bytes ≡ self.old.bytes ++ flat_map (λ y. y.now) xs)
-            × (capacity_in self.new.place < text_len self.new + length x.now)
+            × (self.new.place.capacity < text_len self.new + length x.now)
             × (self.new.place ≡ place_after_texts (λ y. y.now) self.old xs)) }
 
         // If known texts fit, it allocates nothing.
         ensures known { (xs : _) → IntoIterYields U.into_iter_gives U.IntoIter.next_gives iter xs
-            → text_len self.old + length (flat_map (λ x. x.now) xs) ≤ capacity_in self.old.place → IsOk result }
+            → text_len self.old + length (flat_map (λ x. x.now) xs) ≤ self.old.place.capacity → IsOk result }
     {
         let _room = self.capacity();
         let mut rest = iter.into_iter();
@@ -81,7 +78,7 @@ impl<const N: usize> FromIterator<char> for InlineText<N> {
     type Alloc = Global;
 
     ghost from_iter_gives = { λ cs t. (t.bytes ≡ encode_utf8_all cs)
-        × (t.place ≡ place_after_chars (empty_text N) cs) × TextCollects N t };
+        × (t.place ≡ place_after_chars (empty_text N) cs) };
 
     fn from_iter<U: IntoIterator<Item = char>>(
         alloc: Global,
@@ -91,14 +88,13 @@ impl<const N: usize> FromIterator<char> for InlineText<N> {
             → U.IntoIter.can_next it × IsFinite (U.IntoIter.remaining it) × HoldsAlong U.IntoIter.next_gives it (λ _. ⊤) }
         ensures ran { IfOk result (λ t. (it : U.IntoIter) × (xs : List ℕ) × U.into_iter_gives iter it
             × DrainsIf U.IntoIter.next_gives ⊤ it xs × ((t.bytes ≡ encode_utf8_all xs)
-            × (t.place ≡ place_after_chars (empty_text N) xs) × TextCollects N t)) }
-        ensures collects { IfOk result (TextCollects N) }
+            × (t.place ≡ place_after_chars (empty_text N) xs))) }
 
         // It fails only at a character that finds no room where those before it are.
         ensures full { OnErr result ((it : U.IntoIter) × (cs : List ℕ) × (c : ℕ) × (rest : U.IntoIter)
             × U.into_iter_gives iter it × YieldsThen U.IntoIter.next_gives it cs (Some c) rest
             × (N < length (encode_utf8_all cs) + length (encode_utf8 c))
-            × (capacity_in (place_after_chars (empty_text N) cs) < length (encode_utf8_all cs) + length (encode_utf8 c))) }
+            × ((place_after_chars (empty_text N) cs).capacity < length (encode_utf8_all cs) + length (encode_utf8 c))) }
 
         // If known items fit the array, it allocates nothing.
         ensures known { (xs : List ℕ) → IntoIterYields U.into_iter_gives U.IntoIter.next_gives iter xs
@@ -115,7 +111,7 @@ impl<'a, const N: usize> FromIterator<&'a str> for InlineText<N> {
     type Alloc = Global;
 
     ghost from_iter_gives = { λ xs t. (t.bytes ≡ flat_map (λ x. x.now) xs)
-        × (t.place ≡ place_after_texts (λ x. x.now) (empty_text N) xs) × TextCollects N t };
+        × (t.place ≡ place_after_texts (λ x. x.now) (empty_text N) xs) };
 
     fn from_iter<U: IntoIterator<Item = &'a str>>(
         alloc: Global,
@@ -125,14 +121,14 @@ impl<'a, const N: usize> FromIterator<&'a str> for InlineText<N> {
             → U.IntoIter.can_next it × IsFinite (U.IntoIter.remaining it) × HoldsAlong U.IntoIter.next_gives it (λ _. ⊤) }
         ensures ran { IfOk result (λ t. (it : U.IntoIter) × (xs : _) × U.into_iter_gives iter it
             × DrainsIf U.IntoIter.next_gives ⊤ it xs × ((t.bytes ≡ flat_map (λ x. x.now) xs)
-            × (t.place ≡ place_after_texts (λ x. x.now) (empty_text N) xs) × TextCollects N t)) }
-        ensures collects { IfOk result (TextCollects N) }
+            × (t.place ≡ place_after_texts (λ x. x.now) (empty_text N) xs))) }
 
         // It fails only at a text that finds no room where those before it are.
         ensures full { OnErr result ((it : U.IntoIter) × (xs : _) × (x : _) × (rest : U.IntoIter)
             × U.into_iter_gives iter it × YieldsThen U.IntoIter.next_gives it xs (Some x) rest
             × (N < length (flat_map (λ y. y.now) xs) + length x.now)
-            × (capacity_in (place_after_texts (λ y. y.now) (empty_text N) xs) < length (flat_map (λ y. y.now) xs) + length x.now)) }
+            × ((place_after_texts (λ y. y.now) (empty_text N) xs).capacity
+            < length (flat_map (λ y. y.now) xs) + length x.now)) }
 
         // If known items fit the array, it allocates nothing.
         ensures known { (xs : _) → IntoIterYields U.into_iter_gives U.IntoIter.next_gives iter xs

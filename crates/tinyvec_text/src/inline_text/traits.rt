@@ -1,8 +1,7 @@
 //! Empty texts, clones, comparisons, hashes, printing and writing.
-ghost use Rattle.std.specs.Prelude.{◌≡◌, ◌⊎◌, [], false, IsTrue, IsOk, IfOk, MatchResult, Some, nat_eq, refl, ◌+◌, ◌++◌, length, OnOk, chars};
-ghost use Rattle.tinyvec.specs.View.{lies_inline, capacity_in};
-ghost use Rattle.tinyvec.specs.Room.{MakesRoom};
-ghost use Rattle.tinyvec_text.specs.InlineText.{IsTextClone, text_chars, text_len, text_view};
+ghost use Rattle.std.specs.Prelude.{◌≡◌, ◌⊎◌, [], false, IsTrue, IsOk, IfOk, MatchResult, Some, nat_eq, refl, ◌+◌, ◌++◌, length, chars};
+ghost use Rattle.tinyvec.specs.View.{Reserved, in_array};
+ghost use Rattle.tinyvec_text.specs.InlineText.{IsTextClone, text_chars, text_len, TextGrows};
 ghost use Rattle.std.specs.Ordering.{nat_cmp};
 ghost use Rattle.std.specs.Cmp.{on_equiv, on_total, on_po, on_per, partial_equiv_from_equiv};
 ghost use Rattle.std.specs.Cmp.Lexicographic.{pointwise, slice_cmp, nat_list_eq_equiv, nat_list_cmp_total, texts_po, texts_ties};
@@ -22,7 +21,7 @@ use std::ops::DerefStr;
 
 /// So that `map.entry(k)?.or_default()` makes an empty text, as `new` does.
 impl<const N: usize> MadeWith<Global> for InlineText<N> {
-    ghost is_made_with = { λ t. (t.bytes ≡ []) × IsTrue (lies_inline t.place) × (capacity_in t.place ≡ N) };
+    ghost is_made_with = { λ t. (t.bytes ≡ []) × (t.place ≡ in_array N) };
 
     fn made_with(alloc: Global) -> Self {
         Self::new(alloc)
@@ -31,10 +30,10 @@ impl<const N: usize> MadeWith<Global> for InlineText<N> {
 
 /// So that `mem::try_take` moves a text out. What it leaves is empty and inline, and has the same allocator.
 impl<const N: usize> Emptied for InlineText<N> {
-    ghost is_emptied = { λ t. (t.bytes ≡ []) × IsTrue (lies_inline t.place) × (capacity_in t.place ≡ N) };
+    ghost is_emptied = { λ t. (t.bytes ≡ []) × (t.place ≡ in_array N) };
 
     fn emptied(like: &Self) -> Result<Self, AllocError>
-        ensures empty { IfOk result (λ t. (t.bytes ≡ []) × IsTrue (lies_inline t.place) × (capacity_in t.place ≡ N)) }
+        ensures empty { IfOk result (λ t. (t.bytes ≡ []) × (t.place ≡ in_array N)) }
         ensures succeeds { IsOk result }
     {
         Ok(Self::new(*like.list.allocator()))
@@ -45,15 +44,15 @@ impl<const N: usize> Clone for InlineText<N> {
     ghost is_clone = { IsTextClone N };
 
     // The array is copied, and an empty text on the heap allocates nothing.
-    ghost is_infallible = { λ t. IsTrue (lies_inline t.place) ⊎ (text_len t ≡ 0) };
+    ghost is_infallible = { λ t. IsTrue t.place.inline ⊎ (text_len t ≡ 0) };
 
     /// The same text, inline exactly if this one is. A text on the heap is copied into an allocation of its length.
     fn clone(&self) -> Result<Self, AllocError>
         ensures cases { MatchResult result (IsTextClone N self.now)
-            (λ _. ¬ (IsTrue (lies_inline self.now.place) ⊎ (text_len self.now ≡ 0))) }
-        ensures place { IfOk result (λ t. lies_inline t.place ≡ lies_inline self.now.place) }
-        ensures capacity { IfOk result (λ t. lies_inline t.place ≡ false → capacity_in t.place ≡ text_len self.now) }
-        ensures succeeds_empty { lies_inline self.now.place ≡ false → text_len self.now ≡ 0 → IsOk result }
+            (λ _. ¬ (IsTrue self.now.place.inline ⊎ (text_len self.now ≡ 0))) }
+        ensures place { IfOk result (λ t. t.place.inline ≡ self.now.place.inline) }
+        ensures capacity { IfOk result (λ t. t.place.inline ≡ false → t.place.capacity ≡ text_len self.now) }
+        ensures succeeds_empty { self.now.place.inline ≡ false → text_len self.now ≡ 0 → IsOk result }
     {
         if self.list.is_inline() {
             let list = self.list.clone()?;
@@ -144,13 +143,10 @@ impl<const N: usize> fmt::Write for InlineText<N> {
 
     fn write_str(&mut self, s: &str) -> fmt::Result
         ensures ok { IsOk result → self.new.bytes ≡ self.old.bytes ++ s.now }
-        ensures text { OnOk result (text_chars self.new ≡ text_chars self.old ++ chars s.now) }
-        ensures room { MakesRoom (lies_inline self.old.place) (text_len self.old + length s.now)
-            (text_view self.old) (text_view self.new) result }
-        ensures inline_capacity { IsTrue (lies_inline self.old.place) → capacity_in self.old.place ≡ N }
+        ensures grows { TextGrows Reserved (text_len self.old + length s.now) self.old self.new
+            (self.old.bytes ++ s.now) (text_chars self.old ++ chars s.now) result }
     {
-        // What is written seldom has a length that LLVM knows.
-        match self.append(s, false) {
+        match self.push_str(s) {
             Ok(()) => Ok(()),
             Err(_) => Err(fmt::Error),
         }

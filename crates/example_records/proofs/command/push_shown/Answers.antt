@@ -1,9 +1,14 @@
-use Rattle.std.proofs.Common.{◌≡◌, ◌∙◌, ◌+◌, ◌<◌, ◌≤◌, [], ◌∷◌, ◌++◌, ap, append-nil, append_assoc, get_or, length, map, refl, take, sym, subst, rules}
+use Rattle.std.proofs.Common.{◌≡◌, ◌∙◌, ◌+◌, ◌<◌, ◌≤◌, [], ◌∷◌, ◌++◌, ap, append-nil, append_assoc, get_or, length, map, refl, take, sym, subst, rules, Result, Ok, Err, OnErr, ℕ, List}
 use Rattle.std.specs.Prelude.{string_bytes}
 use Rattle.std.proofs.lemmas.List.{map-append, take_all, take_more}
 use Rattle.example_stream.specs.Readings.{said}
 use Rattle.example_records.proofs.Showing.{GrewBy, GrewBy-push}
 use Rattle.example_records.proofs.command.push_shown.Goals as goal
+
+-- what holds anyhow holds at an error
+at_error : {X E : Type 0} (r : Result X E) (old new some : List ℕ) → new ≡ old ++ some → OnErr r ((some : List ℕ) × (new ≡ old ++ some))
+at_error (Ok x) old new some h = tt
+at_error (Err e) old new some h = (some, h)
 
 pub loop-reading-init : goal.loop-reading-init
 loop-reading-init c = record { lines = ([], refl, sym (append-nil c.args.text.now.items)) }
@@ -25,8 +30,8 @@ loop-reading-preserved c =
       lines = subst (λ cs. GrewBy cs old new) (sym (ap (map said) next ∙ map-append said (take i readings) (reading ∷ []))) shown;
     }
 
-pub returns : goal.returns
-returns c =
+pub returns-clause-ok : goal.returns-clause-ok
+returns-clause-ok c =
     let readings = c.args.recovered.now.records.items in
     let i = c.loop-reading.reading-index in
     let past : length readings ≤ i = subst (λ rs. length rs ≤ i) c.deref-reading-items.ensures.value c.loop-reading-test.false in
@@ -37,3 +42,19 @@ returns c =
       grown ∙ ap (λ text. text ++ last) all.2 ∙ append_assoc c.args.text.now.items all.0 last,
       record { lines = all.0; last = last; are = all.1; is_end = c.in_ok-show_end.ensures; whole = refl },
     )
+
+pub returns-in_err-show_reading-clause-refused : goal.returns-in_err-show_reading-clause-refused
+returns-in_err-show_reading-clause-refused c = let all = c.loop-reading.invariant.lines in at_error _ _ _ all.0 all.2
+
+pub returns-in_err-extend_from_slice-clause-refused : goal.returns-in_err-extend_from_slice-clause-refused
+returns-in_err-extend_from_slice-clause-refused c =
+    let all = c.loop-reading.invariant.lines in
+    let same : c.extend_from_slice.new.self.items ≡ c.loop-reading.text.items = search rules in at_error _ _ _ all.0 (same ∙ all.2)
+
+pub returns-in_err-show_end-clause-refused : goal.returns-in_err-show_end-clause-refused
+returns-in_err-show_end-clause-refused c = let all = c.loop-reading.invariant.lines in at_error _ _ _ all.0 all.2
+
+pub returns-in_err-extend_from_slice-2-clause-refused : goal.returns-in_err-extend_from_slice-2-clause-refused
+returns-in_err-extend_from_slice-2-clause-refused c =
+    let all = c.loop-reading.invariant.lines in
+    let same : c.extend_from_slice-2.new.self.items ≡ c.loop-reading.text.items = search rules in at_error _ _ _ all.0 (same ∙ all.2)

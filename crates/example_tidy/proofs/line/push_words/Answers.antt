@@ -1,6 +1,7 @@
-use Rattle.std.proofs.Common.{◌≡◌, ◌≢◌, ◌∙◌, true, false, List, ℕ, ◌++◌, ◌∷◌, rules, arith, ap, sym, length}
+use Rattle.std.proofs.Common.{◌≡◌, ◌≢◌, ◌∙◌, true, false, List, ℕ, [], ◌++◌, ◌∷◌, append_assoc, rules, arith, ap, sym, length}
 use Rattle.std.specs.List.{dedup, join_with_byte}
 use Rattle.std.specs.Str.{bytes_eq}
+use Rattle.tinyvec_slots.proofs.CloneLemmas.{on_err}
 use Rattle.tinyvec.specs.TinyVec.{tiny_items}
 use Rattle.example_tidy.specs.Tidy.{words}
 use Rattle.example_tidy.proofs.Joining.{said_all, spaced, spoken, first_fits}
@@ -24,6 +25,16 @@ loop-word-init c =
       room = search rules;
     }
 
+-- a word found no room, behind its blank
+pub returns-in_err-extend_from_slice-2-clause-refused : goal.returns-in_err-extend_from_slice-2-clause-refused
+returns-in_err-extend_from_slice-2-clause-refused c =
+    let before = c.loop-word.invariant in
+    let pushed = c.in_ok-push-2.ensures.ok.items ∙ ap (λ said. said ++ 32 ∷ []) before.so_far.1 in
+    on_err c.from_residual-in_err-extend_from_slice-2.result (
+      before.so_far.0 ++ 32 ∷ [],
+      c.in_err-extend_from_slice-2.ensures.clones.kept ∙ pushed ∙ append_assoc (tiny_items c.args.output.now) before.so_far.0 (32 ∷ []),
+    )
+
 pub loop-word-preserved-in_ok-extend_from_slice-2 : goal.loop-word-preserved-in_ok-extend_from_slice-2
 loop-word-preserved-in_ok-extend_from_slice-2 c =
     let before = c.loop-word.invariant in
@@ -36,8 +47,8 @@ loop-word-preserved-in_ok-extend_from_slice-2 c =
     record {
       so_far = (
         front ++ 32 ∷ word,
-        spaced (tiny_items c.args.output.now) front word _ _ _ before.so_far.1 c.in_ok-push-2.ensures.items grown,
+        spaced (tiny_items c.args.output.now) front word _ _ _ before.so_far.1 c.in_ok-push-2.ensures.ok.items grown,
         spoken front last word all (words c.loop-word.left.now) (words c.in-Some-next_word.more.now) c.in-Some-next_word.ensures.some other before.so_far.2,
       );
-      room = omega (arith, before.room, c.push-then-ne.ensures.room.keeps.capacity, c.extend_from_slice-then-ne.ensures.keeps.capacity);
+      room = search rules;
     }

@@ -1,4 +1,5 @@
-use Rattle.std.proofs.Common.{◌≡◌, ◌∙◌, ◌-◌, ◌≤◌, ◌++◌, ◌∷◌, [], ap, append-nil, append_assoc, arith, le_refl, length, length-append, refl, subst, sym}
+use Rattle.std.proofs.Common.{◌≡◌, ◌∙◌, ◌-◌, ◌≤◌, ◌++◌, ◌∷◌, [], false, true, ap, append-nil, append_assoc, arith, le_refl, length, length-append, refl, subst, sym}
+use Rattle.std.proofs.Math.Nat.{lt_of_not-le}
 use Rattle.tinyvec_slots.proofs.CloneLemmas.{on_err}
 use Rattle.tinyvec.specs.TinyVec.{tiny_items, tiny_len, tiny_capacity}
 use Rattle.example_tidy.specs.Tidy.{Advances}
@@ -60,14 +61,14 @@ returns-in_err-extend_from_slice_copy-clause-refused c =
     let line = tiny_items c.loop-end.line in
     let place = tiny_capacity c.loop-end.line in
     let room = tiny_capacity output - tiny_len output in
-    let made = c.in_err-extend_from_slice_copy.ensures.room in
-    let held : length line ≤ place = omega (arith, made.keeps.fits, ap length made.refused.items, made.refused.capacity) in
+    let held : length line ≤ place = omega (arith, c.len-len.ensures.value, c.len-len.ensures.fits) in
+    let full = lt_of_not-le (λ fits. let never : false ≡ true = c.in_err-extend_from_slice_copy.ensures.succeeds fits in absurd cc) in
     on_err c.from_residual-in_err-extend_from_slice_copy.result (
       s.1 ++ [],
       _,
       s.3 ∙ ap (λ text. old ++ text) (sym (append-nil s.1)),
       refuses_then _ s.0 line c.args.bytes.now rest [] s.1 [] _ _ place _ room (s.2 ∙ ap (λ back. s.0 ++ back) (sym (append-nil rest))) s.4
-          (refuses_piece line rest place place room c.in_default.ensures.none held made.full (le_refl _)) inv.line_room
+          (refuses_piece line rest place place room c.in_default.ensures.none held full (le_refl _)) inv.line_room
           (omega (arith, inv.room, ap length s.3, length-append old s.1)),
     )
 
@@ -82,5 +83,5 @@ returns-clause-ok c =
       s.1,
       s.3,
       subst (λ bytes. Advances old bytes s.1 new) (sym s.2) (subst (λ said. Advances old (s.0 ++ rest) said new) (append-nil s.1)
-          (subst (λ text. Advances old (s.0 ++ rest) (s.1 ++ []) text) (sym c.in_ok-extend_from_slice_copy.ensures.items) read)),
+          (subst (λ text. Advances old (s.0 ++ rest) (s.1 ++ []) text) (sym c.in_ok-extend_from_slice_copy.ensures.ok.items) read)),
     )

@@ -1,4 +1,5 @@
 use Rattle.std.proofs.Common.{◌≡◌, ◌∙◌, ◌-◌, ◌≤◌, ◌++◌, ◌∷◌, [], false, true, ap, arith, length, le_refl, refl, rules, subst, sym}
+use Rattle.std.proofs.Math.Nat.{lt_of_not-le}
 use Rattle.std.proofs.lemmas.List.{nil_from_length}
 use Rattle.tinyvec_slots.proofs.CloneLemmas.{on_err}
 use Rattle.tinyvec.specs.TinyVec.{tiny_items, tiny_len, tiny_capacity}
@@ -36,20 +37,20 @@ returns-in_err-extend_from_slice_copy-clause-refused c =
     let output = c.args.output.now in
     let place = tiny_capacity c.args.line.now in
     let room = tiny_capacity output - tiny_len output in
-    let made = c.in_err-extend_from_slice_copy.ensures.room in
-    let held : length line ≤ place = omega (arith, made.keeps.fits, ap length made.refused.items, made.refused.capacity) in
+    let held : length line ≤ place = omega (arith, c.len-len.ensures.value, c.len-len.ensures.fits) in
+    let full = lt_of_not-le (λ fits. let never : false ≡ true = c.in_err-extend_from_slice_copy.ensures.succeeds fits in absurd cc) in
     on_err c.from_residual-in_err-extend_from_slice_copy.result (
       _,
       refl,
       refuses_then line [] line (end ++ 10 ∷ []) end (10 ∷ []) [] [] _ place place room room refl (advances_none line)
-          (refuses_piece line end place place room c.requires held made.full (le_refl _)) (le_refl _) (omega arith),
+          (refuses_piece line end place place room c.requires held full (le_refl _)) (le_refl _) (omega arith),
     )
 
 pub returns-in_err-end_line-2-clause-refused : goal.returns-in_err-end_line-2-clause-refused
 returns-in_err-end_line-2-clause-refused c =
     let line = tiny_items c.args.line.now in
     let end = c.args.end.now in
-    let text : c.as_slice.result.now ≡ line ++ end = c.as_slice.ensures ∙ c.in_ok-extend_from_slice_copy.ensures.items in
+    let text : c.as_slice.result.now ≡ line ++ end = c.as_slice.ensures ∙ c.in_ok-extend_from_slice_copy.ensures.ok.items in
     let refused = rw text at c.in_err-end_line-2.ensures in
     on_err c.from_residual-in_err-end_line-2.result (
       line ++ end,
@@ -59,6 +60,6 @@ returns-in_err-end_line-2-clause-refused c =
 
 pub returns-clause-ok : goal.returns-clause-ok
 returns-clause-ok c =
-    let text = c.as_slice.ensures ∙ c.in_ok-extend_from_slice_copy.ensures.items in
+    let text = c.as_slice.ensures ∙ c.in_ok-extend_from_slice_copy.ensures.ok.items in
     let said = normal_line c.as_slice.result.now ++ 10 ∷ [] in
     (said, c.in_ok-end_line-2.ensures.ok, advances_end _ _ said _ c.requires (ap (λ line. normal_line line ++ 10 ∷ []) text) c.clear.ensures.items)

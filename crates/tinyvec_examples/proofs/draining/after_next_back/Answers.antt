@@ -18,6 +18,6 @@ returns-clause-left c =
     let new = c.drop.new.self.0 in
     let kept = c.next_back-x.ensures.steps.1 in
     let left : all_slots new ≡ pos 1 ∷ pos 4 ∷ pos 0 ∷ pos 0 ∷ [] =
-    middle_left _ new c.from_array_len-v.ensures.value (c.drain-d.ensures.begins.leaves new (kept.leaves new c.drop.ensures)) in
+    middle_left c.from_array_len-v.result new c.from_array_len-v.ensures.value (c.drain-d.ensures.begins.leaves new (kept.leaves new c.drop.ensures)) in
     let same = kept.same_reference in
     search rules

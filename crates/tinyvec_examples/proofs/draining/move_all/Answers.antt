@@ -27,7 +27,8 @@ loop-x-preserved g c =
       ends = tt;
       keeps = DrainKeeps-then (drain_of g.A.Slots g.A.Item.Default.is_default) (drain_kept_then g.A.Slots) c.into_iter-x-iterator.result c.loop-x.x-iterator c.next.new.self inv.keeps step.1;
       moved = inv.moved ∙ ap (λ l. to ++ l) step.0 ∙ sym (append_assoc to (c.in-Some.x ∷ []) rest) ∙ ap (λ l. l ++ rest) (sym c.push.ensures.items);
-      lender = SameLender-then g.A.Slots c.args.to.now c.loop-x.to c.push.new.self inv.lender c.push.ensures.lender;
+      lender = SameLender-then g.A.Slots c.args.to.now c.loop-x.to c.push.new.self inv.lender
+          (record { same_reference = ap (λ p. p.lender) c.push.ensures.place; slot_count = ap (λ p. p.capacity) c.push.ensures.place });
     }
 
 pub returns-clause-left : goal.returns-clause-left

@@ -31,7 +31,7 @@ returns-clause-list g c = λ rest ends.
     let two = length-drop c.args.end xs in
     let n = length-slice_range xs c.args.start c.args.end c.requires.start_le_end c.requires.in_bounds in
     let count : length (slots_of g.A.Slots v) ≡ g.A.Array.CAPACITY =
-    ended_count g.A.Slots s t c.args.vec.now v along.kept made.slots c.finish.ensures.changes.lender ∙ g.met.A.Array.counted _ c.capacity-slots.ensures.slot_count in
+    ended_count g.A.Slots s t c.args.vec.now v along.kept made.slots c.finish.ensures.changes.place ∙ g.met.A.Array.counted _ c.capacity-slots.ensures.slot_count in
     let fits = ended_fits R _ s t (front ∷ back ∷ []) (items_of g.A.Slots v) _ _ _ P along made.begins.front made.begins.left made.begins.back whole result finished in
     let list : OnOk result (items_of g.A.Slots v ≡ take c.args.start xs ++ P ++ drop c.args.end xs) =
     ended_list R _ s t (front ∷ back ∷ []) (items_of g.A.Slots v) _ _ _ P along made.begins.front made.begins.left made.begins.back whole result finished in
@@ -52,7 +52,7 @@ returns-clause-full g c =
     let lender = c.splice-splice.ensures.same_reference in
     let v = c.finish.new.self.0 in
     let count : length (slots_of g.A.Slots v) ≡ g.A.Array.CAPACITY =
-    ended_count g.A.Slots c.splice-splice.result c.one_from_each_end-ends.new.splice c.args.vec.now v counts.kept c.splice-splice.ensures.slots c.finish.ensures.changes.lender
+    ended_count g.A.Slots c.splice-splice.result c.one_from_each_end-ends.new.splice c.args.vec.now v counts.kept c.splice-splice.ensures.slots c.finish.ensures.changes.place
     ∙ g.met.A.Array.counted _ c.capacity-slots.ensures.slot_count in
     let full : OnErr c.finish.result (len_of g.A.Slots v ≡ g.A.Array.CAPACITY) = subst (λ n. OnErr c.finish.result (len_of g.A.Slots v ≡ n)) count c.finish.ensures.finished.full in
     subst (λ w. OnErr c.finish.result (len_of g.A.Slots w ≡ g.A.Array.CAPACITY)) (search rules) full

@@ -3,7 +3,7 @@ use Rattle.std.specs.Iterator.Adapters.{fuse_steps}
 use Rattle.tinyvec_slots.specs.Ends.{front, back}
 use Rattle.tinyvec_slots.specs.Fused.{fused_rest}
 use Rattle.tinyvec_slots.proofs.Fused.{fused_ends}
-use Rattle.tinyvec.specs.TinyVec.{tiny_items_of}
+use Rattle.tinyvec.specs.TinyVec.{view}
 use Rattle.tinyvec.specs.FrameLaws.{FrameOf}
 use Rattle.tinyvec.specs.SpliceLaws.{frame_refl, frame_then}
 use Rattle.tinyvec_slots.proofs.SpliceLemmas.{RunsWord-splices}
@@ -16,14 +16,14 @@ returns-clause-asked g c = let t = c.next_back-last.new.self in (c.next-first.ne
 pub returns-clause-spliced : goal.returns-clause-spliced
 returns-clause-spliced g c = λ rest ends.
     let t = c.next_back-last.new.self in
-    RunsWord-splices (tiny_items_of g.A.Slots) (FrameOf g.A.Slots) (frame_refl g.A.Slots) (frame_then g.A.Slots) (fused_rest rest) (fuse_steps g.I.Iterator.next_gives) (fuse_steps g.I.DoubleEndedIterator.next_back_gives) (fused_ends _ _ rest ends)
+    RunsWord-splices (λ v. (view g.A.Slots v).items) (FrameOf g.A.Slots) (frame_refl g.A.Slots) (frame_then g.A.Slots) (fused_rest rest) (fuse_steps g.I.Iterator.next_gives) (fuse_steps g.I.DoubleEndedIterator.next_back_gives) (fused_ends _ _ rest ends)
     c.args.splice.now (front ∷ back ∷ []) (c.next-first.result ∷ c.next_back-last.result ∷ []) t
     (c.next-first.new.self, c.next-first.ensures.steps, (t, c.next_back-last.ensures.steps, refl))
 
 pub returns-clause-kept : goal.returns-clause-kept
 returns-clause-kept g c =
     let t = c.next_back-last.new.self in
-    let counts = splice_counted (tiny_items_of g.A.Slots) (FrameOf g.A.Slots) (frame_refl g.A.Slots) (frame_then g.A.Slots) (fuse_steps g.I.Iterator.next_gives) (fuse_steps g.I.DoubleEndedIterator.next_back_gives)
+    let counts = splice_counted (λ v. (view g.A.Slots v).items) (FrameOf g.A.Slots) (frame_refl g.A.Slots) (frame_then g.A.Slots) (fuse_steps g.I.Iterator.next_gives) (fuse_steps g.I.DoubleEndedIterator.next_back_gives)
     c.args.splice.now (front ∷ back ∷ []) (c.next-first.result ∷ c.next_back-last.result ∷ []) t
     (c.next-first.new.self, c.next-first.ensures.steps, (t, c.next_back-last.ensures.steps, refl)) in
     counts.kept

@@ -1,19 +1,15 @@
-use Rattle.std.proofs.Common.{refl, ◌≡◌, ◌++◌, List, ℕ, [], take, pos, sym, ap, ◌∙◌, arith, le_refl, le_trans, append-nil, inl, inr, IsTrue}
+use Rattle.std.proofs.Common.{refl, ◌≡◌, ◌++◌, List, ℕ, [], take, pos, sym, ap, ◌∙◌, arith, le_refl, le_trans, append-nil, inl, inr}
 use Rattle.tinyvec_slots.specs.Slots.{spare_in, split_at}
 use Rattle.tinyvec_slots.proofs.SlotsLemmas.{defaults_are}
 use Rattle.tinyvec_script.specs.Script.{start, zeros, State, IsZero}
 use Rattle.tinyvec_array.specs.ArrayVec.{view as array_view, all_slots}
 use Rattle.tinyvec_array.specs.SliceVec.{slice_view}
 use Rattle.tinyvec.specs.TinyVec.{tiny_view}
-use Rattle.tinyvec.specs.View.{Place, in_array, lies_inline}
 use Rattle.std.proofs.KnownBytes.{Appends-nil, Appends-trans, Consumes-nil, Consumes-trans, Consumes-kept}
 use Rattle.tinyvec_script.proofs.HistoryLemmas.{feeds_nothing, feeds_then, complete_lines, whole_script, chunk_longer}
 use Rattle.tinyvec_io.proofs.Pieces.{AppendsFront-then}
 use Rattle.tinyvec_script.proofs.Written.{reported_since}
 use Rattle.tinyvec_script.proofs.script.run.Goals as goal
-
-is_in_array : (p : Place) (n : ℕ) → IsTrue (lies_inline p) → p.capacity ≡ n → p ≡ in_array n
-is_in_array p n inline room i = record { inline = inline i; capacity = room i }
 
 pub loop-piece-init : goal.loop-piece-init
 loop-piece-init g c =
@@ -24,9 +20,9 @@ loop-piece-init g c =
     let s_begins : slice_view c.from_slice_len.result ≡ zeros = c.from_slice_len.ensures.value in
     let tiny = c.new-2 in
     let tiny_spare = defaults_are IsZero (pos 0) (λ x h. h) 4 _ tiny.ensures.spare in
-    let t_begins : tiny_view tiny.result ≡ start.t = λ t. record { items = tiny.ensures.items t; spare = tiny_spare t; place = is_in_array _ 4 tiny.ensures.place tiny.ensures.capacity t } in
+    let t_begins : tiny_view tiny.result ≡ start.t = λ t. record { items = tiny.ensures.items t; spare = tiny_spare t; place = tiny.ensures.place t } in
     let text = c.new-3 in
-    let x_begins : text.result ≡ start.x = λ t. record { bytes = text.ensures.bytes t; place = is_in_array _ 4 text.ensures.place text.ensures.capacity t } in
+    let x_begins : text.result ≡ start.x = λ t. record { bytes = text.ensures.bytes t; place = text.ensures.place t } in
     let state : State = record { a = array; s = slice_view c.from_slice_len.result; t = tiny_view tiny.result; x = text.result } in
     let begins : state ≡ start = λ t. record { a = a_begins t; s = s_begins t; t = t_begins t; x = x_begins t } in
     record {

@@ -9,9 +9,8 @@ use Rattle.tinyvec_script.specs.declared.call.Call.TheVariants.{Splice}
 use Rattle.tinyvec_script.proofs.DrivingLemmas.{splice_answers}
 use Rattle.tinyvec_slots.proofs.SlotsLemmas.{slots_are}
 use Rattle.tinyvec_array.specs.ArrayVec.{view_of}
-use Rattle.tinyvec.proofs.TinyLemmas.{slots_pushed, slots_inserted, slots_removed}
+use Rattle.tinyvec_array.specs.ViewLaws.{none_vacated}
 use Rattle.std.proofs.lemmas.Option.{slice_get_read}
-use Rattle.tinyvec_script.proofs.StepLemmas.{swap_removes, truncates, drains}
 use Rattle.tinyvec_script.proofs.slots_step.answer_array.Goals as goal
 
 pub returns-in-Push-clause-step : goal.returns-in-Push-clause-step
@@ -19,31 +18,31 @@ returns-in-Push-clause-step g c =
     let old = view_of g.S.Slots c.args.vec.now in
     let some : 0 < length (spare_in old) = search rules in
     let whole = ap length (slots_are old) ∙ length-append (items_in old) (spare_in old) in
-    let made = c.push.ensures in
-    rw c.in-Push.is (omega (arith, some, whole), made.items, slots_pushed g.S.Item.Default.is_default old (view_of g.S.Slots c.push.new.self) c.in-Push.x made.items made.spare)
+    let made = none_vacated g.S.Item.Default.is_default c.push.ensures in
+    rw c.in-Push.is (omega (arith, some, whole), made.items, made.slot_rule)
 
 pub returns-in-Insert-clause-step : goal.returns-in-Insert-clause-step
 returns-in-Insert-clause-step g c =
     let old = view_of g.S.Slots c.args.vec.now in
     let some : 0 < length (spare_in old) = search rules in
     let whole = ap length (slots_are old) ∙ length-append (items_in old) (spare_in old) in
-    let made = c.insert.ensures in
+    let made = none_vacated g.S.Item.Default.is_default c.insert.ensures in
     let in_list : c.in-Insert.i ≤ len_in old = omega (arith, c.len.ensures.value) in
-    rw c.in-Insert.is (in_list, omega (arith, some, whole), made.items, slots_inserted g.S.Item.Default.is_default old (view_of g.S.Slots c.insert.new.self) c.in-Insert.i c.in-Insert.x in_list made.items made.spare)
+    rw c.in-Insert.is (in_list, omega (arith, some, whole), made.items, made.slot_rule)
 
 pub returns-in-Remove-clause-step : goal.returns-in-Remove-clause-step
 returns-in-Remove-clause-step g c =
     let old = view_of g.S.Slots c.args.vec.now in
     let made = c.remove.ensures in
     let in_list : c.in-Remove.i < len_in old = omega (arith, c.len-in-Remove.ensures.value) in
-    rw c.in-Remove.is (slice_get_read (items_in old) _ c.in-Remove.i _ refl in_list made.value, made.becomes.items, slots_removed g.S.Item.Default.is_default old (view_of g.S.Slots c.remove.new.self) c.in-Remove.i in_list made.becomes.items made.becomes.spare)
+    rw c.in-Remove.is (slice_get_read (items_in old) _ c.in-Remove.i _ refl in_list made.value, made.becomes.items, made.becomes.slot_rule)
 
 pub returns-in-SwapRemove-clause-step : goal.returns-in-SwapRemove-clause-step
 returns-in-SwapRemove-clause-step g c =
     let old = view_of g.S.Slots c.args.vec.now in
     let made = c.swap_remove.ensures in
-    rw c.in-SwapRemove.is (swap_removes g.S.Item.Default.is_default (length (all_slots old)) old (view_of g.S.Slots c.swap_remove.new.self)
-    c.in-SwapRemove.i c.swap_remove.result (omega (arith, c.len-in-SwapRemove.ensures.value)) made.value made.becomes.items made.becomes.spare)
+    let in_list : c.in-SwapRemove.i < len_in old = omega (arith, c.len-in-SwapRemove.ensures.value) in
+    rw c.in-SwapRemove.is (slice_get_read (items_in old) _ c.in-SwapRemove.i _ refl in_list made.value, made.becomes.items, made.becomes.slot_rule)
 
 pub returns-in-Drain-clause-step : goal.returns-in-Drain-clause-step
 returns-in-Drain-clause-step g c =
@@ -54,8 +53,7 @@ returns-in-Drain-clause-step g c =
     let in_order : i ≤ j = omega arith in
     let in_list : j ≤ len_in old = omega arith in
     let taken = left.moved ∙ ap (λ xs. xs ++ removed (items_in old) (Included i) (Excluded j)) c.in-Ok.ensures.items in
-    let made = drains g.S.Item.Default.is_default (length (all_slots old)) old (view_of g.S.Slots c.drain_into.new.self) i j c.drain_into.new.out.items in_order in_list taken left.becomes.items left.becomes.spare in
-    rw c.in-Drain.is ((in_order, in_list), made.0, made.1)
+    rw c.in-Drain.is ((in_order, in_list), record { given_are = taken; items_are = left.becomes.items }, left.becomes.slot_rule)
 
 pub returns-then-is_full-clause-step : goal.returns-then-is_full-clause-step
 returns-then-is_full-clause-step g c = grind (arith, common_steps)
@@ -65,9 +63,8 @@ returns-then-is_full-2-clause-step g c = grind (arith, common_steps)
 
 pub returns-in-Truncate-clause-step : goal.returns-in-Truncate-clause-step
 returns-in-Truncate-clause-step g c =
-    let old = view_of g.S.Slots c.args.vec.now in
     let made = c.truncate.ensures in
-    rw c.in-Truncate.is (truncates g.S.Item.Default.is_default (length (all_slots old)) old (view_of g.S.Slots c.truncate.new.self) c.in-Truncate.n made.items made.spare)
+    rw c.in-Truncate.is (made.items, made.slot_rule)
 
 pub drain_into-requires-clause-room : goal.drain_into-requires-clause-room
 drain_into-requires-clause-room g c = grind (arith, common_steps)
@@ -87,7 +84,7 @@ returns-in-Ok-drive_splice-clause-step g c =
     let answered = c.answer_driven.ensures in
     let driven = c.in-Ok-drive_splice.driven in
     let made = rw c.as_slice.ensures.value at c.in-Ok-drive_splice.ensures.splices in
-    let same = made.grown.lender.slot_count in
+    let same = ap (λ p. p.capacity) made.grown.place in
     let did : DrivenSplices items_in (SlotRule D) capacity old start end word.items replacement.items driven.yields.items driven.rest.items new = record {
       list = subst (λ n. ListSplices n (items_in old) start end word.items replacement.items driven.yields.items driven.rest.items (items_in new)) same made.list;
       grown = made.grown.slot_rule;

@@ -1,14 +1,14 @@
 use Rattle.std.proofs.Common.{◌≡◌, ◌+◌, ◌-◌, ◌++◌, length, take, drop, slice_range, refl, ap, subst, ◌∙◌, arith, rules}
 use Rattle.tinyvec_slots.specs.Ranges.{range_end, before, removed, after}
 use Rattle.tinyvec_slots.proofs.DrainLemmas.{begins_as}
-use Rattle.tinyvec.specs.TinyVec.{tiny_items_of, tiny_view_of}
+use Rattle.tinyvec.specs.TinyVec.{view}
 use Rattle.tinyvec.specs.View.{Becomes}
 use Rattle.tinyvec.proofs.drain.TinyVec+A.drain.Goals as goal
 
 pub returns-clause-begins : goal.returns-clause-begins
 returns-clause-begins g c =
     let v = c.args.self in
-    let xs = tiny_items_of g.A.Slots v.now in
+    let xs = (view g.A.Slots v.now).items in
     let part = c.resolve_range-part.result in
     let from = g.R.RangeBounds.start_bound c.args.range in
     let to = g.R.RangeBounds.end_bound c.args.range in
@@ -20,4 +20,4 @@ returns-clause-begins g c =
     let left : take part.start xs ++ drop (part.start + (part.end - part.start)) xs ≡ before xs from ++ after xs to =
     ap (λ k. take part.start xs ++ drop k xs) all ∙ ap (λ k. take k xs ++ after xs to) start in
     begins_as _ v v _ _ _ _ _ _ c.drain_held.result c.drain_held.ensures.begins refl inside around
-    (λ u. subst (Becomes g.A.Item.Default.is_default (tiny_view_of g.A.Slots v.now) (tiny_view_of g.A.Slots u)) left)
+    (λ u. subst (Becomes g.A.Item.Default.is_default (view g.A.Slots v.now) (view g.A.Slots u)) left)

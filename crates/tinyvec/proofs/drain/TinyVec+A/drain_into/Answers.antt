@@ -1,7 +1,7 @@
 use Rattle.std.proofs.Common.{◌≡◌, ◌+◌, ◌-◌, ◌++◌, ◌≤◌, length, take, drop, ap, subst, ◌∙◌, arith, rules, length-append, length-take-le, append_assoc, take_at, drop_at}
 use Rattle.std.specs.List.{remove_range}
 use Rattle.tinyvec_slots.specs.Ranges.{range_end, before, after}
-use Rattle.tinyvec.specs.TinyVec.{tiny_items_of, tiny_view_of}
+use Rattle.tinyvec.specs.TinyVec.{view}
 use Rattle.tinyvec.specs.View.{Becomes}
 use Rattle.tinyvec.specs.FrameLaws.{tiny_items-with, tiny_framed-with}
 use Rattle.tinyvec.specs.Lends.{tiny_with_items}
@@ -10,11 +10,11 @@ use Rattle.tinyvec.proofs.drain.TinyVec+A.drain_into.Goals as goal
 
 pub returns-clause-becomes : goal.returns-clause-becomes
 returns-clause-becomes g c =
-    let view = tiny_view_of g.A.Slots in
+    let see = view g.A.Slots in
     let D = g.A.Item.Default.is_default in
     let v = c.args.self.now in
     let new = c.end_drain.new.self in
-    let xs = tiny_items_of g.A.Slots v in
+    let xs = (view g.A.Slots v).items in
     let i = c.resolve_range-part.result.start in
     let j = c.resolve_range-part.result.end in
     let start = c.resolve_range-part.ensures.start in
@@ -31,5 +31,5 @@ returns-clause-becomes g c =
     let front = ap (take i) (is ∙ append_assoc (take i xs) ds (drop j xs)) ∙ take_at (take i xs) (ds ++ drop j xs) i first in
     let back = ap (drop (i + (j - i))) is ∙ drop_at (take i xs ++ ds) (drop j xs) (i + (j - i)) (length-append (take i xs) ds ∙ omega (arith, first, after_is.1.0)) in
     let around : take i xs ++ drop j xs ≡ before xs (g.R.RangeBounds.start_bound c.args.range) ++ after xs (g.R.RangeBounds.end_bound c.args.range) = search rules in
-    subst (Becomes D (view v) (view new)) (ap (λ l. remove_range l i (i + (j - i))) (tiny_items-with g.A.Slots v ws long) ∙ (λ k. front k ++ back k) ∙ around)
-    (frame_becomes D (view v) (view (tiny_with_items g.A.Slots v ws)) (view new) _ (tiny_framed-with g.A.Slots v ws long) c.end_drain.ensures)
+    subst (Becomes D (see v) (see new)) (ap (λ l. remove_range l i (i + (j - i))) (tiny_items-with g.A.Slots v ws long) ∙ (λ k. front k ++ back k) ∙ around)
+    (frame_becomes D (see v) (see (tiny_with_items g.A.Slots v ws)) (see new) _ (tiny_framed-with g.A.Slots v ws long) c.end_drain.ensures)

@@ -4,7 +4,7 @@ use Rattle.std.proofs.lemmas.List.Elements.{All-drop}
 use Rattle.std.specs.Prelude.{IsTrue}
 use Rattle.tinyvec_slots.proofs.CloneLemmas.{on_err}
 use Rattle.tinyvec.proofs.CloneLemmas.{appends_alone}
-use Rattle.tinyvec.specs.TinyVec.{tiny_items_of, tiny_spare_of}
+use Rattle.tinyvec.specs.TinyVec.{view}
 use Rattle.tinyvec.proofs.tiny_vec.TinyVec+A.from_slice.Goals as goal
 
 pub returns-in_err-extend_reserved-clause-refused : goal.returns-in_err-extend_reserved-clause-refused
@@ -16,16 +16,16 @@ pub returns-clause-items : goal.returns-clause-items
 returns-clause-items g c =
     let C = g.A.Item.Clone.is_clone in
     let first = c.in_ok-vec in
-    let new = tiny_items_of g.A.Slots c.extend_reserved.new.self in
-    are_clones C c.args.slice.now new (appends_alone C (tiny_items_of g.A.Slots first.vec) new c.args.slice.now first.ensures.items c.in_ok-extend_reserved.ensures.items)
+    let new = (view g.A.Slots c.extend_reserved.new.self).items in
+    are_clones C c.args.slice.now new (appends_alone C (view g.A.Slots first.vec).items new c.args.slice.now first.ensures.items c.in_ok-extend_reserved.ensures.items)
 
 pub returns-clause-made : goal.returns-clause-made
 returns-clause-made g c =
     let n = length c.args.slice.now in
     let behind = c.in_ok-extend_reserved.ensures.spare in
-    let spare = tiny_spare_of g.A.Slots c.in_ok-vec.vec in record {
+    let spare = (view g.A.Slots c.in_ok-vec.vec).spare in record {
       spare = λ inline.
-          let defaults = c.in_ok-vec.ensures.made.spare (subst IsTrue c.extend_reserved.ensures.place inline) in (
+          let defaults = c.in_ok-vec.ensures.made.spare (subst IsTrue (ap (λ p. p.inline) c.extend_reserved.ensures.place) inline) in (
             omega (arith, ap length behind, length-drop n spare, defaults.0),
             subst (All g.A.Item.Default.is_default) (sym behind) (All-drop g.A.Item.Default.is_default n spare defaults.1),
           );

@@ -12,9 +12,9 @@ module _ {T : Type 0} (D : T → Type 0) (slots n : ℕ) (xs : List T) (v : Tiny
 
   made : MadeFor D slots n n v
   made =
-      let room : v.place.capacity ≡ slots = omega (arith, h.capacity, length-take n xs, length-drop n xs, whole, le) in record {
+      let room : v.place.capacity ≡ slots = omega (arith, ap (λ p. p.capacity) h.place, length-take n xs, length-drop n xs, whole, le) in record {
         spare = λ _. (omega (arith, ap length h.spare, length-drop n xs, whole), subst (All D) (sym h.spare) (All-drop D n xs all));
-        place = (λ _. le, λ _. h.place);
+        place = (λ _. le, λ _. ap (λ p. p.inline) h.place);
         enough = omega (arith, room, le);
         exact = omega (arith, room, le);
       }

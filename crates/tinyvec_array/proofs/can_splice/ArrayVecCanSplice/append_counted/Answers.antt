@@ -1,7 +1,9 @@
-use Rattle.std.proofs.Common.{◌≡◌, ℕ, ◌+◌, ◌-◌, ◌≤◌, List, ◌++◌, length, take, drop, sym, ap, subst, ◌∙◌, arith, length-append, drop-drop}
+use Rattle.std.proofs.Common.{refl, ◌≡◌, ℕ, ◌+◌, ◌-◌, ◌≤◌, List, ◌++◌, length, take, drop, sym, ap, subst, ◌∙◌, arith, length-append, drop-drop}
 use Rattle.tinyvec_slots.specs.Slots.{items_in, spare_in, split_at}
 use Rattle.tinyvec_slots.proofs.BorderLemmas.{list_to, spare_from}
-use Rattle.tinyvec_array.specs.ArrayVec.{view_of, slots_of, Changes}
+use Rattle.tinyvec_array.specs.ArrayVec.{view_of, slots_of}
+use Rattle.tinyvec_array.specs.View.{view, StaysInPlace}
+use Rattle.tinyvec_array.specs.ViewLaws.{one_place}
 use Rattle.tinyvec_array.proofs.ViewLemmas.{grown}
 use Rattle.tinyvec_array.proofs.can_splice.ArrayVecCanSplice.append_counted.Goals.{After-set_len}
 use Rattle.tinyvec_array.proofs.can_splice.ArrayVecCanSplice.append_counted.Goals as goal
@@ -44,17 +46,13 @@ module _ (g : _) (c : After-set_len g) where
   all : length (slots_of g.S.Slots c.set_len.new.self) ≡ length c.as_mut_slots.result.now
   all = c.set_len.ensures.lender.slot_count ∙ ap length (g.S.Slots.slots_written c.args.self.now.slots ys) ∙ c.append-end.auto.slots
 
-  is_grown : Changes g.S.Slots g.S.Item.Default.is_default c.args.self.now c.set_len.new.self
+  is_grown : StaysInPlace g.S.Item.Default.is_default (view g.S.Slots c.args.self.now) (view g.S.Slots c.set_len.new.self)
   is_grown =
       let size = ap length shown in
-      grown g.S.Slots g.S.Item.Default.is_default c.args.self.now c.set_len.new.self c.append-end.ensures.placed.0 items (record {
-        lender = record {
-          same_reference = c.set_len.ensures.lender.same_reference ∙ g.S.Slots.name_kept c.args.self.now.slots ys;
-          slot_count = all ∙ size;
-        };
-        spare = subst (λ w. spare_in w ≡ drop (length (items_in w) - length (take k xs)) (drop k xs)) (sym viewed) (used k c.len-len.result xs ys c.append-end.ensures.placed.0 c.append-end.result c.len-len.ensures.value c.append-end.ensures.bounds.0
-            (rw shown at c.append-end.ensures.placed.1) c.append-end.ensures.placed.2 (rw shown at c.append-end.ensures.behind));
-      })
+      let place = one_place refl (all ∙ size) (c.set_len.ensures.lender.same_reference ∙ g.S.Slots.name_kept c.args.self.now.slots ys) in
+      let behind = subst (λ w. spare_in w ≡ drop (length (items_in w) - length (take k xs)) (drop k xs)) (sym viewed) (used k c.len-len.result xs ys c.append-end.ensures.placed.0 c.append-end.result c.len-len.ensures.value c.append-end.ensures.bounds.0
+      (rw shown at c.append-end.ensures.placed.1) c.append-end.ensures.placed.2 (rw shown at c.append-end.ensures.behind)) in
+      grown g.S.Slots g.S.Item.Default.is_default c.args.self.now c.set_len.new.self c.append-end.ensures.placed.0 items behind place
 
 pub returns-in-Some-clause-ran : goal.returns-in-Some-clause-ran
 returns-in-Some-clause-ran g c =

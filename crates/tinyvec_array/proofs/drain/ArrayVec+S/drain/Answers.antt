@@ -1,9 +1,10 @@
-use Rattle.std.proofs.Common.{◌≡◌, ◌+◌, ◌-◌, ◌≤◌, ◌++◌, length, take, drop, refl, sym, ap, ◌∙◌, zero-le, arith, length-append, take_at, drop_at}
+use Rattle.std.proofs.Common.{◌≡◌, ◌+◌, ◌-◌, ◌≤◌, ◌++◌, length, take, drop, refl, ap, ◌∙◌, zero-le, arith, length-append, take_at, drop_at}
 use Rattle.tinyvec_slots.specs.Ranges.{removed}
 use Rattle.tinyvec_slots.proofs.DrainLemmas.{begins_as}
 use Rattle.tinyvec_array.specs.ArrayVec.{items_of, spare_of}
 use Rattle.tinyvec_array.specs.DrainLaws.{drain_of}
-use Rattle.tinyvec_array.proofs.ViewLemmas.{SameLender-then}
+use Rattle.tinyvec_array.specs.ViewLaws.{becomes, same_place, rule_freed}
+use Rattle.tinyvec_array.proofs.ViewLemmas.{SameLender-then, fewer}
 use Rattle.tinyvec_array.proofs.drain.ArrayVec+S.drain.Goals as goal
 
 pub drain_held-requires : goal.drain_held-requires
@@ -25,11 +26,12 @@ returns-clause-begins g c =
     begins_as (drain_of g.S.Slots g.S.Item.Default.is_default) _ c.args.self _ _ _ _ _ _ c.drain_held.result c.drain_held.ensures.begins refl taken rest
     (λ u ended.
     let none_before : 0 + (n - 0) ≡ n = omega arith in
-    let left = ended.1 (omega (arith, within)) in record {
-      lender = SameLender-then g.S.Slots c.args.self.now cut.new.self u cut.ensures.lender ended.0.0;
-      items = ended.0.1 ∙ cut.ensures.items;
-      spare = (left.0, (left.1.0 ∙ none ∙ sym cut.ensures.count, left.1.1), left.2 ∙ ap (λ m. left.0 ++ drop m spare) none_before ∙ ap (λ xs. left.0 ++ xs) rest);
-    })
+    let left = ended.1 (omega (arith, within)) in
+    let lender = SameLender-then g.S.Slots c.args.self.now cut.new.self u cut.ensures.lender ended.0.0 in
+    let listed = ended.0.1 ∙ cut.ensures.items in
+    let gone = fewer (items_of g.S.Slots c.args.self.now) (g.R.RangeBounds.start_bound c.args.range) (g.R.RangeBounds.end_bound c.args.range) c.requires.in_list in
+    becomes g.S.Slots g.S.Item.Default.is_default c.args.self.now u (same_place g.S.Slots c.args.self.now u lender)
+    (rule_freed g.S.Item.Default.is_default _ _ _ _ n (omega (arith, gone, ap length listed, cut.ensures.count)) (left.0, (left.1.0 ∙ none, left.1.1), left.2 ∙ ap (λ m. left.0 ++ drop m spare) none_before ∙ ap (λ xs. left.0 ++ xs) rest)) _ listed)
 
 pub returns-clause-lender : goal.returns-clause-lender
 returns-clause-lender g c = rw c.drain_held.ensures.vec c.cut_out-count.ensures.lender

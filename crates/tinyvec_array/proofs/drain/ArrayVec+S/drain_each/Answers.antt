@@ -1,8 +1,11 @@
-use Rattle.std.proofs.Common.{refl, sym, ap, ◌∙◌, subst, of_calls, rules}
+use Rattle.std.proofs.Common.{◌++◌, refl, sym, ap, ◌∙◌, subst, of_calls, rules}
 use Rattle.std.specs.Fn.{Called}
 use Rattle.std.specs.List.{FoldsTo}
 use Rattle.tinyvec_slots.specs.Drain.{DrainKeeps, drain_items}
 use Rattle.tinyvec_slots.proofs.DrainLemmas.{DrainKeeps-then}
+use Rattle.tinyvec_slots.specs.Ranges.{before, after}
+use Rattle.tinyvec_array.specs.ArrayVec.{items_of}
+use Rattle.tinyvec_array.specs.View.{view, Becomes}
 use Rattle.tinyvec_array.specs.DrainLaws.{drain_of, drain_kept_then}
 use Rattle.tinyvec_array.proofs.drain.ArrayVec+S.drain_each.Goals as goal
 
@@ -34,8 +37,6 @@ returns-clause-becomes g c =
     let keeps = subst (λ d. DrainKeeps (drain_of g.S.Slots g.S.Item.Default.is_default) d c.loop-x.x-iterator) c.into_iter-x-iterator.ensures.into_iter_gives c.loop-x.invariant.keeps in
     let lost = c.drain-x-items.ensures.begins.leaves new (keeps.leaves new (c.in-None.ensures.steps.1.leaves new c.drop-x-iterator.ensures)) in
     let same = c.in-None.ensures.steps.1.same_reference ∙ keeps.same_reference in
-    let named = lost.lender.same_reference in
-    let count = lost.lender.slot_count in
-    let listed = lost.items in
-    let freed = lost.spare.2 in
-    record { lender = record { same_reference = search rules; slot_count = search rules }; items = search rules; spare = (lost.spare.0, lost.spare.1, search rules) }
+    subst (λ w. Becomes g.S.Item.Default.is_default (view g.S.Slots c.args.self.now) (view g.S.Slots w)
+    (before (items_of g.S.Slots c.args.self.now) (g.R.RangeBounds.start_bound c.args.range) ++ after (items_of g.S.Slots c.args.self.now) (g.R.RangeBounds.end_bound c.args.range)))
+    (search rules) lost

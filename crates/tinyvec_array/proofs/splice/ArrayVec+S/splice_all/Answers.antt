@@ -1,7 +1,8 @@
 use Rattle.std.proofs.Common.{subst, rules}
 use Rattle.std.specs.Iterator.Adapters.{fuse_source}
 use Rattle.tinyvec_slots.proofs.ReplacingLemmas.{between}
-use Rattle.tinyvec_array.specs.ArrayVec.{items_of, Changes}
+use Rattle.tinyvec_array.specs.ArrayVec.{items_of}
+use Rattle.tinyvec_array.specs.View.{view, StaysInPlace}
 use Rattle.tinyvec_slots.specs.Splice.{splice_replacement, splice_view}
 use Rattle.tinyvec_slots.proofs.SpliceLemmas.{puts_listed}
 use Rattle.tinyvec_array.proofs.splice.ArrayVec+S.splice_all.Goals as goal
@@ -19,7 +20,8 @@ pub returns-clause-changes : goal.returns-clause-changes
 returns-clause-changes g c =
     let made = c.splice-splice.ensures in
     let lender = made.same_reference in
-    let ruled : Changes g.S.Slots g.S.Item.Default.is_default c.args.self.now c.finish.new.self.0 = subst (λ v. Changes g.S.Slots g.S.Item.Default.is_default v c.finish.new.self.0) made.slots c.finish.ensures.changes in
+    let ruled : StaysInPlace g.S.Item.Default.is_default (view g.S.Slots c.args.self.now) (view g.S.Slots c.finish.new.self.0) =
+    subst (λ v. StaysInPlace g.S.Item.Default.is_default (view g.S.Slots v) (view g.S.Slots c.finish.new.self.0)) made.slots c.finish.ensures.changes in
     search rules
 
 pub returns-clause-known : goal.returns-clause-known

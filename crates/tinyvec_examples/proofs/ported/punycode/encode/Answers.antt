@@ -14,7 +14,7 @@ points-init c =
     let written : c.if-basic_count-gt0.output.bytes ≡ delimited basic =
     elim c.if-basic_count-gt0.branch [
       | then-basic_count-gt0+in_ok-push w ↦
-          rw (w.output-is, delimited_some basic (omega arith)) (w.in_ok-push.ensures.bytes ∙ ap (λ x. c.write_basic.new.output.bytes ++ x) (encode_ascii 45 (omega arith)) ∙ ap (λ x. x ++ 45 ∷ []) front)
+          rw (w.output-is, delimited_some basic (omega arith)) (w.in_ok-push.ensures.grows.ok.bytes ∙ ap (λ x. c.write_basic.new.output.bytes ++ x) (encode_ascii 45 (omega arith)) ∙ ap (λ x. x ++ 45 ∷ []) front)
       | else-basic_count-gt0 w ↦ rw (w.output-is, delimited_none basic (omega arith)) front
     ] in
     (encodes_start _ _ _ r.count written, r.next, omega arith, omega arith)

@@ -21,7 +21,7 @@ loop-c-preserved c =
       | then-c-lt-INITIAL_N+in_ok-push w ↦
           let more = front ∙ ap (λ y. below 128 (take at input) ++ y) (below_below 128 x [] w.if-c-lt-INITIAL_N.true) in
           rw (w.output-is, w.count-is, w.next-is, more) (
-            w.in_ok-push.ensures.bytes ∙ ap (λ y. c.loop-c.output.bytes ++ y) (encode_ascii x (omega arith)) ∙ ap (λ y. y ++ x ∷ []) c.loop-c.invariant.0 ∙ append_assoc c.args.output.now.bytes (below 128 (take at input)) (x ∷ []),
+            w.in_ok-push.ensures.grows.ok.bytes ∙ ap (λ y. c.loop-c.output.bytes ++ y) (encode_ascii x (omega arith)) ∙ ap (λ y. y ++ x ∷ []) c.loop-c.invariant.0 ∙ append_assoc c.args.output.now.bytes (below 128 (take at input)) (x ∷ []),
             omega (arith, length_push (below 128 (take at input)) x),
             omega (arith, least_from_below 128 x (drop (at + 1) input) w.if-c-lt-INITIAL_N.true),
             omega arith,

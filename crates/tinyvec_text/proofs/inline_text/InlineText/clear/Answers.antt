@@ -1,11 +1,9 @@
-use Rattle.std.proofs.Common.{ap, ◌∙◌, chars, rules}
 use Rattle.std.proofs.lemmas.Str.{chars-nil, IsUtf8-nil}
-use Rattle.tinyvec_text.proofs.Lists.{text_stays}
+use Rattle.tinyvec_text.proofs.Lists.{text_stays, text_becomes}
 use Rattle.tinyvec_text.proofs.inline_text.InlineText.clear.Goals as goal
 
 pub returns : goal.returns
-returns g c = record { bytes = search rules; text = ap chars c.clear.ensures.items ∙ chars-nil; frame = search rules }
+returns g c = text_becomes c.self.inside.list c.clear.new.self c.args.self.now _ _ c.self.view_is c.clear.ensures chars-nil
 
 pub invariant_of-self : goal.invariant_of-self
-invariant_of-self g c =
-    text_stays c.self.inside.list c.clear.new.self _ c.clear.ensures c.self.invariant IsUtf8-nil
+invariant_of-self g c = text_stays c.self.inside.list c.clear.new.self _ c.clear.ensures c.self.invariant IsUtf8-nil

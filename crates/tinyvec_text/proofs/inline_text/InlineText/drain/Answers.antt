@@ -2,7 +2,7 @@ use Rattle.std.proofs.Common.{◌++◌, IsUtf8, ap, sym, subst, ◌∙◌, chars
 use Rattle.std.specs.Prelude.{slice_range}
 use Rattle.std.proofs.lemmas.Str.{IsUtf8-append, IsUtf8-nil, chars-append}
 use Rattle.tinyvec.specs.TinyVec.{tiny_items}
-use Rattle.tinyvec_text.proofs.Lists.{CutsAt, text_range, text_made, text_stays}
+use Rattle.tinyvec_text.proofs.Lists.{CutsAt, text_range, text_made, text_stays, text_unmoved}
 use Rattle.tinyvec_text.proofs.inline_text.InlineText.drain.Goals.{After-resolve_range-part}
 use Rattle.tinyvec_text.proofs.inline_text.InlineText.drain.Goals as goal
 
@@ -35,3 +35,6 @@ pub returns-clause-text : goal.returns-clause-text
 returns-clause-text g c =
     let cut = cuts g (goal.at.returns-clause-text g c).After-resolve_range-part in
     ap chars c.remove_bytes.ensures.items ∙ chars-append _ _ cut.utf8.0 ∙ (λ i. chars (cut.front i) ++ chars (cut.back i))
+
+pub returns-clause-frame : goal.returns-clause-frame
+returns-clause-frame g c = text_unmoved c.self.inside.list c.remove_bytes.new.list c.args.self.now _ c.self.view_is c.remove_bytes.ensures

@@ -4,7 +4,7 @@ use Rattle.std.proofs.lemmas.Str.{IsUtf8-take, IsUtf8-encode, chars-append}
 use Rattle.tinyvec.specs.TinyVec.{tiny_items}
 use Rattle.tinyvec_text.specs.InlineText.{text_chars}
 use Rattle.tinyvec_text.proofs.Boundaries.{chars_of_one, one_ascii}
-use Rattle.tinyvec_text.proofs.Lists.{text_utf8, text_stays, zero_becomes}
+use Rattle.tinyvec_text.proofs.Lists.{text_utf8, text_stays, text_unmoved, zero_becomes}
 use Rattle.tinyvec_text.proofs.Wide.{popped_ascii}
 use Rattle.tinyvec_text.proofs.inline_text.InlineText.pop.Goals as goal
 
@@ -49,3 +49,6 @@ returns-clause-text g c =
     let scalar : IsScalar x = search rules in
     let one = chars_of_one (encode_utf8 x) x (IsUtf8-encode x scalar) refl in
     sym (ap text_chars c.self.view_is) ∙ ap chars parts ∙ chars-append left (encode_utf8 x) c.pop_wide.ensures.front ∙ ap (λ cs. chars left ++ cs) one
+
+pub returns-then-last-lt128-clause-frame : goal.returns-then-last-lt128-clause-frame
+returns-then-last-lt128-clause-frame g c = text_unmoved c.self.inside.list c.pop.new.self c.args.self.now _ c.self.view_is c.pop.ensures.becomes

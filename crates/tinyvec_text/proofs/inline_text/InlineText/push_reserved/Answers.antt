@@ -1,9 +1,9 @@
-use Rattle.std.proofs.Common.{◌++◌, ◌∷◌, [], ap, ◌∙◌, chars, rules}
+use Rattle.std.proofs.Common.{◌++◌, ap, refl, ◌∙◌, chars, rules}
 use Rattle.std.proofs.lemmas.Str.{IsUtf8-append, chars-append, encode_ascii}
 use Rattle.tinyvec.specs.TinyVec.{tiny_items}
-use Rattle.tinyvec_text.specs.InlineText.{Text, text_chars}
+use Rattle.tinyvec_text.specs.InlineText.{text_chars}
 use Rattle.tinyvec_text.proofs.Boundaries.{chars_of_one, one_ascii}
-use Rattle.tinyvec_text.proofs.Lists.{text_utf8, text_stays}
+use Rattle.tinyvec_text.proofs.Lists.{text_utf8, text_stays, text_becomes}
 use Rattle.tinyvec_text.proofs.inline_text.InlineText.push_reserved.Goals as goal
 
 pub invariant_of-self : goal.invariant_of-self
@@ -14,17 +14,15 @@ invariant_of-self g c =
 pub returns-then-is_ascii-clause-becomes : goal.returns-then-is_ascii-clause-becomes
 returns-then-is_ascii-clause-becomes g c =
     let list = c.self.inside.list in
-    let own = encode_ascii c.args.ch (search rules) in
-    record {
-      bytes = search rules;
-      text = ap chars c.push_reserved.ensures.items ∙ chars-append _ _ (text_utf8 list c.self.invariant)
-          ∙ ap (λ cs. chars (tiny_items list) ++ cs) (one_ascii c.args.ch (search rules)).1 ∙ ap (λ (t : Text). text_chars t ++ c.args.ch ∷ []) c.self.view_is;
-      frame = search rules;
-    }
+    let spelled = chars-append _ _ (text_utf8 list c.self.invariant) ∙ ap (λ cs. chars (tiny_items list) ++ cs) (one_ascii c.args.ch (search rules)).1 in
+    rw (← c.self.view_is, encode_ascii c.args.ch (search rules)) (text_becomes list c.push_reserved.new.self _ _ _ refl c.push_reserved.ensures spelled)
 
 pub returns-clause-becomes : goal.returns-clause-becomes
-returns-clause-becomes g c = record {
-  bytes = search rules;
-  text = c.push_str_reserved.ensures.text ∙ ap (λ cs. text_chars c.args.self.now ++ cs) (chars_of_one _ c.args.ch c.encode_utf8.utf8 c.encode_utf8.ensures.value);
-  frame = c.push_str_reserved.ensures.frame;
-}
+returns-clause-becomes g c =
+    let put = c.push_str_reserved.ensures in
+    record {
+      bytes = search rules;
+      text = put.text ∙ ap (λ cs. text_chars c.args.self.now ++ cs) (chars_of_one _ c.args.ch c.encode_utf8.utf8 c.encode_utf8.ensures.value);
+      place = put.place;
+      fits = put.fits;
+    }

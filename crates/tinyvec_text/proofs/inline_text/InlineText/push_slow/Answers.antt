@@ -1,18 +1,23 @@
-use Rattle.std.proofs.Common.{◌++◌, ◌∷◌, [], ap, ◌∙◌, rules}
-use Rattle.tinyvec_text.specs.InlineText.{text_chars}
+use Rattle.std.proofs.Common.{◌++◌, ◌∷◌, [], ap, refl, ◌∙◌, chars, Ok, rules}
+use Rattle.std.proofs.lemmas.Str.{IsUtf8-append, chars-append, encode_ascii}
+use Rattle.tinyvec.specs.TinyVec.{tiny_items}
+use Rattle.tinyvec.specs.View.{Doubled}
 use Rattle.tinyvec_text.proofs.Boundaries.{one_ascii}
-use Rattle.tinyvec_text.proofs.Lists.{text_same, text_joined, chars_joined}
+use Rattle.tinyvec_text.proofs.Lists.{ascii_growth, text_utf8, text_same, text_grown, text_grows}
 use Rattle.tinyvec_text.proofs.inline_text.InlineText.push_slow.Goals as goal
 
 pub invariant_of-self : goal.invariant_of-self
-invariant_of-self g c = text_same c.self.inside.list c.push.new.self c.in_err-push.ensures.room.refused c.self.invariant
+invariant_of-self g c = text_same c.self.inside.list c.push.new.self c.in_err-push.ensures.err.1 c.self.invariant
 
 pub invariant_of-self-then-is_ascii : goal.invariant_of-self-then-is_ascii
 invariant_of-self-then-is_ascii g c =
-    text_joined c.self.inside.list c.push.new.self c.args.self.now c.self.view_is c.self.invariant (c.args.ch ∷ []) (one_ascii c.args.ch (search rules)).0 (search rules) c.in_ok-push.ensures.room.gets
+    let utf8 = text_utf8 c.self.inside.list c.self.invariant in
+    text_grown Doubled _ c.self.inside.list c.push.new.self _ c.in_ok-push.ensures.ok c.self.invariant (IsUtf8-append _ _ utf8 (one_ascii c.args.ch (search rules)).0)
 
-pub returns-then-is_ascii-clause-text : goal.returns-then-is_ascii-clause-text
-returns-then-is_ascii-clause-text g c =
-    let one = one_ascii c.args.ch (search rules) in
-    chars_joined c.self.inside.list c.push.new.self c.args.self.now c.self.view_is c.self.invariant (c.args.ch ∷ []) one.0 (search rules)
-    ∙ ap (λ cs. text_chars c.args.self.now ++ cs) one.1
+pub returns-then-is_ascii : goal.returns-then-is_ascii
+returns-then-is_ascii g c =
+    let list = c.self.inside.list in
+    let x = c.args.ch in
+    let spelled = chars-append _ _ (text_utf8 list c.self.invariant) ∙ ap (λ cs. chars (tiny_items list) ++ cs) (one_ascii x (search rules)).1 in
+    rw (← c.self.view_is, encode_ascii x (search rules), ascii_growth x (search rules))
+    (text_grows Doubled _ list c.push.new.self (tiny_items list ++ x ∷ []) _ (Ok tt) (record { ok = c.in_ok-push.ensures.ok; refused = tt; succeeds = λ _. refl }) spelled)

@@ -4,7 +4,7 @@ use Rattle.std.specs.String.Boundary.{IsSplitPoint}
 use Rattle.tinyvec.specs.TinyVec.{tiny_items}
 use Rattle.tinyvec_text.specs.InlineText.{Text, text_chars, IsFirstChar}
 use Rattle.tinyvec_text.proofs.Boundaries.{from_there, chars_here, utf8_gap, chars_gap}
-use Rattle.tinyvec_text.proofs.Lists.{text_utf8, text_cut, text_stays}
+use Rattle.tinyvec_text.proofs.Lists.{text_utf8, text_cut, text_stays, text_unmoved}
 use Rattle.tinyvec_text.proofs.inline_text.InlineText.remove.Goals.{After-as_slice, After-first_char-c}
 use Rattle.tinyvec_text.proofs.inline_text.InlineText.remove.Goals as goal
 
@@ -40,3 +40,6 @@ returns-clause-text g c =
       sym (ap text_chars c.self.view_is) ∙ chars_here bs utf8 i split first ∙ ap (λ (t : Text). chars (take i t.bytes) ++ c.first_char-c.result.0 ∷ behind) c.self.view_is,
       ap chars c.remove_bytes.ensures.items ∙ chars_gap bs utf8 i split first ∙ ap (λ (t : Text). chars (take i t.bytes) ++ behind) c.self.view_is,
     )
+
+pub returns-clause-frame : goal.returns-clause-frame
+returns-clause-frame g c = text_unmoved c.self.inside.list c.remove_bytes.new.list c.args.self.now _ c.self.view_is c.remove_bytes.ensures

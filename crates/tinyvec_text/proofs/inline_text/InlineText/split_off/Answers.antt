@@ -3,7 +3,7 @@ use Rattle.std.proofs.CharBoundary.{IsUtf8-take-drop}
 use Rattle.tinyvec.specs.TinyVec.{tiny_items}
 use Rattle.tinyvec_text.specs.InlineText.{text_chars, IsText}
 use Rattle.tinyvec_text.proofs.Boundaries.{chars_cut}
-use Rattle.tinyvec_text.proofs.Lists.{text_utf8, text_cut, text_stays, text_made}
+use Rattle.tinyvec_text.proofs.Lists.{text_utf8, text_cut, text_stays, text_unmoved, text_made}
 use Rattle.tinyvec_text.proofs.inline_text.InlineText.split_off.Goals as goal
 
 pub split_bytes-requires : goal.split_bytes-requires
@@ -34,3 +34,9 @@ returns-clause-text g c =
     let told = c.in_ok-list.ensures in
     sym (ap text_chars c.self.view_is) ∙ chars_cut (tiny_items list) (text_utf8 list c.self.invariant) c.args.at cut
     ∙ sym (λ i. chars (told.becomes.items i) ++ chars (told.tail.items i))
+
+pub returns-clause-frame : goal.returns-clause-frame
+returns-clause-frame g c = text_unmoved c.self.inside.list c.split_bytes.new.list c.args.self.now _ c.self.view_is c.in_ok-list.ensures.becomes
+
+pub returns-in_err-list-clause-frame : goal.returns-in_err-list-clause-frame
+returns-in_err-list-clause-frame g c = text_unmoved c.self.inside.list c.split_bytes.new.list c.args.self.now _ c.self.view_is c.in_err-list.ensures.becomes

@@ -3,7 +3,7 @@ use Rattle.std.proofs.CharBoundary.{IsUtf8-take-drop}
 use Rattle.tinyvec.specs.TinyVec.{tiny_items}
 use Rattle.tinyvec_text.specs.InlineText.{text_chars}
 use Rattle.tinyvec_text.proofs.Boundaries.{chars_cut}
-use Rattle.tinyvec_text.proofs.Lists.{text_utf8, text_cut, text_stays}
+use Rattle.tinyvec_text.proofs.Lists.{text_utf8, text_cut, text_stays, text_unmoved}
 use Rattle.tinyvec_text.proofs.inline_text.InlineText.truncate.Goals as goal
 
 pub invariant_of-self : goal.invariant_of-self
@@ -22,7 +22,7 @@ returns g c =
       bytes = search rules;
       text = (rest, sym (ap text_chars c.self.view_is) ∙ chars_cut (tiny_items list) (text_utf8 list c.self.invariant) c.args.new_len cut ∙ ap (λ xs. chars xs ++ rest) (sym c.cut_off.ensures.items));
       len = ap length c.cut_off.ensures.items ∙ length-take-le c.args.new_len (tiny_items list) cut.0;
-      frame = search rules;
+      frame = text_unmoved list c.cut_off.new.list c.args.self.now _ c.self.view_is c.cut_off.ensures;
     }
 
 pub cut_off-requires : goal.cut_off-requires

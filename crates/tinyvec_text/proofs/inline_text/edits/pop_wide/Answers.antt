@@ -15,8 +15,7 @@ returns-then-third-ge192 g c =
     record {
       parts = put.parts ∙ ap (λ k. tiny_items c.pop.new.self ++ encode_utf8 k) (sym c.char_of.ensures);
       front = put.front;
-      place = search rules;
-      capacity = search rules;
+      place = c.pop.ensures.becomes.place;
       spare = zero_becomes c.args.list.now c.pop.new.self _ c.pop.ensures.becomes;
     }
 
@@ -46,8 +45,7 @@ returns-then-second-ge192 g c =
     record {
       parts = put.parts ∙ ap (λ k. xs ++ encode_utf8 k) (sym c.char_of-then-second-ge192.ensures);
       front = put.front;
-      place = search rules;
-      capacity = search rules;
+      place = c.pop-2.ensures.becomes.place ∙ c.pop.ensures.becomes.place;
       spare = λ zero.
           zero_becomes c.pop.new.self c.pop-2.new.self _ c.pop-2.ensures.becomes
           (zero_becomes c.args.list.now c.pop.new.self _ c.pop.ensures.becomes zero);
@@ -88,8 +86,7 @@ returns g c =
     record {
       parts = put.parts ∙ ap (λ k. tiny_items c.pop-3.new.self ++ encode_utf8 k) (sym c.char_of-2.ensures);
       front = put.front;
-      place = search rules;
-      capacity = search rules;
+      place = c.pop-3.ensures.becomes.place ∙ c.pop-2.ensures.becomes.place ∙ c.pop.ensures.becomes.place;
       spare = λ zero.
           zero_becomes c.pop-2.new.self c.pop-3.new.self _ c.pop-3.ensures.becomes
           (zero_becomes c.pop.new.self c.pop-2.new.self _ c.pop-2.ensures.becomes

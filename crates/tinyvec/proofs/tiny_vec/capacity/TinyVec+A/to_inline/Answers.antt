@@ -1,8 +1,10 @@
-use Rattle.std.proofs.Common.{rules, ◌≡◌, ◌+◌, ◌-◌, ◌∷◌, ◌++◌, [], length, ap, ◌∙◌, sym, arith, append_assoc, length-append, length-drop}
+use Rattle.std.proofs.Common.{rules, ◌≡◌, ◌+◌, ◌-◌, ◌∷◌, ◌++◌, [], length, drop, ap, ◌∙◌, sym, arith, append_assoc, length-append, length-drop}
 use Rattle.std.proofs.lemmas.List.{length_push}
 use Rattle.std.proofs.lemmas.List.Elements.{All-drop}
 use Rattle.std.specs.Vec.Iter.{drain_items}
 use Rattle.tinyvec_array.specs.ArrayVec.{items_of, spare_of, len_of}
+use Rattle.tinyvec_array.specs.View.{NothingVacated}
+use Rattle.tinyvec_array.specs.ViewLaws.{used_by}
 use Rattle.tinyvec_array.proofs.ViewLemmas.{parts_of}
 use Rattle.tinyvec.proofs.tiny_vec.capacity.TinyVec+A.to_inline.Goals as goal
 
@@ -15,7 +17,8 @@ loop-x-preserved g c =
     let put = c.push.ensures in
     let rest = drain_items c.next.new.self in
     let grown : len_of g.A.Slots c.push.new.self ≡ len_of g.A.Slots old + 1 = rw put.items (length_push (items_of g.A.Slots old) x) in
-    let less : length (spare_of g.A.Slots c.push.new.self) ≡ length (spare_of g.A.Slots old) - 1 = rw put.spare (length-drop 1 (spare_of g.A.Slots old)) in
+    let behind : spare_of g.A.Slots c.push.new.self ≡ drop 1 (spare_of g.A.Slots old) = used_by NothingVacated _ _ _ _ 1 grown (put.slot_rule) in
+    let less : length (spare_of g.A.Slots c.push.new.self) ≡ length (spare_of g.A.Slots old) - 1 = rw behind (length-drop 1 (spare_of g.A.Slots old)) in
     let all = ap length inv.moved in
     let moved : (items_of g.A.Slots old ++ x ∷ []) ++ rest ≡ items_of g.A.Slots old ++ drain_items c.loop-x.x-iterator = append_assoc (items_of g.A.Slots old) (x ∷ []) rest ∙ ap (λ xs. items_of g.A.Slots old ++ xs) (sym step.0) in
     let front = length-append (items_of g.A.Slots old) (drain_items c.loop-x.x-iterator) in
@@ -25,7 +28,7 @@ loop-x-preserved g c =
       ends = tt;
       moved = rw put.items (moved ∙ inv.moved);
       room = omega (arith, inv.room, c.requires);
-      defaults = rw (put.spare) (All-drop g.A.Item.Default.is_default 1 (spare_of g.A.Slots old) inv.defaults);
+      defaults = rw behind (All-drop g.A.Item.Default.is_default 1 (spare_of g.A.Slots old) inv.defaults);
     }
 
 pub returns : goal.returns

@@ -1,3 +1,4 @@
+use Rattle.std.specs.Prelude.{length}
 use Rattle.std.proofs.Common.{refl, sym, ap, ◌∙◌, arith, take-append-drop}
 use Rattle.std.proofs.lemmas.Bool.{false≢true}
 use Rattle.std.specs.List.{AllZip}
@@ -5,7 +6,8 @@ use Rattle.tinyvec_slots.specs.Clones.{are_clones}
 use Rattle.tinyvec_slots.proofs.CloneLemmas.{on_err}
 use Rattle.std.proofs.lemmas.Result.{IfOk-from_err}
 use Rattle.tinyvec.proofs.CloneLemmas.{appends_alone, spare_cloned}
-use Rattle.tinyvec.specs.TinyVec.{tiny_items_of, tiny_len_of, is_inline}
+use Rattle.tinyvec.specs.View.{in_array, on_heap}
+use Rattle.tinyvec.specs.TinyVec.{view}
 use Rattle.tinyvec_array.specs.ArrayVec.{items_of, spare_of, view_of}
 use Rattle.tinyvec.proofs.tiny_vec.clones.TinyVec+A.clone.Goals as goal
 
@@ -30,29 +32,27 @@ returns-in-Inline-clause-copied g c =
           let same = made.if_clones_equal rule in
           rw c.in-Inline.is (ap (λ w. items_of g.A.Slots w) same, ap (λ w. spare_of g.A.Slots w) same);
       spare = rw c.in-Inline.is (spare_cloned g.A.Item.Clone.is_clone (view_of g.A.Slots c.in-Inline.v) (view_of g.A.Slots c.in_ok-copy-in-Inline.copy) made.items.len made.slots.each);
-      place = sym (ap is_inline c.in-Inline.is);
-      capacity = λ heap. absurd (false≢true (sym heap));
-      inline_capacity = λ _. rw c.in-Inline.is made.slots.len;
+      place = rw c.in-Inline.is (ap in_array made.slots.len);
     }
 
 pub returns-in_err-copy : goal.returns-in_err-copy
 returns-in_err-copy g c =
     let answer = c.from_residual-in_err-copy.result in
-    let outside = sym (ap is_inline c.in-Heap.is) in record {
+    let outside = sym (ap (λ v. (view g.A.Slots v).place.inline) c.in-Heap.is) in record {
       copied = IfOk-from_err answer _ c.from_residual-in_err-copy.ensures.0;
       refused = on_err answer (λ inline. absurd (false≢true (outside ∙ inline)));
       succeeds = λ inline _. absurd (false≢true (outside ∙ inline));
-      succeeds_empty = λ _ empty. absurd (false≢true (c.in_err-copy.ensures.succeeds (omega (arith, c.len.ensures, c.in-Heap.v.ok.0, ap (tiny_len_of g.A.Slots) c.in-Heap.is, empty))));
+      succeeds_empty = λ _ empty. absurd (false≢true (c.in_err-copy.ensures.succeeds (omega (arith, c.len.ensures, c.in-Heap.v.ok.0, ap (λ v. length (view g.A.Slots v).items) c.in-Heap.is, empty))));
     }
 
 pub returns-in_err-push_clones : goal.returns-in_err-push_clones
 returns-in_err-push_clones g c =
     let answer = c.from_residual-in_err-push_clones.result in
-    let outside = sym (ap is_inline c.in-Heap.is) in record {
+    let outside = sym (ap (λ v. (view g.A.Slots v).place.inline) c.in-Heap.is) in record {
       copied = IfOk-from_err answer _ c.from_residual-in_err-push_clones.ensures.0;
       refused = on_err answer (λ inline. absurd (false≢true (outside ∙ inline)));
       succeeds = λ inline _. absurd (false≢true (outside ∙ inline));
-      succeeds_empty = λ _ empty. absurd (omega (arith, c.in_err-push_clones.ensures.refused.1.0, c.as_slice.ensures.len, c.in-Heap.v.ok.0, ap (tiny_len_of g.A.Slots) c.in-Heap.is, empty));
+      succeeds_empty = λ _ empty. absurd (omega (arith, c.in_err-push_clones.ensures.refused.1.0, c.as_slice.ensures.len, c.in-Heap.v.ok.0, ap (λ v. length (view g.A.Slots v).items) c.in-Heap.is, empty));
     }
 
 pub push_clones-requires : goal.push_clones-requires
@@ -64,7 +64,7 @@ pub returns-clause-copied : goal.returns-clause-copied
 returns-clause-copied g c =
     let made = c.push_clones.ensures in
     let C = g.A.Item.Clone.is_clone in
-    let xs = tiny_items_of g.A.Slots c.args.self.now in
+    let xs = (view g.A.Slots c.args.self.now).items in
     let ys = c.push_clones.new.heap.items in
     let clones : AllZip C xs ys = rw (c.in-Heap.is, ← c.as_slice.ensures.value) (appends_alone C c.in_ok-copy.copy.items ys c.as_slice.result.now c.in_ok-copy.ensures.items c.in_ok-push_clones.ensures.items) in
     let all = are_clones C xs ys clones in record {
@@ -72,7 +72,5 @@ returns-clause-copied g c =
       len = all.len;
       if_clones_equal = λ rule. (all.if_clones_equal rule, rw c.in-Heap.is refl);
       spare = rw c.in-Heap.is tt;
-      place = sym (ap is_inline c.in-Heap.is);
-      capacity = λ _. rw c.in-Heap.is (made.capacity ∙ c.in_ok-copy.ensures.exact ∙ c.len.ensures ∙ c.in-Heap.v.ok.0);
-      inline_capacity = λ inline. absurd (false≢true (sym (ap is_inline c.in-Heap.is) ∙ inline));
+      place = rw c.in-Heap.is (ap on_heap (made.capacity ∙ c.in_ok-copy.ensures.exact ∙ c.len.ensures ∙ c.in-Heap.v.ok.0));
     }

@@ -1,9 +1,9 @@
-use Rattle.std.proofs.Common.{◌≡◌, [], ◌++◌, length, ap, ◌∙◌, arith, rules}
+use Rattle.std.proofs.Common.{◌≡◌, [], ◌++◌, refl, length, ap, ◌∙◌, arith, rules}
 use Rattle.tinyvec_slots.specs.Slots.{items_in, spare_in}
-use Rattle.tinyvec_slots.proofs.SlotsLemmas.{slots_freed}
-use Rattle.tinyvec_array.specs.ArrayVec.{view_of, items_of, spare_of, slots_of, len_of}
-use Rattle.tinyvec.proofs.FrameLemmas.{inline_becomes}
+use Rattle.tinyvec_array.specs.ArrayVec.{items_of, spare_of, slots_of, name_of, len_of}
+use Rattle.tinyvec_array.specs.ViewLaws.{one_place, becomes, rule_freed, freed_by}
 use Rattle.tinyvec_array.proofs.ViewLemmas.{slots-parts}
+use Rattle.tinyvec.proofs.FrameLemmas.{inline_becomes}
 use Rattle.tinyvec.proofs.tiny_vec.edits.TinyVec+A.clear.Goals as goal
 
 pub returns-in-Inline-self : goal.returns-in-Inline-self
@@ -15,8 +15,10 @@ returns-in-Inline-self g c =
     let new = c.set_len.new.self in
     let gone = c.clear.ensures in
     let same : slots_of G c.in-Inline-self.v ≡ slots_of G w = search rules in
+    let named : name_of G c.in-Inline-self.v ≡ name_of G w = search rules in
     let empty : items_of G new ≡ [] = ap (λ u. items_in u) c.set_len.ensures.value in
-    let behind : spare_of G new ≡ gone.spare.0 ++ spare_of G v =
-    ap (λ u. spare_in u) c.set_len.ensures.value ∙ same ∙ slots-parts G w ∙ ap (λ l. l ++ spare_of G w) gone.items ∙ gone.spare.2 in
-    rw c.in-Inline.is (inline_becomes D (view_of G v) (view_of G new) [] empty
-    (slots_freed D (view_of G v) (view_of G new) (len_of G v) (omega (arith, ap length empty)) (gone.spare.0, gone.spare.1, behind)) (c.set_len.ensures.lender.slot_count ∙ ap length same ∙ gone.lender.slot_count))
+    let freed = freed_by D (items_of G v) (items_of G w) _ _ (len_of G v) (omega (arith, ap length gone.items)) (gone.slot_rule) in
+    let behind : spare_of G new ≡ freed.0 ++ spare_of G v =
+    ap (λ u. spare_in u) c.set_len.ensures.value ∙ same ∙ slots-parts G w ∙ ap (λ l. l ++ spare_of G w) gone.items ∙ freed.2 in
+    let place = one_place refl (c.set_len.ensures.lender.slot_count ∙ ap length same) (c.set_len.ensures.lender.same_reference ∙ named) ∙ gone.place in
+    rw c.in-Inline.is (inline_becomes G D _ _ _ _ _ (becomes G D v new place (rule_freed D (items_of G v) (items_of G new) _ _ (len_of G v) (omega (arith, ap length empty)) (freed.0, freed.1, behind)) [] empty))

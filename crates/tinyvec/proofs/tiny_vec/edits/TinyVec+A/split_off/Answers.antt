@@ -1,19 +1,16 @@
-use Rattle.std.proofs.Common.{◌-◌, ◌≤◌, length, refl, sym, ap, subst, ◌∙◌, arith, length-drop, length-take}
+use Rattle.std.proofs.Common.{◌-◌, length, refl, sym, ap, subst, ◌∙◌, arith, length-drop}
 use Rattle.std.proofs.lemmas.Bool.{false≢true}
 use Rattle.tinyvec_slots.specs.Slots.{AreDefaults}
-use Rattle.tinyvec_array.specs.ArrayVec.{items_of, spare_of, len_of}
+use Rattle.tinyvec_array.specs.ArrayVec.{items_of, spare_of}
 use Rattle.tinyvec_array.proofs.ViewLemmas.{parts_of}
-use Rattle.tinyvec.proofs.FrameLemmas.{inline_loses}
+use Rattle.tinyvec.proofs.FrameLemmas.{inline_becomes}
 use Rattle.tinyvec.proofs.TinyLemmas.{tiny_fits}
 use Rattle.tinyvec.specs.declared.tiny_vec.TinyVec.TheVariants.{Inline}
 use Rattle.tinyvec.proofs.tiny_vec.edits.TinyVec+A.split_off.Goals as goal
 
 pub returns-in-Inline-clause-becomes : goal.returns-in-Inline-clause-becomes
 returns-in-Inline-clause-becomes g c =
-    let v = c.in-Inline.v in
-    let in_list : c.args.at ≤ len_of g.A.Slots v = rw c.in-Inline.is at c.requires in
-    rw c.in-Inline.is (inline_loses g.A.Slots g.A.Item.Default.is_default (len_of g.A.Slots v - c.args.at) v c.split_off.new.self _ (omega (arith, length-take c.args.at (items_of g.A.Slots v), in_list))
-    c.split_off.ensures.becomes)
+    rw c.in-Inline.is (inline_becomes g.A.Slots g.A.Item.Default.is_default _ _ _ _ _ c.split_off.ensures.becomes)
 
 pub returns-in-Inline-clause-tail : goal.returns-in-Inline-clause-tail
 returns-in-Inline-clause-tail g c =

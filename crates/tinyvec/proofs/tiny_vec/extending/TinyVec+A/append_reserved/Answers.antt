@@ -2,7 +2,7 @@ use Rattle.std.proofs.Common.{[], length, ap, ◌∙◌}
 use Rattle.tinyvec.specs.Lends.{tiny_with_items}
 use Rattle.tinyvec.specs.SpliceLaws.{frame_becomes}
 use Rattle.tinyvec.proofs.TinyLemmas.{tiny_framed-with}
-use Rattle.tinyvec.specs.TinyVec.{tiny_view_of}
+use Rattle.tinyvec.specs.TinyVec.{view}
 use Rattle.tinyvec.proofs.tiny_vec.extending.TinyVec+A.append_reserved.Goals as goal
 
 pub returns-clause-other : goal.returns-clause-other
@@ -10,4 +10,4 @@ returns-clause-other g c =
     let old = c.args.other.now in
     let left = c.append_slots.new.from in
     let frame = tiny_framed-with g.A.Slots old left (c.append_slots.ensures.left.0 ∙ ap length c.as_mut_slice.ensures.value) in
-    frame_becomes g.A.Item.Default.is_default (tiny_view_of g.A.Slots old) (tiny_view_of g.A.Slots (tiny_with_items g.A.Slots old left)) (tiny_view_of g.A.Slots c.clear.new.self) [] frame c.clear.ensures
+    frame_becomes g.A.Item.Default.is_default (view g.A.Slots old) (view g.A.Slots (tiny_with_items g.A.Slots old left)) (view g.A.Slots c.clear.new.self) [] frame c.clear.ensures

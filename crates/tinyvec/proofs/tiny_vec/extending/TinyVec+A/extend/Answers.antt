@@ -1,10 +1,12 @@
+use Rattle.std.specs.Prelude.{length}
 use Rattle.tinyvec.proofs.FillingLemmas.{told_listed, told_known, can_go_on}
-use Rattle.tinyvec.specs.TinyVec.{tiny_items_of, tiny_len_of, tiny_capacity_of}
+use Rattle.tinyvec.specs.TinyVec.{view}
+use Rattle.tinyvec.specs.SpliceLaws.{grows_room}
 use Rattle.tinyvec.proofs.tiny_vec.extending.TinyVec+A.extend.Goals as goal
 
 pub returns-clause-goes_on : goal.returns-clause-goes_on
 returns-clause-goes_on g c =
-    can_go_on g.I.IntoIter.Iterator.can_next g.I.IntoIter.Iterator.remaining c.into_iter.result (tiny_len_of g.A.Slots c.args.self.now) (tiny_len_of g.A.Slots c.extend_runs.new.self) c.extend_runs.result
+    can_go_on g.I.IntoIter.Iterator.can_next g.I.IntoIter.Iterator.remaining c.into_iter.result (length (view g.A.Slots c.args.self.now).items) (length (view g.A.Slots c.extend_runs.new.self).items) c.extend_runs.result
     c.extend_runs.ensures.fills.goes_on
 
 pub returns-clause-items : goal.returns-clause-items
@@ -20,5 +22,5 @@ returns-clause-items g c =
       ran = (it, ran.0, gives, ran.1, ran.2);
       listed = λ rest shows. (it, ran.0, gives, told_listed steps (λ e. e.item) (λ e. e.rest) r rest shows it ran.0 ran.1, ran.2);
       known = λ xs yields. told_known steps (λ e. e.item) (λ e. e.rest) r xs it (yields it gives) ran.0
-          (tiny_items_of g.A.Slots old) (tiny_items_of g.A.Slots new) (tiny_capacity_of g.A.Slots old) (tiny_capacity_of g.A.Slots new) ran.1 ran.2 made.grows.keeps.capacity made.fills.full;
+          (view g.A.Slots old).items (view g.A.Slots new).items (view g.A.Slots old).place.capacity (view g.A.Slots new).place.capacity ran.1 ran.2 (grows_room g.A.Item.Default.is_default (view g.A.Slots old) (view g.A.Slots new) made.grows) made.fills.full;
     }

@@ -1,6 +1,7 @@
 use Rattle.std.proofs.Common.{◌++◌, ◌∷◌, refl, sym, ap, ◌∙◌}
 use Rattle.tinyvec.proofs.TinyLemmas.{collected}
-use Rattle.tinyvec.specs.TinyVec.{tiny_view_of}
+use Rattle.tinyvec.proofs.PlaceLemmas.{collected_full}
+use Rattle.tinyvec.specs.TinyVec.{view}
 use Rattle.tinyvec.proofs.tiny_vec.extending.TinyVec+A.from_iter.Goals as goal
 
 pub returns-in-Err-clause-listed : goal.returns-in-Err-clause-listed
@@ -21,10 +22,14 @@ returns-in-Ok-clause-known g c = λ xs yields.
 
 pub returns-in-Ok-clause-collected : goal.returns-in-Ok-clause-collected
 returns-in-Ok-clause-collected g c =
-    let made = c.new-vec.ensures in
-    collected g.A.Item.Default.is_default g.A.Array.CAPACITY (tiny_view_of g.A.Slots c.new-vec.result) _ (record { items = made.items; spare = made.spare; place = made.place; capacity = made.capacity }) c.in-Ok.ensures.grows
+    collected g.A.Item.Default.is_default g.A.Array.CAPACITY (view g.A.Slots c.new-vec.result) _ c.new-vec.ensures c.in-Ok.ensures.grows
 
 pub returns-in-Err-clause-collected_so_far : goal.returns-in-Err-clause-collected_so_far
 returns-in-Err-clause-collected_so_far g c =
-    let made = c.new-vec.ensures in
-    collected g.A.Item.Default.is_default g.A.Array.CAPACITY (tiny_view_of g.A.Slots c.new-vec.result) _ (record { items = made.items; spare = made.spare; place = made.place; capacity = made.capacity }) c.in-Err.ensures.grows
+    collected g.A.Item.Default.is_default g.A.Array.CAPACITY (view g.A.Slots c.new-vec.result) _ c.new-vec.ensures c.in-Err.ensures.grows
+
+pub returns-in-Err-clause-full : goal.returns-in-Err-clause-full
+returns-in-Err-clause-full g c =
+    let full = c.in-Err.ensures.full in
+    let h = collected_full g.A.Item.Default.is_default g.A.Array.CAPACITY _ (view g.A.Slots c.extend.new.self) (returns-in-Err-clause-collected_so_far g c) full in
+    (full, h.0, h.1)

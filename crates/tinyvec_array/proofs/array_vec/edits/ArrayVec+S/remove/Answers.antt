@@ -3,15 +3,20 @@ use Rattle.std.proofs.lemmas.Grind.{common_steps}
 use Rattle.std.proofs.lemmas.List.Elements.{All-cons, All-nil}
 use Rattle.tinyvec_slots.proofs.Lists.{length-moved, take-moved}
 use Rattle.tinyvec_array.specs.ArrayVec.{items_of}
+use Rattle.tinyvec_array.specs.ViewLaws.{rule_freed, one_place}
 use Rattle.tinyvec_slots.proofs.BorderLemmas.{take-taken, drop-taken}
 use Rattle.tinyvec_array.proofs.array_vec.edits.ArrayVec+S.remove.Goals as goal
 
 pub returns-clause-becomes : goal.returns-clause-becomes
-returns-clause-becomes g c = record {
-  lender = search rules;
-  items = c.take_last.ensures.becomes.items ∙ take-moved (items_of g.S.Slots c.args.self.now) _ c.args.index c.requires c.move_to_end.ensures.items;
-  spare = search rules;
-}
+returns-clause-becomes g c =
+    let less = length-moved (items_of g.S.Slots c.args.self.now) _ c.args.index c.requires c.move_to_end.ensures.items in
+    let rule = c.take_last.ensures.becomes.slot_rule in
+    record {
+      items = c.take_last.ensures.becomes.items ∙ take-moved (items_of g.S.Slots c.args.self.now) _ c.args.index c.requires c.move_to_end.ensures.items;
+      place = c.take_last.ensures.becomes.place ∙ one_place refl (search rules) (search rules);
+      slot_rule = rw (← less, ← c.move_to_end.ensures.spare) rule;
+      fits = c.take_last.ensures.becomes.fits;
+    }
 
 pub returns-then-prefers_shifting_in-clause-becomes : goal.returns-then-prefers_shifting_in-clause-becomes
 returns-then-prefers_shifting_in-clause-becomes g c =
@@ -21,9 +26,10 @@ returns-then-prefers_shifting_in-clause-becomes g c =
     let one = All-cons g.S.Item.Default.is_default after.0 [] after.1 (All-nil _) in
     let in_list : c.args.index < n = search rules in
     record {
-      lender = search rules;
       items = rw (g.S.Slots.slots_written, c.to_len.ensures.number, after.2, c.as_slice_mut.ensures.value) (take-taken (g.S.Slots.count v.len) (g.S.Slots.slots v.slots) n c.len-len.ensures.value c.args.index after.0 in_list);
-      spare = (after.0 ∷ [], (refl, one), rw (g.S.Slots.slots_written, c.to_len.ensures.number, after.2, c.as_slice_mut.ensures.value) (drop-taken (g.S.Slots.count v.len) (g.S.Slots.slots v.slots) n c.len-len.ensures.value c.args.index after.0 in_list));
+      place = one_place refl (search rules) (search rules);
+      slot_rule = rule_freed g.S.Item.Default.is_default _ _ _ _ 1 (grind (arith, common_steps)) (after.0 ∷ [], (refl, one), rw (g.S.Slots.slots_written, c.to_len.ensures.number, after.2, c.as_slice_mut.ensures.value) (drop-taken (g.S.Slots.count v.len) (g.S.Slots.slots v.slots) n c.len-len.ensures.value c.args.index after.0 in_list));
+      fits = search rules;
     }
 
 pub returns-then-prefers_shifting_in-clause-value : goal.returns-then-prefers_shifting_in-clause-value

@@ -2,6 +2,7 @@ use Rattle.std.proofs.Common.{rules, refl, ◌<◌, ◌∷◌, [], arith}
 use Rattle.std.proofs.lemmas.Grind.{common_steps}
 use Rattle.std.proofs.lemmas.List.Elements.{All-cons, All-nil}
 use Rattle.tinyvec_slots.proofs.BorderLemmas.{drop-popped}
+use Rattle.tinyvec_array.specs.ViewLaws.{rule_freed, one_place}
 use Rattle.tinyvec_array.proofs.array_vec.edits.ArrayVec+S.take_last.Goals as goal
 
 pub returns-clause-becomes : goal.returns-clause-becomes
@@ -12,9 +13,10 @@ returns-clause-becomes g c =
     let one = All-cons g.S.Item.Default.is_default d [] c.take-item.ensures.after (All-nil _) in
     let pos : 0 < n = search rules in
     record {
-      lender = search rules;
       items = grind (arith, common_steps);
-      spare = (d ∷ [], (refl, one), rw (g.S.Slots.slots_written, c.to_len.ensures.number, c.bounded_index-at.ensures, c.bounded_len-last.ensures, c.as_slice_mut.ensures.value) (drop-popped (g.S.Slots.count v.len) (g.S.Slots.slots v.slots) n c.len-len.ensures.value d pos));
+      place = one_place refl (search rules) (search rules);
+      slot_rule = rule_freed g.S.Item.Default.is_default _ _ _ _ 1 (grind (arith, common_steps)) (d ∷ [], (refl, one), rw (g.S.Slots.slots_written, c.to_len.ensures.number, c.bounded_index-at.ensures, c.bounded_len-last.ensures, c.as_slice_mut.ensures.value) (drop-popped (g.S.Slots.count v.len) (g.S.Slots.slots v.slots) n c.len-len.ensures.value d pos));
+      fits = search rules;
     }
 
 pub returns-clause-last : goal.returns-clause-last

@@ -1,6 +1,7 @@
-use Rattle.std.proofs.Common.{◌-◌, ◌≤◌, ◌++◌, length, arith, ap, ◌∙◌, append_assoc, drop_at, length-take-le, take, drop}
+use Rattle.std.proofs.Common.{refl, rules, ◌-◌, ◌≤◌, ◌++◌, length, arith, ap, ◌∙◌, append_assoc, drop_at, length-take-le, take, drop}
 use Rattle.std.proofs.lemmas.Grind.{common_steps}
 use Rattle.tinyvec_slots.proofs.BorderLemmas.{spare_from, within}
+use Rattle.tinyvec_array.specs.ViewLaws.{rule_freed, one_place}
 use Rattle.tinyvec_array.proofs.array_vec.edits.ArrayVec+S.truncate.Goals as goal
 
 pub returns-then-new_len-len : goal.returns-then-new_len-len
@@ -16,10 +17,9 @@ returns-then-new_len-len g c =
     ∙ drop_at (take m slots) (made.0 ++ drop n slots) m (length-take-le m slots le)
     ∙ ap (λ l. made.0 ++ l) (spare_from (g.S.Slots.count v.len) slots n long) in
     record {
-      lender = record {
-        same_reference = g.S.Slots.name_kept v.slots c.fill_default.new.slots;
-        slot_count = ap length (g.S.Slots.slots_written v.slots c.fill_default.new.slots) ∙ c.fill_default.auto.slots ∙ ap length c.as_slice_mut.ensures.value;
-      };
       items = grind (arith, common_steps);
-      spare = (made.0, (made.1.0 ∙ ap (λ k. k - m) long, made.1.1), rw (g.S.Slots.slots_written, c.to_len.ensures.number, made.2, c.as_slice_mut.ensures.value) behind);
+      place = one_place refl (ap length (g.S.Slots.slots_written v.slots c.fill_default.new.slots) ∙ c.fill_default.auto.slots ∙ ap length c.as_slice_mut.ensures.value)
+          (g.S.Slots.name_kept v.slots c.fill_default.new.slots);
+      slot_rule = rule_freed g.S.Item.Default.is_default _ _ _ _ (n - m) (grind (arith, common_steps)) (made.0, made.1, rw (g.S.Slots.slots_written, c.to_len.ensures.number, made.2, c.as_slice_mut.ensures.value) behind);
+      fits = search rules;
     }

@@ -1,5 +1,7 @@
-use Rattle.std.proofs.Common.{◌≡◌, ◌+◌, ◌-◌, ◌++◌, length, take, drop, sym, ap, ◌∙◌, arith, rules, append_assoc, take_at, drop_at, length-append, length-take-le}
+use Rattle.std.proofs.Common.{refl, ◌≡◌, ◌+◌, ◌-◌, ◌++◌, length, take, drop, sym, ap, ◌∙◌, arith, rules, append_assoc, take_at, drop_at, length-append, length-take-le}
 use Rattle.tinyvec_slots.proofs.BorderLemmas.{list_to, spare_from, within}
+use Rattle.tinyvec_array.specs.View.{NothingVacated}
+use Rattle.tinyvec_array.specs.ViewLaws.{one_place, rule_used}
 use Rattle.tinyvec_array.proofs.array_vec.extending.ArrayVec+S.extend_from_slice_copy.Goals as goal
 
 pub returns : goal.returns
@@ -17,12 +19,14 @@ returns g c =
     let end : length (take n slots ++ copies) ≡ n + length xs =
     length-append (take n slots) copies ∙ ap (λ m. m + length copies) (length-take-le n slots (within k slots n long)) ∙ ap (λ l. n + length l) copied in
     let whole = sym (append_assoc (take n slots) copies rest) in
+    let listed = ap (take (n + length xs)) whole ∙ take_at (take n slots ++ copies) rest (n + length xs) end
+    ∙ ap (λ l. l ++ copies) (list_to k slots n long) ∙ ap (λ l. take k slots ++ l) copied in
     record {
-      lender = search rules;
-      items = rw (g.S.Slots.slots_written, c.to_len.ensures.number, c.as_slice_mut.ensures.value)
-          (ap (take (n + length xs)) whole ∙ take_at (take n slots ++ copies) rest (n + length xs) end
-          ∙ ap (λ l. l ++ copies) (list_to k slots n long) ∙ ap (λ l. take k slots ++ l) copied);
-      spare = rw (g.S.Slots.slots_written, c.to_len.ensures.number, c.as_slice_mut.ensures.value)
+      items = rw (g.S.Slots.slots_written, c.to_len.ensures.number, c.as_slice_mut.ensures.value) listed;
+      place = one_place refl (search rules) (search rules);
+      slot_rule = rule_used NothingVacated _ _ _ _ (length xs) (rw (g.S.Slots.slots_written, c.to_len.ensures.number, c.as_slice_mut.ensures.value) (ap length listed ∙ length-append (take k slots) xs))
+          (rw (g.S.Slots.slots_written, c.to_len.ensures.number, c.as_slice_mut.ensures.value)
           (ap (drop (n + length xs)) whole ∙ drop_at (take n slots ++ copies) rest (n + length xs) end
-          ∙ ap (λ m. drop m (drop n slots)) count ∙ ap (drop (length xs)) (spare_from k slots n long));
+          ∙ ap (λ m. drop m (drop n slots)) count ∙ ap (drop (length xs)) (spare_from k slots n long)));
+      fits = within _ _ _ refl;
     }

@@ -2,4 +2,4 @@ use Rattle.tinyvec_array.proofs.ViewLemmas.{shortened}
 use Rattle.tinyvec_array.proofs.array_vec.filters.ArrayVec+S.retain_mut.Goals as goal
 
 pub returns-clause-shorter : goal.returns-clause-shorter
-returns-clause-shorter g c = shortened _ _ _ _ c.retain_mut.ensures.shorter
+returns-clause-shorter g c = shortened g.S.Slots g.S.Item.Default.is_default _ _ c.retain_mut.ensures.shorter

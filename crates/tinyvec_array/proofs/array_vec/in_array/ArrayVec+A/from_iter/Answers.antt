@@ -1,6 +1,8 @@
 use Rattle.std.proofs.Common.{◌-◌, ◌≤◌, ◌++◌, length, take, ap, ◌∙◌, arith, rules, take_all, length-drop}
 use Rattle.std.proofs.lemmas.List.Elements.{All-drop}
 use Rattle.tinyvec_array.specs.ArrayVec.{items_of, spare_of}
+use Rattle.tinyvec_array.specs.View.{NothingVacated}
+use Rattle.tinyvec_array.specs.ViewLaws.{used_by}
 use Rattle.tinyvec_array.proofs.ViewLemmas.{parts_of}
 use Rattle.tinyvec_array.proofs.array_vec.in_array.ArrayVec+A.from_iter.Goals as goal
 
@@ -42,19 +44,19 @@ returns-in-Ok-clause-spare g c =
     let n = length (items_of g.A.Slots new) - length (items_of g.A.Slots old) in
     let none = ap length c.new-vec.ensures.items in
     let long = length-drop n (spare_of g.A.Slots old) in
-    rw c.in-Ok.ensures.grows.spare (omega (arith, none, long, made.0), All-drop g.A.Item.Default.is_default n (spare_of g.A.Slots old) made.1)
+    rw (used_by NothingVacated _ _ _ _ n (omega (arith, none)) (c.in-Ok.ensures.grows.slot_rule)) (omega (arith, none, long, made.0), All-drop g.A.Item.Default.is_default n (spare_of g.A.Slots old) made.1)
 
 -- as many slots as the new vector had
 pub returns-in-Ok-clause-fits : goal.returns-in-Ok-clause-fits
 returns-in-Ok-clause-fits g c =
     let none = ap length c.new-vec.ensures.items in
-    let same = c.in-Ok.ensures.grows.lender.slot_count in
+    let same = ap (λ p. p.capacity) c.in-Ok.ensures.grows.place in
     omega (arith, none, same, c.new-vec.ensures.spare.0, parts_of g.A.Slots c.new-vec.result, parts_of g.A.Slots c.extend.new.self)
 
 pub returns-in-Err-clause-full : goal.returns-in-Err-clause-full
 returns-in-Err-clause-full g c =
     let none = ap length c.new-vec.ensures.items in
-    let same = c.in-Err.ensures.grows.lender.slot_count in
+    let same = ap (λ p. p.capacity) c.in-Err.ensures.grows.place in
     let full = c.in-Err.ensures.full in
     let over = ap length full in
     (omega (arith, none, same, over, c.new-vec.ensures.spare.0, parts_of g.A.Slots c.new-vec.result, parts_of g.A.Slots c.extend.new.self), full)

@@ -5,5 +5,5 @@ abbrev pub invariant-loop-s : goal.invariant-loop-s
 invariant-loop-s g l = record {
   can : (goal.iterator-loop-s g).can_next l.rest;
   ends : (goal.iterator-loop-s g).is_finite l.rest;
-  pushed : Pushed (by_texts (λ x. x.now)) g.row.N l.initial.self l.self l.yielded;
+  pushed : Pushed (by_texts (λ x. x.now)) l.initial.self l.self l.yielded;
 }

@@ -1,7 +1,0 @@
-use Rattle.std.proofs.Common.{◌≡◌, replicate, vec_capacity}
-use Rattle.std.specs.List.{AppendsClones}
-use Rattle.tinyvec.proofs.tuned.push_clones_of.Given as goal
-
-abbrev pub invariant-loop-i : goal.invariant-loop-i
-invariant-loop-i g l = AppendsClones g.T.Clone.is_clone l.initial.vec.items l.vec.items (replicate l._i l.x)
-    × (vec_capacity l.vec ≡ vec_capacity l.initial.vec)

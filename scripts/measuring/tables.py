@@ -1,0 +1,180 @@
+"""Tables in Markdown of what is measured: here, and how much of each peer's that is. Documents quote them: a table after a
+comment with the name of the results whose first one it is, and a number before a comment that names its cell, by a row, its
+capacity and the peer, as 3.7<!-- rust tiny_long_push 64 tinyvec -->, or by a line of means and a capacity, as 0.6<!-- rust
+ArrayVec over tinyvec 4 -->. There `least` and `most` stand for those over all capacities."""
+import functools
+import re
+import statistics
+
+from building.crates import TOP
+
+RESULTS = TOP / "bench/results"
+DOCUMENTS = [TOP / "README.md", TOP / "docs/PERFORMANCE.md"]
+
+# A row belongs to the group with the longest prefix that its name has.
+GROUPS = {
+    "`ArrayVec`": "",
+    "`TinyVec` in its array": "tiny_",
+    "`TinyVec` on the heap": "tiny_heap_",
+    "`TinyVec` on its way to the heap": "tiny_spill_",
+    "`TinyVec` out of four slots": "tiny_long_",
+    "`ArrayVec` of items with a drop": "nodes_",
+    "`TinyVec` of items with a drop": "tiny_nodes_",
+    "`SliceVec`": "slice_",
+    "`InlineText`": "text_",
+    "`InlineText` on the heap": "heap_text_",
+    "Borsh form": "borsh_",
+}
+
+CAPACITIES = [4, 16, 64, 16384]
+
+# So much of a peer's is slow.
+LIMIT = 1.2
+
+# A ratio to a peer that lacks the row.
+NOTHING = "–"
+
+OVER = "instructions a round, and that over "
+TABLE = re.compile(rf"^\*\*.*\*\*: {OVER}(.*)\n\n(.*)\n.*\n((?:\|.*\n)+)", re.M)
+MEANS = re.compile(r"^\| Instructions of (.*)\n.*\n((?:\|.*\n)+)", re.M)
+
+# What documents quote.
+PLACE = re.compile(r"^<!-- (programs|rust) -->\n(?:\|.*\n)*", re.M)
+QUOTED = re.compile(r"(?:\d+(?:\.(\d+))?|\?)<!-- rust (.+?) -->")
+
+
+def read(file):
+    return file.read_text(encoding="utf-8")
+
+
+def group_of(row):
+    return max((it for it, prefix in GROUPS.items() if row.startswith(prefix)), key=lambda it: len(GROUPS[it]))
+
+
+def name_of(peer, group):
+    is_text = group.startswith("`InlineText`")
+    return {"vec": "String" if is_text else "Vec", "arrayvec": "ArrayString" if is_text else "arrayvec"}.get(peer, peer)
+
+
+def groups(measured):
+    """Each group of rows that a peer has, with its rows, and these peers."""
+    for group in GROUPS:
+        keys = [key for key in measured["here"] if group_of(key[0]) == group]
+        if peers := [it for it in measured if it != "here" and any(key in measured[it] for key in keys)]:
+            yield group, keys, peers
+
+
+def print_table(first, columns, rows):
+    for name, cells in [(first, columns), ("---", ["---"] * len(columns)), *rows]:
+        print(f"| {name} | {' | '.join(map(str, cells))} |".replace(" --- ", "---"))
+    print(flush=True)
+
+
+def print_programs(measured):
+    """A line for each program, by unit: what it takes, and how much of the plain Rust program's that is."""
+    names = next(iter(measured.values()))["here"]
+    cells = ((f"`{name}`", [cell(it, ["plain Rust"], name) for it in measured.values()]) for name in names)
+    print_table("Program, over plain Rust", [*measured], cells)
+
+
+def print_groups(counted):
+    for group, keys, peers in groups(counted):
+        print(f"**{group}**: {OVER}{', '.join(name_of(it, group) for it in peers)}\n")
+        capacities = sorted({capacity for _, capacity in keys})
+        rows = {row: [cell(counted, peers, (row, it)) for it in capacities] for row, _ in keys}
+        print_table("Row", capacities, rows.items())
+
+
+def print_means(unit, measured):
+    """A line for each vector and peer: the geometric mean at each capacity, and the cells above the limit."""
+    rows = []
+    for group, keys, peer in ((group, keys, peer) for group, keys, peers in groups(measured) for peer in peers):
+        ratios = {key: ratio(measured, peer, key) for key in keys if key in measured[peer]}
+        known = ([it for key, it in ratios.items() if key[1] == capacity] for capacity in CAPACITIES)
+        means = [text_of(statistics.geometric_mean(it) if it else None) for it in known]
+        above = sum(it > LIMIT for it in ratios.values())
+        rows.append((f"{group} over `{name_of(peer, group)}`", [*means, f"{above} of {len(ratios)}"]))
+    print_table(f"{unit} of", [*CAPACITIES, f"cells above {LIMIT}"], rows)
+
+
+def print_disagreements(times, counted):
+    """Where one measure has this library well behind a peer, and the other before it."""
+    print(f"Rows of which the time is above {LIMIT} of a peer's and the instructions below 1.0, or the other way round\n")
+    rows = []
+    for row, capacity, peer in ((*key, it) for key in times["here"] for it in times if it != "here" and key in times[it]):
+        time, count = (ratio(it, peer, (row, capacity)) for it in (times, counted))
+        if max(time, count) > LIMIT and min(time, count) < 1.0:
+            rows.append((row, [capacity, name_of(peer, group_of(row)), text_of(time), text_of(count)]))
+    print_table("Row", ["Capacity", "Peer", "Time", "Instructions"], rows)
+
+
+def cell(measured, peers, key):
+    here = measured["here"].get(key)
+    if here is None:
+        return ""
+    return f"{here:.{1 if here < 1000 else 0}f}: " + " ".join(text_of(ratio(measured, it, key)) for it in peers)
+
+
+def ratio(measured, peer, key):
+    theirs = measured[peer].get(key)
+    return measured["here"][key] / theirs if theirs else None
+
+
+def text_of(ratio):
+    return NOTHING if ratio is None else f"{ratio:.2f}"
+
+
+def rows_of(text):
+    """Each cell of the tables of instructions that is not empty: its row, its capacity, the peers of its table, and itself."""
+    for peers, head, lines in TABLE.findall(text):
+        for row, *cells in map(cells_of, lines.splitlines()):
+            known = ((capacity, it) for capacity, it in zip(cells_of(head)[1:], cells) if it and capacity.isdigit())
+            yield from ((row, int(capacity), peers.split(", "), it) for capacity, it in known)
+
+
+def cells_of(line):
+    return [it.strip() for it in line[1:-1].split("|")]
+
+
+def counts(text):
+    """The instructions of each row, by name and capacity."""
+    return {(row, capacity): float(it.partition(":")[0]) for row, capacity, _, it in rows_of(text)}
+
+
+@functools.cache
+def quotable():
+    """The ratios that documents quote, by the words of a comment."""
+    text, found = read(RESULTS / "rust.md"), {}
+    for head, lines in MEANS.findall(text):
+        for label, *means, _ in map(cells_of, lines.replace("`", "").splitlines()):
+            known = {capacity: it for capacity, it in zip(cells_of(head), means) if it != NOTHING}
+            known |= {"least": min(known.values()), "most": max(known.values())}
+            found |= {f"{label} {capacity}": float(it) for capacity, it in known.items()}
+    for row, capacity, peers, ratios in rows_of(text):
+        known = {f"{row} {capacity} {peer}": it for peer, it in zip(peers, ratios.split()[1:]) if it != NOTHING}
+        found |= {name: float(it) for name, it in known.items()}
+    return found
+
+
+def filled(text):
+    """The text of a document with what it quotes of the results as they are. What they do not have is a question mark."""
+
+    def number(quote):
+        known, digits = quotable().get(quote[2]), 2 if quote[0][0] == "?" else len(quote[1] or "")
+        return f"{'?' if known is None else f'{known:.{digits}f}'}<!-- rust {quote[2]} -->"
+
+    first = lambda it: re.search(r"(?:^\|.*\n)+", read(RESULTS / f"{it}.md"), re.M)[0]
+    return QUOTED.sub(number, PLACE.sub(lambda it: f"<!-- {it[1]} -->\n{first(it[1])}", text))
+
+
+def write():
+    for file in DOCUMENTS:
+        file.write_text(filled(read(file)), encoding="utf-8")
+
+
+def faults():
+    for file in DOCUMENTS:
+        wanted = filled(read(file))
+        if wanted != read(file) or "?<!-- rust" in wanted:
+            yield f"{file.relative_to(TOP)}: what it quotes of bench/results is not there, or has changed: run tests/docs --write"
+

@@ -1,0 +1,1 @@
+"""Models of what programs answer, to which tests/random compares them."""
