@@ -51,7 +51,10 @@ def program_of(crate, *words):
 
 
 def told(crate, words=(), given=b""):
-    """What `rt try` says of a program or its tests: only there a check that stops it names its place."""
+    """What `rt try` says of a program or its tests: only there a check that stops it names its place. Of a planted edit nobody
+    asks for the place, and `rt try` compiles all anew."""
+    if "PLANTED" in os.environ:
+        return ""
     with laid(crate) as folder:
         return tried(folder, words, given)
 

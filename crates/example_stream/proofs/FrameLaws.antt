@@ -3,9 +3,9 @@ use Rattle.std.proofs.Common.{◌≡◌, ◌≢◌, ◌∙◌, ap, sym, subst, �
 use Rattle.tinyvec_borsh.specs.declared.borsh_error.BorshError.TheVariants.{Ended, InvalidLength}
 use Rattle.tinyvec_borsh.proofs.AtFaults.{length_is_other}
 use Rattle.tinyvec_borsh.specs.Code.{IsCode}
-use Rattle.tinyvec_borsh.specs.TwoParts.{rest-so}
+use Rattle.tinyvec_borsh.proofs.Parts.{rest-so}
 use Rattle.tinyvec_borsh.proofs.Tagged.{same-tagged, tagged-code}
-use Rattle.example_stream.specs.Readings.{IsReadingCut, IsReadingTooLong, ReadingFits, Said, SpellsReading, reading_apart, reading_code}
+use Rattle.example_stream.specs.Readings.{IsReadingCut, ReadingFits, ReadingReason, Said, SpellsReading, reading_apart, reading_code}
 use Rattle.example_stream.specs.Stream.{HasTooManySamples, IsEnd, SpellsFrame, tag}
 use Rattle.example_stream.specs.declared.stream_error.StreamError.{StreamError}
 use Rattle.example_stream.specs.declared.stream_error.StreamError.TheVariants.{Cut, Io, Memory, TooManySamples, WrongTag}
@@ -14,7 +14,7 @@ pub frame_code : IsCode SpellsFrame
 frame_code = tagged-code tag SpellsReading reading_code
 
 -- a record with nine samples is too long
-long : (input : List ℕ) → HasTooManySamples input → IsReadingTooLong input
+long : (input : List ℕ) → HasTooManySamples input → ReadingReason InvalidLength input
 long input s = inr (record { content = s.content; valid = s.valid; parts = rest-so s.parts (inl (inl s.is_rest)) })
 
 -- no record begins where the stream ends
@@ -26,7 +26,7 @@ no-frame (Err Cut) c frame rest tail is fits p e =
 no-frame (Err WrongTag) c frame rest tail is fits p e = is.other ((same-tagged is.byte tag is.rest (p.0 ++ rest) (sym is.whole ∙ e ∙ ap (λ l. l ++ rest) p.2)).0)
 no-frame (Err TooManySamples) c frame rest tail is fits p e =
     let t = same-tagged tag tag is.0 (p.0 ++ rest) (sym is.1 ∙ e ∙ ap (λ l. l ++ rest) p.2) in
-    reading_apart.fits_or_refused InvalidLength tt c p.0 rest fits p.1 (subst IsReadingTooLong t.1 (long is.0 is.2))
+    reading_apart.fits_or_refused InvalidLength tt c p.0 rest fits p.1 (subst (ReadingReason InvalidLength) t.1 (long is.0 is.2))
 no-frame (Err Io) c frame rest tail is fits p e = is
 no-frame (Err Memory) c frame rest tail is fits p e = is
 

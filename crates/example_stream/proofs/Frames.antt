@@ -4,7 +4,8 @@ use Rattle.tinyvec_io.specs.Counted.{CountedView}
 use Rattle.tinyvec_borsh.specs.declared.borsh_error.BorshError.{BorshError}
 use Rattle.tinyvec_borsh.specs.declared.borsh_error.BorshError.TheVariants.{Ended, InvalidLength, InvalidUtf8, Io, Memory}
 use Rattle.tinyvec_borsh.specs.Number.{SpellsNumber, TooFewBytes}
-use Rattle.tinyvec_borsh.specs.TwoParts.{HasParts, rest-so}
+use Rattle.tinyvec_borsh.specs.TwoParts.{HasParts}
+use Rattle.tinyvec_borsh.proofs.Parts.{rest-so}
 use Rattle.tinyvec_borsh.specs.Reading.{Fails, MayBe, ReadsSpelling, TakesSome}
 use Rattle.tinyvec_borsh.specs.Writing.{WritesValue}
 use Rattle.tinyvec_borsh.specs.Items.{MayAllocate}
@@ -18,14 +19,14 @@ use Rattle.std.specs.List.{AllByRecursion}
 use Rattle.std.proofs.KnownBytes.{Consumes-trans}
 use Rattle.tinyvec_borsh.specs.FrontsLaws.{cut-place}
 use Rattle.example_stream.specs.Errors.{stream_error}
-use Rattle.example_stream.specs.Readings.{IsReadingCut, IsReadingTooLong, ReadingFits, ReadingReason, reading_apart, said}
+use Rattle.example_stream.specs.Readings.{IsReadingCut, ReadingFits, ReadingReason, reading_apart, said}
 use Rattle.example_stream.specs.Stream.{BeginsWith, EndsBy, HasTooManySamples, IsFrameFront, NextIs, SpellsFrame, StandsBehind, Takes, tag}
 use Rattle.example_stream.specs.declared.reading.Reading.{Reading}
 use Rattle.example_stream.specs.declared.stream_error.StreamError.{StreamError}
 use Rattle.example_stream.specs.declared.stream_error.StreamError.TheVariants as stream
 
 -- no further samples can be too many than those of the record, since no count is above that of a note
-too-many : (input : List ℕ) → IsReadingTooLong input → HasTooManySamples input
+too-many : (input : List ℕ) → ReadingReason InvalidLength input → HasTooManySamples input
 too-many input long = elim long [
   | inl none ↦ absurd (length_is_other.0 none.0)
   | inr s ↦ elim s.is_rest [
@@ -97,7 +98,7 @@ module _ (old mid : Option (List ℕ)) (byte : ReadsSpelling (SpellsNumber 1 tag
   record-fails new before after Ended f t = let s = frame-some new Ended t in (behind-tag tag old mid byte tag refl IsReadingCut f, (s.bytes, (s.needed, s.end refl), s.taken))
   record-fails new before after InvalidLength f t =
       let s = frame-some new InvalidLength t in
-      (behind-tag tag old mid byte tag refl HasTooManySamples (maybe-so mid IsReadingTooLong HasTooManySamples too-many f), (s.bytes, s.needed, s.taken))
+      (behind-tag tag old mid byte tag refl HasTooManySamples (maybe-so mid (ReadingReason InvalidLength) HasTooManySamples too-many f), (s.bytes, s.needed, s.taken))
   record-fails new before after InvalidUtf8 f t = absurd (maybe-not mid (ReadingReason InvalidUtf8) no-text f)
   record-fails new before after Io f t = let s = frame-some new Io t in (maybe-any old, (s.bytes, s.short (λ of. of), s.taken))
   record-fails new before after Memory f t = let s = frame-some new Memory t in (behind-tag tag old mid byte tag refl (λ rest. Unit {0}) (maybe-any mid), (s.bytes, s.short (λ of. of), s.taken))

@@ -68,10 +68,6 @@ ReadingReason = InEither (SpellsNumber 4) StationFits (TooFewBytes 4) ListsReaso
 abbrev pub IsReadingCut : List ℕ → Type 0
 IsReadingCut = ReadingReason Ended
 
--- There are nine samples or more.
-abbrev pub IsReadingTooLong : List ℕ → Type 0
-IsReadingTooLong = ReadingReason InvalidLength
-
 -- ---- the laws, from those of the fields
 
 pub samples_code : IsCode SpellsSamples

@@ -10,14 +10,15 @@ use Rattle.tinyvec_slots.proofs.SlotsLemmas.{defaults_are, items-with_slot, spar
 use Rattle.tinyvec.specs.View.{in_array, on_heap, TinyView, SpareRule, IsNew, place_pushed}
 use Rattle.tinyvec.specs.Room.{GrowsByPushes, IsCollected}
 use Rattle.tinyvec_array.specs.ArrayVec.{view_of, items_of, slots_of}
-use Rattle.tinyvec_array.specs.ViewLaws.{rule_at, rule_by, rule_used, used_by}
+use Rattle.tinyvec_array.specs.ViewLaws.{rule_at, rule_by, used_by}
+use Rattle.tinyvec_array.proofs.RuleLemmas.{rule_used}
 use Rattle.tinyvec_array.proofs.ViewLemmas.{view_of-at}
 use Rattle.tinyvec_array.specs.declared.slots.Slots as Storage
 use Rattle.tinyvec.specs.TinyVec.{view}
 use Rattle.tinyvec.specs.Lends.{tiny_with_item}
 use Rattle.tinyvec.specs.declared.tiny_vec.TinyVec.{TinyVec}
 use Rattle.tinyvec.specs.declared.tiny_vec.TinyVec.TheVariants.{Inline, Heap}
-pub use Rattle.tinyvec.specs.FrameLaws.{FrameOf, tiny_fits, SameFrame-refl, SameFrame-then, tiny_items-with, tiny_framed-with, tiny_slots_framed, tiny_slots_then_framed}
+pub use Rattle.tinyvec.specs.FrameLaws.{FrameOf, SameFrame-refl, SameFrame-then, tiny_items-with, tiny_framed-with, tiny_slots_framed, tiny_slots_then_framed}
 
 -- what is seen of an array, and of a list on the heap
 abbrev pub array_view : {T : Type 0} → Slots T → TinyView T
@@ -110,3 +111,9 @@ on_err_two (Err e) p q f = f p q
 -- an error says nothing of success
 pub never_ok : {T E : Type 0} (P : Type 0) (r : Result T E) → IsErr r → OnOk r P
 never_ok P r = IfOk-from_err r (λ _. P)
+
+module _ {A T L : Type 0} (g : Storage.Ghosts A T L) where
+  -- a list fits where it is
+  pub tiny_fits : (v : TinyVec A T L) → length (view g v).items ≤ (view g v).place.capacity
+  tiny_fits (Inline v alloc) = omega (arith, length-take (g.count v.len) (g.slots v.slots))
+  tiny_fits (Heap v) = omega (arith, v.ok.0, v.ok.1)

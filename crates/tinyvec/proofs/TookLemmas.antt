@@ -4,7 +4,7 @@ use Rattle.std.specs.Result.{is_err}
 use Rattle.std.proofs.lemmas.Bool.{false≢true, eqb-false}
 use Rattle.tinyvec_array.specs.ArrayVec.{items_of, spare_of, slots_of, len_of}
 use Rattle.tinyvec_array.specs.View.{view as slots_view}
-use Rattle.tinyvec_array.specs.ViewLaws.{none_vacated}
+use Rattle.tinyvec_array.proofs.RuleLemmas.{none_vacated}
 use Rattle.tinyvec_array.specs.declared.array_vec.ArrayVec.{ArrayVec}
 use Rattle.tinyvec_array.specs.declared.slots.Slots as Storage
 use Rattle.tinyvec_array.proofs.ViewLemmas.{parts_of}

@@ -18,7 +18,7 @@ module _ {A T L : Type 0} (g : Storage.Ghosts A T L) (D : T → Type 0) where
 
   -- what `CanDrain` says of the vector
   abbrev pub tiny_drain_of : CanDrain.Ghosts (TinyVec A T L) T
-  tiny_drain_of = record { held = λ v. (view g v).items; Kept = FrameOf g; Ended = DrainEnded; drain_word = codes "TinyVecDrain" }
+  tiny_drain_of = record { drained_list = λ v. (view g v).items; Kept = FrameOf g; Ended = DrainEnded; drain_word = codes "TinyVecDrain" }
 
   pub frame_ended : (start gap : ℕ) (u v w : TinyVec A T L) → FrameOf g u v → length (view g v).items ≡ length (view g u).items
       → remove_range (view g v).items start (start + gap) ≡ remove_range (view g u).items start (start + gap)

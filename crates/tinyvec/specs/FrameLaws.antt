@@ -34,11 +34,6 @@ module _ {T : Type 0} where
         rule_by D old new (λ i j. rw (frame.len, frame.spare) (rule_at D old mid h i (sym (ap (λ p. p.inline) frame.place) ∙ j)))
 
 module _ {A T L : Type 0} (g : Storage.Ghosts A T L) where
-  -- a list fits where it is
-  pub tiny_fits : (v : TinyVec A T L) → length (view g v).items ≤ (view g v).place.capacity
-  tiny_fits (Inline v alloc) = omega (arith, length-take (g.count v.len) (g.slots v.slots))
-  tiny_fits (Heap v) = omega (arith, v.ok.0, v.ok.1)
-
   -- a write through the slice of the items, which keeps its length, leaves what the slice shows
   pub tiny_items-with : (v : TinyVec A T L) (ws : List T) → length ws ≡ length (view g v).items → (view g (tiny_with_items g v ws)).items ≡ ws
   tiny_items-with (Inline v alloc) ws e = (written_of g v ws e).0

@@ -1,6 +1,6 @@
 //! What moves a range of items out of a vector.
 ghost use Rattle.std.specs.Prelude.{◌≡◌, ◌++◌, length, codes, ◌≤◌, ◌+◌, vec_len, vec_capacity};
-ghost use Rattle.tinyvec_slots.specs.Ranges.{IsRangeOf, before, removed, after};
+ghost use Rattle.tinyvec_slots.specs.Ranges.{IsRangeOf, items_before, items_within, items_after};
 ghost use Rattle.tinyvec.specs.TinyVec.{view};
 ghost use Rattle.tinyvec.specs.View.{Becomes};
 
@@ -26,12 +26,12 @@ impl<A: Array> TinyVec<A> {
         requires not_exhausted { R.has_bounds range }
         requires in_list { IsRangeOf (view A.Slots self.old).items (R.start_bound range) (R.end_bound range) }
         ensures begins { DrainBegins ⟦<TinyVec<A> as CanDrain>⟧ self.entry
-            (removed (view A.Slots self.old).items (R.start_bound range) (R.end_bound range))
-            (before (view A.Slots self.old).items (R.start_bound range)
-            ++ after (view A.Slots self.old).items (R.end_bound range))
+            (items_within (view A.Slots self.old).items (R.start_bound range) (R.end_bound range))
+            (items_before (view A.Slots self.old).items (R.start_bound range)
+            ++ items_after (view A.Slots self.old).items (R.end_bound range))
             (λ v. Becomes A.Item.is_default (view A.Slots self.old) (view A.Slots v)
-            (before (view A.Slots self.old).items (R.start_bound range)
-            ++ after (view A.Slots self.old).items (R.end_bound range))) result }
+            (items_before (view A.Slots self.old).items (R.start_bound range)
+            ++ items_after (view A.Slots self.old).items (R.end_bound range))) result }
         ensures vec { drain_vec result ≡ self.old }
     {
         let part = resolve_range(range, self.len());
@@ -45,13 +45,13 @@ impl<A: Array> TinyVec<A> {
         requires not_exhausted { R.has_bounds range }
         requires in_list { IsRangeOf (view A.Slots self.old).items (R.start_bound range) (R.end_bound range) }
         requires room { vec_len out.old
-            + length (removed (view A.Slots self.old).items (R.start_bound range) (R.end_bound range))
+            + length (items_within (view A.Slots self.old).items (R.start_bound range) (R.end_bound range))
             ≤ vec_capacity out.old }
         ensures becomes { Becomes A.Item.is_default (view A.Slots self.old) (view A.Slots self.new)
-            (before (view A.Slots self.old).items (R.start_bound range) ++ after
+            (items_before (view A.Slots self.old).items (R.start_bound range) ++ items_after
             (view A.Slots self.old).items (R.end_bound range)) }
         ensures moved { out.new.items
-            ≡ out.old.items ++ removed (view A.Slots self.old).items (R.start_bound range) (R.end_bound range) }
+            ≡ out.old.items ++ items_within (view A.Slots self.old).items (R.start_bound range) (R.end_bound range) }
         ensures out_capacity { vec_capacity out.new ≡ vec_capacity out.old }
     {
         let part = resolve_range(range, self.len());
@@ -68,7 +68,7 @@ impl<A: Array> CanDrain for TinyVec<A> {
 
     type Item = A::Item;
 
-    ghost held = { λ v. (view A.Slots v).items };
+    ghost drained_list = { λ v. (view A.Slots v).items };
 
     ghost Kept = { FrameOf A.Slots };
 
@@ -81,12 +81,12 @@ impl<A: Array> CanDrain for TinyVec<A> {
     }
 
     #[inline]
-    fn as_held(&self) -> &[A::Item] {
+    fn as_drained(&self) -> &[A::Item] {
         self.as_slice()
     }
 
     #[inline]
-    fn take_held(&mut self, i: usize) -> A::Item {
+    fn take_drained(&mut self, i: usize) -> A::Item {
         self.take_at(i)
     }
 

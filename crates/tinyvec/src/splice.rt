@@ -5,7 +5,7 @@ ghost use Rattle.tinyvec.specs.OnHeap.{HeapBecomes};
 ghost use Rattle.std.specs.Iterator.{IsFinite, Drains, YieldsThen};
 ghost use Rattle.std.specs.Iterator.Adapters.{fuse_done, fuse_source, fuse_steps};
 ghost use Rattle.tinyvec_slots.specs.Fused.{FusedCan, fused_rest};
-ghost use Rattle.tinyvec_slots.specs.Ranges.{IsRangeOf, Within, before, removed, after};
+ghost use Rattle.tinyvec_slots.specs.Ranges.{IsRangeOf, Within, items_before, items_within, items_after};
 ghost use Rattle.tinyvec.specs.TinyVec.{view};
 ghost use Rattle.tinyvec.specs.View.{StaysInPlace, Becomes, BecomesIn, Reserved, place_for};
 ghost use Rattle.tinyvec_slots.specs.Filling.{IntoIterYields, ShowsItems};
@@ -41,9 +41,9 @@ impl<A: Array> TinyVec<A> {
     ) -> TinyVecSplice<'_, A, Fuse<I::IntoIter>>
         requires not_exhausted { R.has_bounds range }
         requires in_list { IsRangeOf (view A.Slots self.old).items (R.start_bound range) (R.end_bound range) }
-        ensures begins { SpliceBegins (before (view A.Slots self.old).items (R.start_bound range))
-            (removed (view A.Slots self.old).items (R.start_bound range) (R.end_bound range))
-            (after (view A.Slots self.old).items (R.end_bound range)) (splice_view (λ v. (view A.Slots v).items) result)
+        ensures begins { SpliceBegins (items_before (view A.Slots self.old).items (R.start_bound range))
+            (items_within (view A.Slots self.old).items (R.start_bound range) (R.end_bound range))
+            (items_after (view A.Slots self.old).items (R.end_bound range)) (splice_view (λ v. (view A.Slots v).items) result)
             (splice_len result) }
         ensures replacement { I.into_iter_gives replacement (fuse_source (splice_replacement result)) }
         ensures unasked { fuse_done (splice_replacement result) ≡ false }
@@ -74,8 +74,8 @@ impl<A: Array> TinyVec<A> {
             × (fuse_done it ≡ false)
             × MatchResult result (λ _. Drains (fuse_steps I.IntoIter.next_gives) it xs)
             (λ refused. YieldsThen (fuse_steps I.IntoIter.next_gives) it xs (Some refused.item) refused.rest)
-            × ((view A.Slots self.new).items ≡ before (view A.Slots self.old).items (R.start_bound range) ++ xs
-            ++ after (view A.Slots self.old).items (R.end_bound range)) }
+            × ((view A.Slots self.new).items ≡ items_before (view A.Slots self.old).items (R.start_bound range) ++ xs
+            ++ items_after (view A.Slots self.old).items (R.end_bound range)) }
 
         // It refuses none while there is room.
         ensures full { OnErr result (length (view A.Slots self.new).items ≡ (view A.Slots self.new).place.capacity) }
@@ -88,22 +88,22 @@ impl<A: Array> TinyVec<A> {
         // For an iterator of which `rest` shows the remaining items. If there is room for them it allocates nothing.
         ensures listed { (rest : I.IntoIter → List A.Item) → ShowsItems I.IntoIter.next_gives rest
             → (it : I.IntoIter) × I.into_iter_gives replacement it
-            × (length (before (view A.Slots self.old).items (R.start_bound range)) + length (rest it)
-            + length (after (view A.Slots self.old).items (R.end_bound range)) ≤ (view A.Slots self.old).place.capacity
+            × (length (items_before (view A.Slots self.old).items (R.start_bound range)) + length (rest it)
+            + length (items_after (view A.Slots self.old).items (R.end_bound range)) ≤ (view A.Slots self.old).place.capacity
             → IsOk result)
-            × OnOk result ((view A.Slots self.new).items ≡ before (view A.Slots self.old).items
+            × OnOk result ((view A.Slots self.new).items ≡ items_before (view A.Slots self.old).items
             (R.start_bound range) ++ rest it
-            ++ after (view A.Slots self.old).items (R.end_bound range))
+            ++ items_after (view A.Slots self.old).items (R.end_bound range))
             × IfErr result (λ refused. (placed : List A.Item) × (rest it ≡ placed
             ++ refused.item ∷ fused_rest rest refused.rest)
-            × ((view A.Slots self.new).items ≡ before (view A.Slots self.old).items (R.start_bound range) ++ placed
-            ++ after (view A.Slots self.old).items (R.end_bound range))) }
+            × ((view A.Slots self.new).items ≡ items_before (view A.Slots self.old).items (R.start_bound range) ++ placed
+            ++ items_after (view A.Slots self.old).items (R.end_bound range))) }
 
         // For items that are known, as those of a `Vec`, a range or a slice. If there is room for them it allocates nothing.
         ensures known { (xs : List A.Item) → IntoIterYields I.into_iter_gives I.IntoIter.next_gives replacement xs
-            → PutsBetween (view A.Slots self.old).place.capacity (before (view A.Slots self.old).items
+            → PutsBetween (view A.Slots self.old).place.capacity (items_before (view A.Slots self.old).items
             (R.start_bound range)) xs
-            (after (view A.Slots self.old).items (R.end_bound range)) result (view A.Slots self.new).items }
+            (items_after (view A.Slots self.old).items (R.end_bound range)) result (view A.Slots self.new).items }
     {
         let splice = self.splice(range, replacement);
         splice.finish()
@@ -121,15 +121,15 @@ impl<A: Array> TinyVec<A> {
         requires not_exhausted { R.has_bounds range }
         requires in_list { IsRangeOf (view A.Slots self.old).items (R.start_bound range) (R.end_bound range) }
         ensures items { OnOk result ((view A.Slots self.new).items
-            ≡ before (view A.Slots self.old).items (R.start_bound range) ++ replacement.now
-            ++ after (view A.Slots self.old).items (R.end_bound range)) }
+            ≡ items_before (view A.Slots self.old).items (R.start_bound range) ++ replacement.now
+            ++ items_after (view A.Slots self.old).items (R.end_bound range)) }
         ensures ok { OnOk result (BecomesIn A.Item.is_default (view A.Slots self.old)
             (view A.Slots self.new) (view A.Slots self.new).items
             (place_for Reserved (length (view A.Slots self.new).items) (view A.Slots self.old).place)) }
 
         // If there is room it allocates nothing.
-        ensures succeeds { length (before (view A.Slots self.old).items (R.start_bound range)) + length replacement.now
-            + length (after (view A.Slots self.old).items (R.end_bound range)) ≤ (view A.Slots self.old).place.capacity
+        ensures succeeds { length (items_before (view A.Slots self.old).items (R.start_bound range)) + length replacement.now
+            + length (items_after (view A.Slots self.old).items (R.end_bound range)) ≤ (view A.Slots self.old).place.capacity
             → IsOk result }
         ensures refused { OnErr result (view A.Slots self.new ≡ view A.Slots self.old) }
     {

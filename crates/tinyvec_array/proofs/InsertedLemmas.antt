@@ -5,7 +5,8 @@ use Rattle.std.proofs.lemmas.List.Edits.{length-insert}
 use Rattle.tinyvec_slots.proofs.BorderLemmas.{list_to, spare_from}
 use Rattle.tinyvec_array.specs.ArrayVec.{items_of, spare_of, slots_of, SameLender}
 use Rattle.tinyvec_array.specs.View.{view, Becomes, NothingVacated}
-use Rattle.tinyvec_array.specs.ViewLaws.{becomes, same_place, rule_used}
+use Rattle.tinyvec_array.specs.ViewLaws.{becomes, same_place}
+use Rattle.tinyvec_array.proofs.RuleLemmas.{rule_used}
 use Rattle.tinyvec_array.specs.Lends.{at_slots, inserted_at}
 use Rattle.tinyvec_array.specs.declared.slots.Slots as Storage
 use Rattle.tinyvec_array.specs.declared.array_vec.ArrayVec.{ArrayVec}

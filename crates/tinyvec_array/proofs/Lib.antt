@@ -1,3 +1,5 @@
+pub mod RuleLemmas
+pub mod PartLemmas
 pub mod ViewLemmas
 pub mod InsertedLemmas
 pub mod AppendsLemmas

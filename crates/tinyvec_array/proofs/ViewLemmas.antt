@@ -6,11 +6,12 @@ use Rattle.std.specs.Borrow.{MutBor}
 use Rattle.std.specs.List.{refill, length_refill}
 use Rattle.std.specs.declared.ops.Bound.{Bound}
 use Rattle.tinyvec_slots.specs.Filters.{Shortened}
-use Rattle.tinyvec_slots.specs.Ranges.{IsRangeOf, before, removed, after, range_start, range_end}
+use Rattle.tinyvec_slots.specs.Ranges.{IsRangeOf, items_before, items_within, items_after, range_start, range_end}
 use Rattle.tinyvec_slots.proofs.Lists.{length-remove_range, length-slice_range, length-replaced}
 use Rattle.tinyvec_slots.proofs.BorderLemmas.{list_to, spare_from, replaced_length, replaced_len, replaced_list, replaced_shorter, replaced_behind, replaced_longer}
 use Rattle.tinyvec_slots.proofs.SlotsLemmas.{slots_used}
-use Rattle.tinyvec_array.specs.SliceParts.{with_front, with_back, with_front-as_long, with_back-as_long}
+use Rattle.tinyvec_array.specs.SliceParts.{with_front, with_back, with_front-as_long}
+use Rattle.tinyvec_array.proofs.PartLemmas.{with_back-as_long}
 use Rattle.tinyvec_array.specs.ArrayVec.{view_of, items_of, spare_of, slots_of, len_of, SameLender}
 use Rattle.tinyvec_array.specs.View.{view, Becomes, StaysInPlace, ShortensInPlace}
 use Rattle.tinyvec_array.specs.ViewLaws.{stays, becomes, same_place}
@@ -87,7 +88,7 @@ pub shortened : {S T L : Type 0} (g : Storage.Ghosts S T L) (D : T → Type 0) (
 shortened g D old new h = record { bound = h.bound; frame = cut_changes g D old new h.cut }
 
 -- a range that is taken out of a list leaves so many fewer items
-pub fewer : {T : Type 0} (xs : List T) (start end : Bound ℕ) → IsRangeOf xs start end → length xs ≡ length (before xs start ++ after xs end) + length (removed xs start end)
+pub fewer : {T : Type 0} (xs : List T) (start end : Bound ℕ) → IsRangeOf xs start end → length xs ≡ length (items_before xs start ++ items_after xs end) + length (items_within xs start end)
 fewer xs start end within =
     let i = range_start start in
     let j = range_end end (length xs) in

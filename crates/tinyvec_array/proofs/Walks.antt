@@ -28,7 +28,8 @@ use lib.ListN.{length, take, drop as drop_list, set, get_or, take-append-drop, l
 use borrow.Table.Elements.{at, at_mul, cut_app, join_app, focus_any, length-take-le}
 use Rattle.std.proofs.Common.{append_assoc}
 use Rattle.std.proofs.lemmas.List.{drop-drop}
-use Rattle.tinyvec_array.specs.SliceParts.{with_part, with_part-as_long}
+use Rattle.tinyvec_array.specs.SliceParts.{with_part}
+use Rattle.tinyvec_array.proofs.PartLemmas.{with_part-as_long}
 
 -- where the product fits a word, the count is zero or the size fits too
 pub uncapped : (i k : ℕ) → i * k < 2 ^ 64 → i * capped k ≡ i * k

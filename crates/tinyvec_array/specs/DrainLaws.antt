@@ -40,7 +40,7 @@ module _ {S T L : Type 0} (g : Storage.Ghosts S T L) where
 
     -- what `CanDrain` says of the vector
     abbrev pub drain_of : CanDrain.Ghosts (ArrayVec S L) T
-    drain_of = record { held = spare_of g; Kept = DrainKept; Ended = DrainEnded; drain_word = codes "ArrayVecDrain" }
+    drain_of = record { drained_list = spare_of g; Kept = DrainKept; Ended = DrainEnded; drain_word = codes "ArrayVecDrain" }
 
     pub drain_kept_ended : (start gap : ℕ) (u v w : ArrayVec S L) → DrainKept u v → length (spare_of g v) ≡ length (spare_of g u)
         → remove_range (spare_of g v) start (start + gap) ≡ remove_range (spare_of g u) start (start + gap)

@@ -17,9 +17,3 @@ with_part xs i j ws = take i xs ++ refill (j - i) (slice_range xs i j) ws ++ dro
 -- what is as long as the part is put in whole
 pub with_front-as_long : {X : Type 0} (xs ws : List X) (n : ℕ) → length ws ≡ n → ws ++ drop n xs ≡ with_front xs n ws
 with_front-as_long xs ws n long = ap (λ l. l ++ drop n xs) (sym (take_at ws (drop (length ws) (take n xs)) n long))
-
-pub with_back-as_long : {X : Type 0} (xs ws : List X) (n : ℕ) → length ws ≡ length (drop n xs) → take n xs ++ ws ≡ with_back xs n ws
-with_back-as_long xs ws n long = ap (λ l. take n xs ++ l) (sym (take_at ws (drop (length ws) (drop n xs)) (length (drop n xs)) long))
-
-pub with_part-as_long : {X : Type 0} (xs ws : List X) (i j : ℕ) → length ws ≡ j - i → take i xs ++ ws ++ drop j xs ≡ with_part xs i j ws
-with_part-as_long xs ws i j long = ap (λ l. take i xs ++ l ++ drop j xs) (sym (take_at ws (drop (length ws) (slice_range xs i j)) (j - i) long))

@@ -3,10 +3,9 @@ use Rattle.std.proofs.Common.{◌≡◌, ℕ, ◌+◌, ◌-◌, List, [], ◌++�
 use Rattle.std.specs.Prelude.{Bool, true, false, IsTrue, MatchBool, ⊤}
 use Rattle.std.proofs.lemmas.Bool.{false≢true}
 use Rattle.std.proofs.lemmas.List.{nil_from_length}
-use Rattle.std.proofs.lemmas.List.Elements.{All-nil}
 use Rattle.tinyvec_slots.specs.Slots.{AreDefaults, SlotRule}
 use Rattle.tinyvec_array.specs.ArrayVec.{view_of, items_of, SameLender}
-use Rattle.tinyvec_array.specs.View.{PlaceOf, View, view, SpareRule, BecomesIn, Becomes, StaysInPlace, NothingVacated}
+use Rattle.tinyvec_array.specs.View.{PlaceOf, View, view, SpareRule, Becomes, StaysInPlace}
 use Rattle.tinyvec_array.specs.declared.slots.Slots as Storage
 use Rattle.tinyvec_array.specs.declared.array_vec.ArrayVec.{ArrayVec}
 
@@ -14,31 +13,18 @@ pub one_place : {N : Type 0} {p q : PlaceOf N} → p.inline ≡ q.inline → p.c
 one_place side count name i = record { inline = side i; capacity = count i; lender = name i }
 
 -- The list was xs and is ys, the spare slots were us and are vs.
-abbrev Ruled : {T : Type 0} → (T → Type 0) → List T → List T → List T → List T → Type 0
+abbrev pub Ruled : {T : Type 0} → (T → Type 0) → List T → List T → List T → List T → Type 0
 Ruled D xs ys us vs = (ds : List _) × AreDefaults D (length xs - length ys) ds × (vs ≡ ds ++ drop (length ys - length xs) us)
 
 module _ {T : Type 0} (D : T → Type 0) (xs ys us vs : List T) where
-  -- the first k of the old spare slots are used up
-  pub rule_used : (k : ℕ) → length ys ≡ length xs + k → vs ≡ drop k us → Ruled D xs ys us vs
-  rule_used k more behind =
-      let none : 0 ≡ length xs - length ys = omega (arith, more) in
-      let count : k ≡ length ys - length xs = omega (arith, more) in
-      ([], (none, All-nil D), behind ∙ ap (λ n. drop n us) count)
-
-  -- k vacated slots precede the old spare slots
-  pub rule_freed : (k : ℕ) → length xs ≡ length ys + k → (ds : List T) × AreDefaults D k ds × (vs ≡ ds ++ us) → Ruled D xs ys us vs
-  rule_freed k less h =
-      let count : k ≡ length xs - length ys = omega (arith, less) in
-      let none : 0 ≡ length ys - length xs = omega (arith, less) in
-      (h.0, (h.1.0 ∙ count, h.1.1), h.2 ∙ ap (λ n. h.0 ++ drop n us) none)
-
-  -- and what the rule says of such a list
+  -- what the rule says of a list that got k items longer
   pub used_by : (k : ℕ) → length ys ≡ length xs + k → Ruled D xs ys us vs → vs ≡ drop k us
   used_by k more rule =
       let none : rule.0 ≡ [] = nil_from_length rule.0 (rule.1.0 ∙ omega (arith, more)) in
       let count : length ys - length xs ≡ k = omega (arith, more) in
       rule.2 ∙ ap (λ ds. ds ++ drop (length ys - length xs) us) none ∙ ap (λ n. drop n us) count
 
+  -- and of one that got k items shorter
   pub freed_by : (k : ℕ) → length xs ≡ length ys + k → Ruled D xs ys us vs → (ds : List T) × AreDefaults D k ds × (vs ≡ ds ++ us)
   freed_by k less rule =
       let count : length xs - length ys ≡ k = omega (arith, less) in
@@ -73,12 +59,3 @@ module _ {S T L : Type 0} (g : Storage.Ghosts S T L) where
 
     pub stays : StaysInPlace D (view g old) (view g new)
     stays = becomes (items_of g new) refl
-
--- a call that vacates no slot keeps the slot rule whatever vacated slots hold
-pub none_vacated : {T N : Type 0} (D : T → Type 0) {old new : View T N} {xs : List T} {p : PlaceOf N} → BecomesIn NothingVacated old new xs p → BecomesIn D old new xs p
-none_vacated D {old} {new} h = record {
-  items = h.items;
-  place = h.place;
-  slot_rule = rule_by D old new (λ i j. let r = rule_at NothingVacated old new h.slot_rule i j in (r.0, (r.1.0, λ k d lt. absurd (r.1.1 k d lt)), r.2));
-  fits = h.fits;
-}

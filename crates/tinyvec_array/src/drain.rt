@@ -1,7 +1,7 @@
 //! What moves a range of items out of a vector.
 ghost use Rattle.std.specs.Prelude.{◌≡◌, ◌++◌, length, ◌≤◌, ◌+◌, ◌^◌, codes, IsErr, vec_len, vec_capacity};
 ghost use Rattle.std.specs.List.{FoldsTo};
-ghost use Rattle.tinyvec_slots.specs.Ranges.{IsRangeOf, before, removed, after};
+ghost use Rattle.tinyvec_slots.specs.Ranges.{IsRangeOf, items_before, items_within, items_after};
 ghost use Rattle.tinyvec_array.specs.ArrayVec.{items_of, spare_of, len_of, SameLender};
 ghost use Rattle.tinyvec_array.specs.View.{view, Becomes};
 ghost use Rattle.tinyvec_array.specs.ToVec.{DrainsToVec};
@@ -33,15 +33,15 @@ where
         requires not_exhausted { R.has_bounds range }
         requires in_list { IsRangeOf (items_of S.Slots self.old) (R.start_bound range) (R.end_bound range) }
         ensures begins { DrainBegins ⟦<ArrayVec<S> as CanDrain>⟧ self.entry
-            (removed (items_of S.Slots self.old) (R.start_bound range) (R.end_bound range)) (spare_of S.Slots self.old)
+            (items_within (items_of S.Slots self.old) (R.start_bound range) (R.end_bound range)) (spare_of S.Slots self.old)
             (λ v. Becomes S.Item.is_default (view S.Slots self.old) (view S.Slots v)
-            (before (items_of S.Slots self.old) (R.start_bound range)
-            ++ after (items_of S.Slots self.old) (R.end_bound range))) result }
+            (items_before (items_of S.Slots self.old) (R.start_bound range)
+            ++ items_after (items_of S.Slots self.old) (R.end_bound range))) result }
 
         // The list lost them at the call.
         ensures lender { SameLender S.Slots self.old (drain_vec result) }
-        ensures items { items_of S.Slots (drain_vec result) ≡ before (items_of S.Slots self.old) (R.start_bound range)
-            ++ after (items_of S.Slots self.old) (R.end_bound range) }
+        ensures items { items_of S.Slots (drain_vec result) ≡ items_before (items_of S.Slots self.old) (R.start_bound range)
+            ++ items_after (items_of S.Slots self.old) (R.end_bound range) }
     {
         let count = self.cut_out(range);
         drain_held(self, 0, count)
@@ -53,11 +53,11 @@ where
         requires not_exhausted { R.has_bounds range }
         requires in_list { IsRangeOf (items_of S.Slots self.old) (R.start_bound range) (R.end_bound range) }
         ensures lender { SameLender S.Slots self.old self.new }
-        ensures items { items_of S.Slots self.new ≡ before (items_of S.Slots self.old) (R.start_bound range)
-            ++ after (items_of S.Slots self.old) (R.end_bound range) }
+        ensures items { items_of S.Slots self.new ≡ items_before (items_of S.Slots self.old) (R.start_bound range)
+            ++ items_after (items_of S.Slots self.old) (R.end_bound range) }
         ensures spare { spare_of S.Slots self.new
-            ≡ removed (items_of S.Slots self.old) (R.start_bound range) (R.end_bound range) ++ spare_of S.Slots self.old }
-        ensures count { length (removed (items_of S.Slots self.old) (R.start_bound range) (R.end_bound range)) ≡ result }
+            ≡ items_within (items_of S.Slots self.old) (R.start_bound range) (R.end_bound range) ++ spare_of S.Slots self.old }
+        ensures count { length (items_within (items_of S.Slots self.old) (R.start_bound range) (R.end_bound range)) ≡ result }
     {
         let len = self.len();
         let part = resolve_range(range, len);
@@ -79,7 +79,7 @@ where
 
     type Item = S::Item;
 
-    ghost held = { spare_of S.Slots };
+    ghost drained_list = { spare_of S.Slots };
 
     ghost Kept = { DrainKept S.Slots };
 
@@ -92,12 +92,12 @@ where
     }
 
     #[inline]
-    fn as_held(&self) -> &[S::Item] {
+    fn as_drained(&self) -> &[S::Item] {
         self.grab_spare_slice()
     }
 
     #[inline]
-    fn take_held(&mut self, i: usize) -> S::Item {
+    fn take_drained(&mut self, i: usize) -> S::Item {
         self.take_spare(i)
     }
 
@@ -127,12 +127,12 @@ where
         requires in_list { IsRangeOf (items_of S.Slots self.old) (R.start_bound range) (R.end_bound range) }
         requires callable { F.IsAlwaysCallable f.old }
         ensures becomes { Becomes S.Item.is_default (view S.Slots self.old) (view S.Slots self.new)
-            (before (items_of S.Slots self.old) (R.start_bound range)
-            ++ after (items_of S.Slots self.old) (R.end_bound range)) }
+            (items_before (items_of S.Slots self.old) (R.start_bound range)
+            ++ items_after (items_of S.Slots self.old) (R.end_bound range)) }
 
         // One call an item, and no more.
         ensures given { FoldsTo (λ p x q. F.step p x tt q) f.old
-            (removed (items_of S.Slots self.old) (R.start_bound range) (R.end_bound range)) f.new }
+            (items_within (items_of S.Slots self.old) (R.start_bound range) (R.end_bound range)) f.new }
         ensures still_callable { F.IsAlwaysCallable f.new }
     {
         for x in self.drain(range) {
@@ -148,13 +148,13 @@ where
         requires not_exhausted { R.has_bounds range }
         requires in_list { IsRangeOf (items_of S.Slots self.old) (R.start_bound range) (R.end_bound range) }
         requires room { vec_len out.old
-            + length (removed (items_of S.Slots self.old) (R.start_bound range)
+            + length (items_within (items_of S.Slots self.old) (R.start_bound range)
             (R.end_bound range)) ≤ vec_capacity out.old }
         ensures becomes { Becomes S.Item.is_default (view S.Slots self.old) (view S.Slots self.new)
-            (before (items_of S.Slots self.old) (R.start_bound range)
-            ++ after (items_of S.Slots self.old) (R.end_bound range)) }
+            (items_before (items_of S.Slots self.old) (R.start_bound range)
+            ++ items_after (items_of S.Slots self.old) (R.end_bound range)) }
         ensures moved { out.new.items ≡ out.old.items
-            ++ removed (items_of S.Slots self.old) (R.start_bound range) (R.end_bound range) }
+            ++ items_within (items_of S.Slots self.old) (R.start_bound range) (R.end_bound range) }
         ensures capacity { vec_capacity out.new ≡ vec_capacity out.old }
     {
         let count = self.cut_out(range);

@@ -4,7 +4,7 @@ ghost use Rattle.std.specs.Iterator.{Drains, YieldsThen};
 ghost use Rattle.std.specs.Iterator.Adapters.{fuse_done, fuse_source, fuse_steps};
 ghost use Rattle.tinyvec_array.specs.ArrayVec.{items_of, slots_of, len_of};
 ghost use Rattle.tinyvec_array.specs.View.{view, StaysInPlace};
-ghost use Rattle.tinyvec_slots.specs.Ranges.{IsRangeOf, before, removed, after};
+ghost use Rattle.tinyvec_slots.specs.Ranges.{IsRangeOf, items_before, items_within, items_after};
 ghost use Rattle.tinyvec_slots.specs.Filling.{IntoIterYields, ShowsItems};
 ghost use Rattle.tinyvec_slots.specs.Fused.{FusedCan, fused_rest};
 ghost use Rattle.tinyvec_slots.specs.Replacing.{PutsBetween};
@@ -37,9 +37,9 @@ where
     ) -> ArrayVecSplice<'_, S, Fuse<I::IntoIter>>
         requires not_exhausted { R.has_bounds range }
         requires in_list { IsRangeOf (items_of S.Slots self.old) (R.start_bound range) (R.end_bound range) }
-        ensures begins { SpliceBegins (before (items_of S.Slots self.old) (R.start_bound range))
-            (removed (items_of S.Slots self.old) (R.start_bound range) (R.end_bound range))
-            (after (items_of S.Slots self.old) (R.end_bound range)) (splice_view (items_of S.Slots) result)
+        ensures begins { SpliceBegins (items_before (items_of S.Slots self.old) (R.start_bound range))
+            (items_within (items_of S.Slots self.old) (R.start_bound range) (R.end_bound range))
+            (items_after (items_of S.Slots self.old) (R.end_bound range)) (splice_view (items_of S.Slots) result)
             (splice_len result) }
         ensures replacement { I.into_iter_gives replacement (fuse_source (splice_replacement result)) }
         ensures unasked { fuse_done (splice_replacement result) ≡ false }
@@ -68,8 +68,8 @@ where
             × MatchResult result (λ _. Drains (fuse_steps I.IntoIter.next_gives) it xs)
             (λ refused. YieldsThen (fuse_steps I.IntoIter.next_gives) it xs (Some refused.item) refused.rest)
             × (items_of S.Slots self.new
-            ≡ before (items_of S.Slots self.old) (R.start_bound range) ++ xs
-            ++ after (items_of S.Slots self.old) (R.end_bound range)) }
+            ≡ items_before (items_of S.Slots self.old) (R.start_bound range) ++ xs
+            ++ items_after (items_of S.Slots self.old) (R.end_bound range)) }
         ensures full { OnErr result (len_of S.Slots self.new ≡ length (slots_of S.Slots self.new)) }
         ensures changes { StaysInPlace S.Item.is_default (view S.Slots self.old) (view S.Slots self.new) }
 
@@ -79,21 +79,21 @@ where
         // For an iterator of which `rest` shows the remaining items.
         ensures listed { (rest : I.IntoIter → List S.Item) → ShowsItems I.IntoIter.next_gives rest
             → (it : I.IntoIter) × I.into_iter_gives replacement it
-            × (IsOk result ↔ (length (before (items_of S.Slots self.old) (R.start_bound range)) + length (rest it)
-            + length (after (items_of S.Slots self.old) (R.end_bound range)) ≤ length (slots_of S.Slots self.new)))
+            × (IsOk result ↔ (length (items_before (items_of S.Slots self.old) (R.start_bound range)) + length (rest it)
+            + length (items_after (items_of S.Slots self.old) (R.end_bound range)) ≤ length (slots_of S.Slots self.new)))
             × OnOk result (items_of S.Slots self.new
-            ≡ before (items_of S.Slots self.old) (R.start_bound range) ++ rest it
-            ++ after (items_of S.Slots self.old) (R.end_bound range))
+            ≡ items_before (items_of S.Slots self.old) (R.start_bound range) ++ rest it
+            ++ items_after (items_of S.Slots self.old) (R.end_bound range))
             × IfErr result (λ refused. (placed : List S.Item)
             × (rest it ≡ placed ++ refused.item ∷ fused_rest rest refused.rest)
             × (items_of S.Slots self.new
-            ≡ before (items_of S.Slots self.old) (R.start_bound range) ++ placed
-            ++ after (items_of S.Slots self.old) (R.end_bound range))) }
+            ≡ items_before (items_of S.Slots self.old) (R.start_bound range) ++ placed
+            ++ items_after (items_of S.Slots self.old) (R.end_bound range))) }
 
         // For items that are known, as those of a `Vec`, a range or a slice.
         ensures known { (xs : List S.Item) → IntoIterYields I.into_iter_gives I.IntoIter.next_gives replacement xs
-            → PutsBetween (length (slots_of S.Slots self.new)) (before (items_of S.Slots self.old) (R.start_bound range)) xs
-            (after (items_of S.Slots self.old) (R.end_bound range)) result (items_of S.Slots self.new) }
+            → PutsBetween (length (slots_of S.Slots self.new)) (items_before (items_of S.Slots self.old) (R.start_bound range)) xs
+            (items_after (items_of S.Slots self.old) (R.end_bound range)) result (items_of S.Slots self.new) }
     {
         let splice = self.splice(range, replacement);
         splice.finish()
@@ -112,12 +112,12 @@ where
         S::Item: Copy,
         requires not_exhausted { R.has_bounds range }
         requires in_list { IsRangeOf (items_of S.Slots self.old) (R.start_bound range) (R.end_bound range) }
-        ensures variant { IsOk result ↔ (length (before (items_of S.Slots self.old) (R.start_bound range))
-            + length replacement.now + length (after (items_of S.Slots self.old) (R.end_bound range))
+        ensures variant { IsOk result ↔ (length (items_before (items_of S.Slots self.old) (R.start_bound range))
+            + length replacement.now + length (items_after (items_of S.Slots self.old) (R.end_bound range))
             ≤ length (slots_of S.Slots self.old)) }
         ensures items { OnOk result (items_of S.Slots self.new
-            ≡ before (items_of S.Slots self.old) (R.start_bound range) ++ replacement.now
-            ++ after (items_of S.Slots self.old) (R.end_bound range)) }
+            ≡ items_before (items_of S.Slots self.old) (R.start_bound range) ++ replacement.now
+            ++ items_after (items_of S.Slots self.old) (R.end_bound range)) }
         ensures changes { StaysInPlace S.Item.is_default (view S.Slots self.old) (view S.Slots self.new) }
         ensures refused { OnErr result (self.new ≡ self.old) }
     {

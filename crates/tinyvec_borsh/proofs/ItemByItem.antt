@@ -11,7 +11,8 @@ use Rattle.tinyvec_borsh.specs.Both.{IsBehind}
 use Rattle.tinyvec_borsh.specs.Fronts.{FrontsAreCut}
 use Rattle.tinyvec_borsh.specs.FrontsLaws.{counted-fronts, cut-place}
 use Rattle.tinyvec_borsh.specs.Number.{TooFewBytes}
-use Rattle.tinyvec_borsh.specs.TwoParts.{HasParts, first-so, group-first, group-rest, joined, rest-so, with-tail}
+use Rattle.tinyvec_borsh.specs.TwoParts.{HasParts, group-first, joined, with-tail}
+use Rattle.tinyvec_borsh.proofs.Parts.{first-so, group-rest, rest-so}
 use Rattle.tinyvec_borsh.specs.Reading.{MayBe, ReadsSpelling, Fails, FailsFor, LeavesRest, TakesSome}
 use Rattle.tinyvec_io.specs.Counted.{CountedView, CountsFault}
 

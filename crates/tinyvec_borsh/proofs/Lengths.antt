@@ -3,7 +3,8 @@ use Rattle.std.proofs.Common.{◌≡◌, ◌∙◌, ap, ℕ, ◌+◌, ◌*◌, �
 use Rattle.std.proofs.lemmas.List.{map_more}
 use Rattle.tinyvec_borsh.specs.Items.{SpellsItems, SpellsList}
 use Rattle.tinyvec_borsh.specs.Number.{SpellsNumber}
-use Rattle.tinyvec_borsh.specs.TwoParts.{HasParts, group-first, parts-length, rest-so}
+use Rattle.tinyvec_borsh.specs.TwoParts.{HasParts, group-first, parts-length}
+use Rattle.tinyvec_borsh.proofs.Parts.{rest-so}
 
 numbers-length : (width : ℕ) (ns bytes : List ℕ) → SpellsItems (SpellsNumber width) ns bytes → length bytes ≡ width * length ns
 numbers-length width [] bytes p = omega (arith, ap length p)

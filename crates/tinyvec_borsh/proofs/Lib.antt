@@ -7,6 +7,7 @@ pub mod ItemsInFront
 pub mod Lengths
 pub mod NumberBlocks
 pub mod Outcomes
+pub mod Parts
 pub mod Place
 mod Pushed
 pub mod ReadBack

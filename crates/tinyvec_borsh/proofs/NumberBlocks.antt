@@ -11,7 +11,8 @@ use Rattle.tinyvec_borsh.specs.declared.borsh_error.BorshError.{BorshError}
 use Rattle.tinyvec_borsh.specs.declared.borsh_error.BorshError.TheVariants.{Ended}
 use Rattle.tinyvec_borsh.specs.Items.{SpellsItems, AfterItems}
 use Rattle.tinyvec_borsh.specs.Number.{SpellsNumber, TooFewBytes}
-use Rattle.tinyvec_borsh.specs.TwoParts.{HasParts, first-so, group-first, joined, rest-so}
+use Rattle.tinyvec_borsh.specs.TwoParts.{HasParts, group-first, joined}
+use Rattle.tinyvec_borsh.proofs.Parts.{first-so, rest-so}
 use Rattle.tinyvec_borsh.specs.Reading.{FailsFor, FewBytes}
 use Rattle.tinyvec_io.specs.Counted.{CountedView}
 use Rattle.tinyvec_borsh.specs.Fronts.{FrontsAreCut}

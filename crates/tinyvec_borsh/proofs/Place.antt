@@ -4,7 +4,8 @@ use Rattle.std.proofs.lemmas.List.{nil_from_length, length-drop}
 use Rattle.std.proofs.lemmas.List.Elements.{All-drop}
 use Rattle.tinyvec_slots.specs.Slots.{AreDefaults}
 use Rattle.std.proofs.lemmas.Bool.{both_ways, cases_lt}
-use Rattle.tinyvec.specs.PlaceLaws.{place_grown, place_same, was_inline}
+use Rattle.tinyvec.specs.PlaceLaws.{place_grown, place_same}
+use Rattle.tinyvec.proofs.PlaceLemmas.{was_inline}
 use Rattle.tinyvec_array.specs.ViewLaws.{rule_at}
 use Rattle.tinyvec.specs.View.{Growth, Place, SpareRule, TinyView, place_for, takes_need}
 

@@ -12,14 +12,6 @@ pub record HasParts (IsFirst IsRest : List ℕ → Type 0) (bytes : List ℕ) : 
 pub joined : {P Q : List ℕ → Type 0} (first rest : List ℕ) → P first → Q rest → HasParts P Q (first ++ rest)
 joined first rest p q = record { first = first; rest = rest; is_first = p; is_rest = q; whole = refl }
 
--- something else is known of the first part
-pub first-so : {P Q R : List ℕ → Type 0} {bytes : List ℕ} (p : HasParts P R bytes) → Q p.first → HasParts Q R bytes
-first-so p q = record { first = p.first; rest = p.rest; is_first = q; is_rest = p.is_rest; whole = p.whole }
-
--- something else is known of the rest
-pub rest-so : {P Q R : List ℕ → Type 0} {bytes : List ℕ} (p : HasParts P Q bytes) → R p.rest → HasParts P R bytes
-rest-so p r = record { first = p.first; rest = p.rest; is_first = p.is_first; is_rest = r; whole = p.whole }
-
 -- what follows the bytes follows the rest
 pub with-tail : {P Q : List ℕ → Type 0} {bytes : List ℕ} (p : HasParts P Q bytes) (tail : List ℕ) → bytes ++ tail ≡ p.first ++ (p.rest ++ tail)
 with-tail p tail = ap (λ l. l ++ tail) p.whole ∙ append_assoc p.first p.rest tail
@@ -29,12 +21,6 @@ pub group-first : {P Q R : List ℕ → Type 0} {bytes : List ℕ} → HasParts 
 group-first p =
     let q = p.is_rest in
     record { first = p.first ++ q.first; rest = q.rest; is_first = joined p.first q.first p.is_first q.is_first; is_rest = q.is_rest; whole = p.whole ∙ ap (λ l. p.first ++ l) q.whole ∙ sym (append_assoc p.first q.first q.rest) }
-
--- or with the rest
-pub group-rest : {P Q R : List ℕ → Type 0} {bytes : List ℕ} → HasParts (HasParts P Q) R bytes → HasParts P (HasParts Q R) bytes
-group-rest p =
-    let q = p.is_first in
-    record { first = q.first; rest = q.rest ++ p.rest; is_first = q.is_first; is_rest = joined q.rest p.rest q.is_rest p.is_rest; whole = p.whole ∙ with-tail q p.rest }
 
 -- the lengths add up
 pub parts-length : {P Q : List ℕ → Type 0} {bytes : List ℕ} (p : HasParts P Q bytes) → length bytes ≡ length p.first + length p.rest

@@ -1,7 +1,7 @@
 //! Callers of a drain.
 ghost use Rattle.std.specs.Prelude.{◌≡◌, ◌-◌, ◌++◌, ◌∷◌, [], pos, Some, slice_get};
 ghost use Rattle.tinyvec_array.specs.ArrayVec.{items_of};
-ghost use Rattle.tinyvec_array.specs.Ranges.{IsRangeOf, before, removed, after};
+ghost use Rattle.tinyvec_array.specs.Ranges.{IsRangeOf, items_before, items_within, items_after};
 
 use std::ops::RangeBounds;
 use tinyvec_array::{Array, ArrayVec};
@@ -26,8 +26,8 @@ pub fn nth_of<A: Array, R: RangeBounds<usize>>(
 ) -> Option<A::Item>
     requires not_exhausted { R.has_bounds range }
     requires in_list { IsRangeOf (items_of A.Slots v.old) (R.start_bound range) (R.end_bound range) }
-    ensures item { result ≡ slice_get (removed (items_of A.Slots v.old) (R.start_bound range) (R.end_bound range)) n }
-    ensures left { items_of A.Slots v.new ≡ before (items_of A.Slots v.old) (R.start_bound range) ++ after (items_of A.Slots v.old) (R.end_bound range) }
+    ensures item { result ≡ slice_get (items_within (items_of A.Slots v.old) (R.start_bound range) (R.end_bound range)) n }
+    ensures left { items_of A.Slots v.new ≡ items_before (items_of A.Slots v.old) (R.start_bound range) ++ items_after (items_of A.Slots v.old) (R.end_bound range) }
 {
     let mut d = v.drain(range);
     d.nth(n)

@@ -1,6 +1,6 @@
 //! Callers of a `TinyVec`: one list, and where it is.
 ghost use Rattle.std.specs.Prelude.{◌≡◌, ◌+◌, ◌-◌, ◌<◌, ◌++◌, ◌∷◌, [], pos, length, slice_set, IsTrue, IfOk, OnOk, OnErr};
-ghost use Rattle.tinyvec.specs.Ranges.{IsRangeOf, before, after};
+ghost use Rattle.tinyvec.specs.Ranges.{IsRangeOf, items_before, items_after};
 ghost use Rattle.tinyvec.specs.TinyVec.{view, tiny_items, tiny_spare, IsInline, tiny_capacity};
 ghost use Rattle.tinyvec.specs.View.{Becomes};
 
@@ -62,7 +62,7 @@ pub fn cut<A: Array, R: RangeBounds<usize>>(v: &mut TinyVec<A>, range: R)
     requires not_exhausted { R.has_bounds range }
     requires in_list { IsRangeOf (view A.Slots v.old).items (R.start_bound range) (R.end_bound range) }
     ensures { Becomes A.Item.is_default (view A.Slots v.old) (view A.Slots v.new)
-        (before (view A.Slots v.old).items (R.start_bound range) ++ after (view A.Slots v.old).items (R.end_bound range)) }
+        (items_before (view A.Slots v.old).items (R.start_bound range) ++ items_after (view A.Slots v.old).items (R.end_bound range)) }
 {
     drop(v.drain(range));
 }

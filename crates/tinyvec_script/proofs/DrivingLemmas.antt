@@ -8,7 +8,7 @@ use Rattle.std.specs.declared.vec.IntoIter.{IntoIter}
 use Rattle.std.specs.declared.iter.Fuse.{Fuse}
 use Rattle.std.specs.Iterator.Adapters.{fuse_steps}
 use Rattle.std.specs.declared.ops.Bound.TheVariants.{Included, Excluded}
-use Rattle.tinyvec_slots.specs.Ranges.{before, removed, after}
+use Rattle.tinyvec_slots.specs.Ranges.{items_before, items_within, items_after}
 use Rattle.tinyvec_slots.specs.Ends.{front, back, RunsWord, GivenByWord, TakesFromEnds, given_items}
 use Rattle.tinyvec_slots.specs.Fused.{HasTwoEnds, fused_rest}
 use Rattle.tinyvec_slots.specs.Splice.{splice_view, splice_left, SpliceKeeps, SpliceSteps, SpliceStepsBack}
@@ -72,9 +72,9 @@ module _ {V T Z : Type 0} (items : V → List T) (Kept : V → V → Type 0) (sa
 module _ {S I T : Type 0} (view : S → SpliceView I T) (keeps : S → S → Type 0) (rest : I → List T) (s t : S) (word : List End) (answers : List (Option T))
     (along : SplicedByWord view keeps rest s (word_of word) t) (takes : TakesFromEnds (view s).left (word_of word) answers (view t).left)
     (capacity : ℕ) (old new : List T) (start end : ℕ) (replacement : List T) (in_order : start ≤ end) (in_list : end ≤ length old)
-    (ahead : (view s).front ≡ before old (Included start)) (left : (view s).left ≡ removed old (Included start) (Excluded end))
-    (behind : (view s).back ≡ after old (Excluded end)) (whole : rest (view s).replacement ≡ replacement) where
-  yields_are : GivenByWord (removed old (Included start) (Excluded end)) (word_of word) (given_items answers)
+    (ahead : (view s).front ≡ items_before old (Included start)) (left : (view s).left ≡ items_within old (Included start) (Excluded end))
+    (behind : (view s).back ≡ items_after old (Excluded end)) (whole : rest (view s).replacement ≡ replacement) where
+  yields_are : GivenByWord (items_within old (Included start) (Excluded end)) (word_of word) (given_items answers)
   yields_are =
       subst (λ xs. GivenByWord xs (word_of word) (given_items answers)) left (items_given (view s).left (word_of word) answers (view t).left takes)
 
@@ -101,7 +101,7 @@ module _ {S I T : Type 0} (view : S → SpliceView I T) (keeps : S → S → Typ
       let is = spliced_refused view keeps rest s t (word_of word) new _ _ _ replacement along ahead left behind whole h.0 unplaced.item (rest unplaced.rest) h.1 h.2 in record {
         yields_are = yields_are;
         placed = λ le. absurd (no (omega (arith, le, sum)));
-        refused = λ over. (subst (λ k. IsSpliceRefused (word_of word) k (before old (Included start)) (after old (Excluded end)) replacement new (unplaced.item ∷ rest unplaced.rest)) n is, h.3);
+        refused = λ over. (subst (λ k. IsSpliceRefused (word_of word) k (items_before old (Included start)) (items_after old (Excluded end)) replacement new (unplaced.item ∷ rest unplaced.rest)) n is, h.3);
       }
 
   -- it was refused where the list does not fit
@@ -124,15 +124,15 @@ module _ {S I T : Type 0} (view : S → SpliceView I T) (keeps : S → S → Typ
 module _ {T : Type 0} (capacity : ℕ) (old new : List T) (start end : ℕ) (word : List End) (replacement yields rest : List T)
     (in_order : start ≤ end) (in_list : end ≤ length old) where
   cut_at : (at : ℕ) (list : List T) → length list ≡ capacity → at < unplaced_to capacity old start end word replacement
-      → list ≡ before old (Included start) ++ take at replacement ++ drop (unplaced_to capacity old start end word replacement) replacement
-      ++ after old (Excluded end)
+      → list ≡ items_before old (Included start) ++ take at replacement ++ drop (unplaced_to capacity old start end word replacement) replacement
+      ++ items_after old (Excluded end)
       → at ≡ unplaced_from capacity old start end word replacement
   cut_at at list full below is =
       let to = unplaced_to capacity old start end word replacement in
-      let A = before old (Included start) in
+      let A = items_before old (Included start) in
       let B = take at replacement in
       let C = drop to replacement in
-      let E = after old (Excluded end) in
+      let E = items_after old (Excluded end) in
       let all = ap length is in
       let one = length-append (A ++ B ++ C) E in
       let two = length-append (A ++ B) C in
@@ -150,12 +150,12 @@ module _ {T : Type 0} (capacity : ℕ) (old new : List T) (start end : ℕ) (wor
       let sum = start + length replacement + (length old - end) in
       let to = unplaced_to capacity xs start end word replacement in
       let at = unplaced_from capacity xs start end word replacement in
-      let A = before xs (Included start) in
-      let E = after xs (Excluded end) in
+      let A = items_before xs (Included start) in
+      let E = items_after xs (Excluded end) in
       let run = slice_range replacement at to in
       let cut = A ++ take at replacement ++ drop to replacement ++ E in
       let whole = A ++ replacement ++ E in
-      let given = given_is_taken (removed xs (Included start) (Excluded end)) (word_of word) yields h.yields_are in
+      let given = given_is_taken (items_within xs (Included start) (Excluded end)) (word_of word) yields h.yields_are in
       elim (cases_lt capacity sum) [
         | inl over ↦
             (let r = (h.refused over).0 in

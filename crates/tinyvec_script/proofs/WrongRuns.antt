@@ -3,7 +3,8 @@ use Rattle.std.proofs.Common.{◌≡◌, ℕ, ◌+◌, ◌<◌, ◌≤◌, List,
 use Rattle.tinyvec_text.specs.InlineText.{Text, text_len}
 use Rattle.tinyvec_script.specs.Step.{Run}
 use Rattle.tinyvec.specs.View.{TinyView, Doubled, Reserved}
-use Rattle.tinyvec.specs.PlaceLaws.{place_same, place_grown, place_enough}
+use Rattle.tinyvec.specs.PlaceLaws.{place_same, place_grown}
+use Rattle.tinyvec.proofs.PlaceLemmas.{place_enough}
 use Rattle.tinyvec_script.specs.TinyCalls.{TinyStep}
 use Rattle.tinyvec_script.specs.TextCalls.{add, cut, TextStep}
 use Rattle.tinyvec_script.specs.declared.call.Call.{Call}

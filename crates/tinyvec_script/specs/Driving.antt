@@ -1,8 +1,8 @@
 -- A splice that is driven by a word of ends, from the call to `finish`.
 use Rattle.std.specs.Prelude.{◌≡◌, ℕ, ◌+◌, ◌-◌, ◌<◌, ◌≤◌, List, [], ◌∷◌, ◌++◌, length, map, take, drop, slice_range, Option, Bool, nat_lt, if◌then◌else◌, Result, Ok, Err}
 use Rattle.std.specs.declared.ops.Bound.TheVariants.{Included, Excluded}
-use Rattle.tinyvec_slots.specs.Ranges.{IsRangeOf, before, removed, after}
-use Rattle.tinyvec_slots.specs.Ends.{front, back, GivenByWord, taken}
+use Rattle.tinyvec_slots.specs.Ranges.{IsRangeOf, items_before, items_within, items_after}
+use Rattle.tinyvec_slots.specs.Ends.{front, back, GivenByWord, taken_items}
 use Rattle.tinyvec_slots.specs.Ends as ends
 use Rattle.tinyvec_slots.specs.SplicedByWord.{IsSpliceRefused, placed_back}
 use Rattle.tinyvec_slots.specs.declared.no_room.NoRoom.{NoRoom}
@@ -35,11 +35,11 @@ refused_items rest (Err refused) = refused.item ∷ rest refused.rest
 -- replacement fits, the list is full, and rest is the one run that was not placed.
 pub record ListSplices {T : Type 0} (capacity : ℕ) (old : List T) (start end : ℕ) (word : List End)
     (replacement yields rest new : List T) : Type 0 where
-  pub yields_are : GivenByWord (removed old (Included start) (Excluded end)) (word_of word) yields
+  pub yields_are : GivenByWord (items_within old (Included start) (Excluded end)) (word_of word) yields
   pub placed : start + length replacement + (length old - end) ≤ capacity
-      → (rest ≡ []) × (new ≡ before old (Included start) ++ replacement ++ after old (Excluded end))
+      → (rest ≡ []) × (new ≡ items_before old (Included start) ++ replacement ++ items_after old (Excluded end))
   pub refused : capacity < start + length replacement + (length old - end)
-      → IsSpliceRefused (word_of word) (end - start) (before old (Included start)) (after old (Excluded end))
+      → IsSpliceRefused (word_of word) (end - start) (items_before old (Included start)) (items_after old (Excluded end))
       replacement new rest × (length new ≡ capacity)
 
 -- A splice that is driven by the word took a vector from `old` to `new`, or one view of it to another: `items` shows the list, and
@@ -66,14 +66,14 @@ IsRange xs start end = IsRangeOf xs (Included start) (Excluded end)
 
 -- the items from start up to end were taken out
 pub record ListDrains {T : Type 0} (old : List T) (start end : ℕ) (given new : List T) : Type 0 where
-  pub given_are : given ≡ removed old (Included start) (Excluded end)
-  pub items_are : new ≡ before old (Included start) ++ after old (Excluded end)
+  pub given_are : given ≡ items_within old (Included start) (Excluded end)
+  pub items_are : new ≡ items_before old (Included start) ++ items_after old (Excluded end)
 
 -- What a splice makes of a list, computed for given numbers and a given word.
 module _ {T : Type 0} (capacity : ℕ) (xs : List T) (start end : ℕ) (word : List End) (replacement : List T) where
   -- the items that the word takes
   abbrev pub yields_of : List T
-  yields_of = taken (word_of word) (removed xs (Included start) (Excluded end))
+  yields_of = taken_items (word_of word) (items_within xs (Included start) (Excluded end))
 
   -- where the run that has no place begins in the replacement, if the list does not fit
   abbrev pub unplaced_from : ℕ
@@ -94,9 +94,9 @@ module _ {T : Type 0} (capacity : ℕ) (xs : List T) (start end : ℕ) (word : L
   -- the list is full if the replacement does not fit
   abbrev pub list_of : List T
   list_of = if overflows
-      then before xs (Included start) ++ take unplaced_from replacement ++ drop unplaced_to replacement
-      ++ after xs (Excluded end)
-      else before xs (Included start) ++ replacement ++ after xs (Excluded end)
+      then items_before xs (Included start) ++ take unplaced_from replacement ++ drop unplaced_to replacement
+      ++ items_after xs (Excluded end)
+      else items_before xs (Included start) ++ replacement ++ items_after xs (Excluded end)
 
   -- what the splice yielded, what it did not place, and the new list, as computed
   pub record SpliceComputes (yields rest list : List T) : Type 0 where

@@ -6,7 +6,7 @@ use Rattle.std.specs.List.{AppendsClones}
 use Rattle.std.specs.Prelude.{Result, Ok, Err, IsOk, IsErr}
 use Rattle.std.specs.declared.clone.Clone as Clone
 use Rattle.std.specs.declared.ops.Bound.{Bound}
-use Rattle.tinyvec_slots.specs.Ranges.{IsRangeOf, range_start, range_end, removed}
+use Rattle.tinyvec_slots.specs.Ranges.{IsRangeOf, range_start, range_end, items_within}
 use Rattle.tinyvec_slots.specs.Slots.{Slots, items_in, len_in, spare_in, split_at}
 use Rattle.tinyvec_slots.specs.Clones.{RefusedAt, ClonesAreEqual, ClonesOver, ClonesOverFrom, AddsClones}
 use Rattle.tinyvec_slots.proofs.CloneLemmas.{range_before}
@@ -98,12 +98,12 @@ module _ {T : Type 0} {C : T → T → Type 0} {len n : ℕ} {more xs new : List
 
 -- the items of a range, where they stand in slots
 pub removed_in : {T : Type 0} (v : Slots T) (first last : Bound ℕ) (n i j : ℕ) → n ≡ len_in v → i ≡ range_start first → j ≡ range_end last n
-    → IsRangeOf (items_in v) first last → (slice_range v.slots i j ≡ removed (items_in v) first last) × (j - i ≡ length (removed (items_in v) first last))
+    → IsRangeOf (items_in v) first last → (slice_range v.slots i j ≡ items_within (items_in v) first last) × (j - i ≡ length (items_within (items_in v) first last))
 removed_in v first last n i j is start end range =
     let ends = end ∙ ap (range_end last) is in
     let le : i ≤ j = omega (arith, start, ends, range.0) in
     let inside : j ≤ n = omega (arith, ends, range.1, is) in
-    let same : slice_range v.slots i j ≡ removed (items_in v) first last = rw (← range_before v.slots i j n le inside, list_to v.len v.slots n is, start, ends) in
+    let same : slice_range v.slots i j ≡ items_within (items_in v) first last = rw (← range_before v.slots i j n le inside, list_to v.len v.slots n is, start, ends) in
     (same, sym (length-slice_range v.slots i j le (omega (arith, inside, within v.len v.slots n is))) ∙ ap length same)
 
 -- A call was to append clones of xs to a list of n items, and there is room.

@@ -1,6 +1,9 @@
 -- Lemmas on clones written over slots.
-use Rattle.std.proofs.Common.{◌≡◌, ℕ, ◌+◌, ◌-◌, ◌<◌, ◌≤◌, List, [], ◌∷◌, ◌++◌, length, take, drop, set, get_or, slice_range, ap, ◌∙◌, arith, append_assoc, length-take-le, length-append, length-drop, take-append-drop, Result, Ok, Err, OnErr}
+use Rattle.std.proofs.Common.{◌≡◌, ℕ, ◌+◌, ◌-◌, ◌<◌, ◌≤◌, List, [], ◌∷◌, ◌++◌, length, take, drop, set, get_or, slice_range, sym, ap, ◌∙◌, arith, append_assoc, length-take-le, length-append, length-drop, take-append-drop, Result, Ok, Err, OnErr}
 use Rattle.std.proofs.lemmas.Slice.{between_is}
+use Rattle.std.proofs.lemmas.List.Elements.{same_from_all_zip, length_all_zip}
+use Rattle.std.specs.List.{AllZip}
+use Rattle.tinyvec_slots.specs.Clones.{AreClones}
 use Rattle.std.proofs.lemmas.List.{drop_more, set_at, drop-drop, drop-append-le, take-take, take_at, drop_at}
 use Rattle.std.proofs.Math.Seq.{take-append-add}
 use Rattle.tinyvec_slots.specs.Slots.{Slots, SlotRule, all_slots, items_in, spare_in, split_at}
@@ -57,3 +60,11 @@ module _ {T : Type 0} (old : Slots T) (ws xs : List T) (n : ℕ) (fits : old.len
   grown D =
       let behind : drop n xs ≡ drop (length ws) (spare_in old) = rw (is, drop_at (items_in old ++ ws) (drop n (all_slots old)) n front, drop-drop, ends) in
       slots_used D old (split_at n xs) (length ws) (ap length grown_items ∙ length-append (items_in old) ws) behind
+
+-- from the clones of a list follow their number and what they equal
+pub are_clones : {T : Type 0} (C : T → T → Type 0) (xs ys : List T) → AllZip C xs ys → AreClones C xs ys
+are_clones C xs ys h = record {
+  each = h;
+  len = sym (length_all_zip C xs ys h);
+  if_clones_equal = same_from_all_zip C xs ys h;
+}

@@ -4,7 +4,7 @@ use Rattle.std.specs.Prelude.{reverse}
 use Rattle.std.specs.Iterator.{YieldsFirst, YieldsLast}
 use Rattle.std.specs.Option.{option_to_list}
 use Rattle.std.proofs.lemmas.List.{take_more, reverse-append, take-append-le, drop-append-le, drop_all}
-use Rattle.tinyvec_slots.specs.Ends.{End, front, back, fronts, backs, from_front, from_back, GivenByWord, TakesFromEnds, RunsWord, given_items, answered_by, taken, untaken}
+use Rattle.tinyvec_slots.specs.Ends.{End, front, back, fronts, backs, from_front, from_back, GivenByWord, TakesFromEnds, RunsWord, given_items, answered_by, taken_items}
 
 -- each letter is one or the other
 pub fronts-backs : (word : List End) → fronts word + backs word ≡ length word
@@ -168,21 +168,28 @@ module _ {T : Type 0} where
   init_last : (x : T) (xs : List T) → take (length xs) (x ∷ xs) ++ get_or (x ∷ xs) (length xs) x ∷ [] ≡ x ∷ xs
   init_last x xs = sym (take_more (x ∷ xs) (length xs) x (omega arith)) ∙ take_all (length xs + 1) (x ∷ xs) (omega arith)
 
+  -- what the letters of a word leave
+  abbrev pub left_items : List End → List T → List T
+  left_items [] xs = xs
+  left_items (e ∷ word) [] = left_items word []
+  left_items (front ∷ word) (x ∷ xs) = left_items word xs
+  left_items (back ∷ word) (x ∷ xs) = left_items word (take (length xs) (x ∷ xs))
+
   -- as does this one
-  pub takes_by : (word : List End) (xs : List T) → TakesFromEnds xs word (answered_by word xs) (untaken word xs)
+  pub takes_by : (word : List End) (xs : List T) → TakesFromEnds xs word (answered_by word xs) (left_items word xs)
   takes_by [] xs = TakesFromEnds-nil xs
-  takes_by (front ∷ word) [] = TakesFromEnds-none word front (answered_by word []) (untaken word []) (takes_by word [])
-  takes_by (back ∷ word) [] = TakesFromEnds-none word back (answered_by word []) (untaken word []) (takes_by word [])
-  takes_by (front ∷ word) (x ∷ xs) = TakesFromEnds-front x xs word (answered_by word xs) (untaken word xs) (takes_by word xs)
+  takes_by (front ∷ word) [] = TakesFromEnds-none word front (answered_by word []) (left_items word []) (takes_by word [])
+  takes_by (back ∷ word) [] = TakesFromEnds-none word back (answered_by word []) (left_items word []) (takes_by word [])
+  takes_by (front ∷ word) (x ∷ xs) = TakesFromEnds-front x xs word (answered_by word xs) (left_items word xs) (takes_by word xs)
   takes_by (back ∷ word) (x ∷ xs) =
       let init = take (length xs) (x ∷ xs) in
       let last = get_or (x ∷ xs) (length xs) x in
-      subst (λ l. TakesFromEnds l (back ∷ word) (Some last ∷ answered_by word init) (untaken word init)) (init_last x xs)
-      (TakesFromEnds-back last init word (answered_by word init) (untaken word init) (takes_by word init))
+      subst (λ l. TakesFromEnds l (back ∷ word) (Some last ∷ answered_by word init) (left_items word init)) (init_last x xs)
+      (TakesFromEnds-back last init word (answered_by word init) (left_items word init) (takes_by word init))
 
   -- What a word takes and leaves, computed: this law ties `TakesFromEnds` to the recursion.
   pub TakesFromEnds-computes : (xs : List T) (word : List End) (answers : List (Option T)) (left : List T)
-      → TakesFromEnds xs word answers left → (answers ≡ answered_by word xs) × (left ≡ untaken word xs)
+      → TakesFromEnds xs word answers left → (answers ≡ answered_by word xs) × (left ≡ left_items word xs)
   TakesFromEnds-computes xs word answers left h =
       let by = takes_by word xs in
       let same : h.given ≡ by.given = one_given xs word h.given by.given h.by_word by.by_word in (
@@ -191,9 +198,9 @@ module _ {T : Type 0} where
       )
 
   -- what a word takes, computed
-  pub given_is_taken : (xs : List T) (word : List End) (given : List T) → GivenByWord xs word given → given ≡ taken word xs
+  pub given_is_taken : (xs : List T) (word : List End) (given : List T) → GivenByWord xs word given → given ≡ taken_items word xs
   given_is_taken xs word given h =
-      one_given xs word given (taken word xs) h (items_given xs word (answered_by word xs) (untaken word xs) (takes_by word xs))
+      one_given xs word given (taken_items word xs) h (items_given xs word (answered_by word xs) (left_items word xs) (takes_by word xs))
 
 -- a word that is asked after another
 module _ {S T : Type 0} (gives gives_back : S → Option T → S → Type 0) where

@@ -3,11 +3,15 @@ use Rattle.std.proofs.Common.{◌≡◌, ℕ, ◌+◌, ◌-◌, List, [], ◌++�
 use Rattle.std.proofs.Math.Seq.{take-set-lt}
 use Rattle.std.proofs.lemmas.List.Elements.{All-nil}
 use Rattle.std.proofs.lemmas.List.{same_lists, places, get_or-replicate, length-replicate}
-use Rattle.tinyvec_slots.specs.Slots.{Slots, AreDefaults, Vacates, SlotRule, Cuts, SameSpare, len_in, all_slots, items_in, spare_in, with_slot}
+use Rattle.tinyvec_slots.specs.Slots.{Slots, AreDefaults, Vacates, SlotRule, Cuts, SameSpare, len_in, all_slots, items_in, spare_in}
 
 -- the slots are the list and what stands behind it
 pub slots_are : {T : Type 0} (v : Slots T) → all_slots v ≡ items_in v ++ spare_in v
 slots_are v = sym (take-append-drop v.len v.slots)
+
+-- v with its slot i set to x
+abbrev pub with_slot : {T : Type 0} → Slots T → ℕ → T → Slots T
+with_slot v i x = record v { slots = slice_set v.slots i x }
 
 -- a write of one slot of the list writes that item
 pub items-with_slot : {T : Type 0} (v : Slots T) (i : ℕ) (x : T) → i < len_in v → items_in (with_slot v i x) ≡ slice_set (items_in v) i x

@@ -7,8 +7,20 @@ use Rattle.std.specs.Fn.{CalledAtMut, Mut}
 use Rattle.std.specs.Iterator.{Yields}
 use Rattle.std.specs.List.{filter, find, position_or_len, before_first, after_first}
 use Rattle.std.specs.List.Retain.{ExtractsNext}
-use Rattle.tinyvec_slots.specs.Extracting.{Extracts, ExtractsAll, TestsBy, ExtractSteps, ExtractLies, ExtractLeaves, extract_vec, extract_lender, extract_rest, extract_closure, extract_front, extract_back}
+use Rattle.tinyvec_slots.specs.Extracting.{Extracts, ExtractSteps, ExtractLies, ExtractLeaves, extract_vec, extract_lender, extract_rest, extract_closure, extract_front, extract_back}
 use Rattle.tinyvec_slots.specs.declared.extracting.ExtractIf.{ExtractIf}
+
+module _ {S X : Type 0} (R : S → X → Bool → S → X → Type 0) where
+  -- R went over xs from s on. `chosen` has those of which it said `true`, and `kept` the others, each as R left it.
+  abbrev pub ExtractsAll : S → List X → List X → List X → Type 0
+  ExtractsAll s [] chosen kept = (chosen ≡ []) × (kept ≡ [])
+  ExtractsAll s (x ∷ xs) chosen kept =
+      (b : Bool) × (t : S) × (y : X) × R s x b t y
+      × MatchBool b ((cs : List X) × ExtractsAll t xs cs kept × (chosen ≡ y ∷ cs)) ((ks : List X) × ExtractsAll t xs chosen ks × (kept ≡ y ∷ ks))
+
+  -- at s, R says `test` of each item, and changes nothing
+  abbrev pub TestsBy : (X → Bool) → S → Type 0
+  TestsBy test s = (x : X) (b : Bool) (t : S) (y : X) → R s x b t y → (b ≡ test x) × (t ≡ s) × (y ≡ x)
 
 module _ {S X : Type 0} (R : S → X → Bool → S → X → Type 0) where
   -- a call that finds no more

@@ -1,7 +1,5 @@
 -- Lists of clones, and what a call that clones leaves if a clone was refused. C is the `is_clone` of an item's `Clone`.
 use Rattle.std.specs.Prelude.{◌≡◌, ℕ, ◌+◌, ◌-◌, ◌<◌, ◌≤◌, List, ◌++◌, All, length, take, drop, replicate, slice_range, if◌then◌else◌, is_ok, Result, IsOk, OnOk, OnErr}
-use Rattle.std.proofs.Common.{sym}
-use Rattle.std.proofs.lemmas.List.Elements.{same_from_all_zip, length_all_zip}
 use Rattle.std.specs.declared.clone.Clone as Clone
 use Rattle.std.specs.List.{HoldsAt, AllZip, AppendsClones}
 use Rattle.tinyvec_slots.specs.Slots.{Slots, AreDefaults, items_in as list_of, spare_in as spare_of, len_in}
@@ -15,14 +13,6 @@ pub record AreClones {T : Type 0} (C : T → T → Type 0) (xs ys : List T) : Ty
   pub each : AllZip C xs ys
   pub len : length ys ≡ length xs
   pub if_clones_equal : ClonesAreEqual C → ys ≡ xs
-
--- from the first part follow the others
-pub are_clones : {T : Type 0} (C : T → T → Type 0) (xs ys : List T) → AllZip C xs ys → AreClones C xs ys
-are_clones C xs ys h = record {
-  each = h;
-  len = sym (length_all_zip C xs ys h);
-  if_clones_equal = same_from_all_zip C xs ys h;
-}
 
 -- xs has an element k, and I does not hold of it: with the `is_infallible` of an item's `Clone`, its clone can be refused
 abbrev pub RefusedAt : {T : Type 0} → (T → Type 0) → List T → ℕ → Type 0

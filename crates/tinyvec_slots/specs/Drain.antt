@@ -23,15 +23,15 @@ module _ {V T : Type 0} where
 module _ {V T : Type 0} (g : CanDrain.Ghosts V T) where
   -- the remaining items
   abbrev pub drain_items : Drain V T → List T
-  drain_items d = slice_range (g.held d.vec.now) d.front d.back
+  drain_items d = slice_range (g.drained_list d.vec.now) d.front d.back
 
   -- what precedes and follows the range in what holds its items
   abbrev pub drain_others : Drain V T → List T
-  drain_others d = remove_range (g.held d.vec.now) d.start (d.start + d.gap)
+  drain_others d = remove_range (g.drained_list d.vec.now) d.start (d.start + d.gap)
 
   -- the remaining items are in the range, and the range is within what the vector holds
   abbrev pub DrainCanStep : Drain V T → Type 0
-  DrainCanStep d = (d.start ≤ d.front) × (d.back ≤ d.start + d.gap) × (d.start + d.gap ≤ length (g.held d.vec.now))
+  DrainCanStep d = (d.start ≤ d.front) × (d.back ≤ d.start + d.gap) × (d.start + d.gap ≤ length (g.drained_list d.vec.now))
 
   -- what the vector is once d was dropped
   abbrev pub DrainLeaves : Drain V T → V → Type 0
@@ -76,5 +76,5 @@ module _ {V T : Type 0} (g : CanDrain.Ghosts V T) where
   -- a drain of what `old` refers to holds from `start` up to `end`
   pub record DrainsFrom (old : MutBor V) (start end : ℕ) (d : Drain V T) : Type 0 where
     pub vec : drain_vec d ≡ old.now
-    pub begins : DrainBegins old (slice_range (g.held old.now) start end) (remove_range (g.held old.now) start end)
+    pub begins : DrainBegins old (slice_range (g.drained_list old.now) start end) (remove_range (g.drained_list old.now) start end)
         (g.Ended start (end - start) old.now) d

@@ -56,13 +56,6 @@ module _ {T : Type 0} where
   answered_by (front ∷ word) (x ∷ xs) = Some x ∷ answered_by word xs
   answered_by (back ∷ word) (x ∷ xs) = Some (get_or (x ∷ xs) (length xs) x) ∷ answered_by word (take (length xs) (x ∷ xs))
 
-  -- the items that they leave
-  abbrev pub untaken : List End → List T → List T
-  untaken [] xs = xs
-  untaken (e ∷ word) [] = untaken word []
-  untaken (front ∷ word) (x ∷ xs) = untaken word xs
-  untaken (back ∷ word) (x ∷ xs) = untaken word (take (length xs) (x ∷ xs))
-
   -- the items among the answers
   abbrev pub given_items : List (Option T) → List T
   given_items [] = []
@@ -70,8 +63,8 @@ module _ {T : Type 0} where
   given_items (Some x ∷ answers) = x ∷ given_items answers
 
   -- the items that a word takes
-  abbrev pub taken : List End → List T → List T
-  taken word xs = given_items (answered_by word xs)
+  abbrev pub taken_items : List End → List T → List T
+  taken_items word xs = given_items (answered_by word xs)
 
 -- Calls of `next` and `next_back`, by the letters of a word, took `from` to `to` and were answered so.
 module _ {S T : Type 0} (gives gives_back : S → Option T → S → Type 0) where

@@ -29,13 +29,13 @@ module _ {T : Type 0} where
   IsRangeOf xs start end = (range_start start ≤ range_end end (length xs)) × (range_end end (length xs) ≤ length xs)
 
   -- the items before the range: the first a for `a..b`
-  abbrev pub before : List T → Bound ℕ → List T
-  before xs start = take (range_start start) xs
+  abbrev pub items_before : List T → Bound ℕ → List T
+  items_before xs start = take (range_start start) xs
 
   -- the items in the range
-  abbrev pub removed : List T → Bound ℕ → Bound ℕ → List T
-  removed xs start end = slice_range xs (range_start start) (range_end end (length xs))
+  abbrev pub items_within : List T → Bound ℕ → Bound ℕ → List T
+  items_within xs start end = slice_range xs (range_start start) (range_end end (length xs))
 
   -- the items after the range: all but the first b for `a..b`
-  abbrev pub after : List T → Bound ℕ → List T
-  after xs end = drop (range_end end (length xs)) xs
+  abbrev pub items_after : List T → Bound ℕ → List T
+  items_after xs end = drop (range_end end (length xs)) xs

@@ -49,7 +49,3 @@ module _ {T : Type 0} where
   -- the list is as long, and the spare slots are the same
   abbrev pub SameSpare : Slots T → Slots T → Type 0
   SameSpare old new = (spare_in new ≡ spare_in old) × (len_in new ≡ len_in old)
-
-  -- v with its slot i set to x
-  abbrev pub with_slot : Slots T → ℕ → T → Slots T
-  with_slot v i x = record v { slots = slice_set v.slots i x }

@@ -8,7 +8,7 @@ pub trait CanDrain {
     type Item: Default + Drop;
 
     // What has the items of the range until they are taken: the list, or the spare slots.
-    ghost held: { Self → List Self.Item };
+    ghost drained_list: { Self → List Self.Item };
 
     // What it leaves of all else when one of them is taken.
     ghost Kept: { Self → Self → Type 0 };
@@ -24,14 +24,14 @@ pub trait CanDrain {
         ensures { result.now ≡ drain_word };
 
     /// What has the items of the range until they are taken.
-    fn as_held(&self) -> &[Self::Item]
-        ensures { result.now ≡ held self.now };
+    fn as_drained(&self) -> &[Self::Item]
+        ensures { result.now ≡ drained_list self.now };
 
     /// Takes the item at `i` there, and leaves a default.
-    fn take_held(&mut self, i: usize) -> Self::Item
-        requires { i < length (held self.old) }
-        ensures value { result ≡ slice_index_or (held self.old) i result }
-        ensures after { (d : Self.Item) × Self.Item.is_default d × (held self.new ≡ slice_set (held self.old) i d) }
+    fn take_drained(&mut self, i: usize) -> Self::Item
+        requires { i < length (drained_list self.old) }
+        ensures value { result ≡ slice_index_or (drained_list self.old) i result }
+        ensures after { (d : Self.Item) × Self.Item.is_default d × (drained_list self.new ≡ slice_set (drained_list self.old) i d) }
         ensures kept { Kept self.old self.new };
 
     /// Ends a drain of the `gap` items from `start` on.
@@ -43,7 +43,7 @@ pub trait CanDrain {
     ghost kept_then: { (u v w : Self) → Kept u v → Kept v w → Kept u w };
 
     // Takes change nothing else that the end reads.
-    ghost kept_ended: { (start gap : ℕ) (u v w : Self) → Kept u v → length (held v) ≡ length (held u)
-        → remove_range (held v) start (start + gap) ≡ remove_range (held u) start (start + gap)
+    ghost kept_ended: { (start gap : ℕ) (u v w : Self) → Kept u v → length (drained_list v) ≡ length (drained_list u)
+        → remove_range (drained_list v) start (start + gap) ≡ remove_range (drained_list u) start (start + gap)
         → Ended start gap v w → Ended start gap u w };
 }

@@ -24,7 +24,7 @@ ghost use Rattle.tinyvec_slots.specs.Drain.{DrainsFrom};
 /// The drain of what `vec` holds from `start` up to `end`.
 #[inline(always)]
 pub fn drain_held<V: CanDrain>(vec: &mut V, start: usize, end: usize) -> Drain<'_, V>
-    requires { Within start end (length (V.held vec.old)) }
+    requires { Within start end (length (V.drained_list vec.old)) }
     ensures { DrainsFrom V.CanDrain vec.entry start end result }
 {
     Drain {
@@ -71,7 +71,7 @@ impl<'a, V: CanDrain> Iterator for Drain<'a, V> {
             return None;
         }
         self.front = index + 1;
-        Some(self.vec.take_held(index))
+        Some(self.vec.take_drained(index))
     }
 
     /// Both bounds are the number of items that are left.
@@ -97,7 +97,7 @@ impl<'a, V: CanDrain> DoubleEndedIterator for Drain<'a, V> {
             return None;
         }
         self.back -= 1;
-        Some(self.vec.take_held(self.back))
+        Some(self.vec.take_drained(self.back))
     }
 }
 
@@ -118,7 +118,7 @@ where
     ghost debug_output = { λ d. debug_variant V.drain_word (debug_list V.Item.debug_output (drain_items V.CanDrain d)) };
 
     fn fmt<W: fmt::Write>(&self, f: &mut fmt::Formatter<W>) -> fmt::Result {
-        let held = self.vec.as_held();
+        let held = self.vec.as_drained();
         write_named(f, V::drain_name(), subslice(held, self.front, self.back))
     }
 }

@@ -8,7 +8,8 @@ use Rattle.std.specs.Iterator.{YieldsThen, AlwaysYields}
 use Rattle.std.proofs.lemmas.Bool.{cases_lt}
 use Rattle.std.proofs.lemmas.Grind.{common_steps, flat_map-append}
 use Rattle.tinyvec.specs.View.{Place, Growth, Reserved, in_array, place_for}
-use Rattle.tinyvec.specs.PlaceLaws.{place_same, place_enough}
+use Rattle.tinyvec.specs.PlaceLaws.{place_same}
+use Rattle.tinyvec.proofs.PlaceLemmas.{place_enough}
 use Rattle.tinyvec_text.specs.InlineText.{Text, TextBecomesIn, char_growth, place_after, text_len}
 
 -- characters, one after another

@@ -9,7 +9,7 @@ use Rattle.std.proofs.lemmas.List.Elements.{All-append, All-drop, All-take}
 use Rattle.std.proofs.lemmas.Str.{IsUtf8-had}
 use Rattle.std.proofs.CharBoundary.{IsUtf8-three_parts}
 use Rattle.std.specs.declared.ops.Bound.{Bound}
-use Rattle.tinyvec_slots.specs.Ranges.{range_start, range_end, before, removed, after}
+use Rattle.tinyvec_slots.specs.Ranges.{range_start, range_end, items_before, items_within, items_after}
 use Rattle.tinyvec_slots.specs.Slots.{Slots, AreDefaults, SlotRule, items_in, len_in, spare_in}
 use Rattle.tinyvec_slots.proofs.BorderLemmas.{spare_from}
 use Rattle.tinyvec_array.proofs.Named.{array_slots}
@@ -17,7 +17,7 @@ use Rattle.tinyvec.specs.SpliceLaws.{frame_becomes}
 use Rattle.tinyvec.specs.Lends.{tiny_with_items}
 use Rattle.tinyvec.specs.TinyVec.{tiny_items, tiny_len, tiny_spare, is_inline, IsInline, tiny_view}
 use Rattle.tinyvec.specs.View.{TinyView, SpareRule, SameFrame, Becomes, BecomesIn, Growth, Doubled, Reserved, place_for}
-use Rattle.tinyvec.specs.PlaceLaws.{was_inline}
+use Rattle.tinyvec.proofs.PlaceLemmas.{was_inline}
 use Rattle.tinyvec.specs.declared.tiny_vec.TinyVec.TheVariants.{Inline, Heap}
 use Rattle.std.specs.String.Boundary.{IsSplitPoint}
 use Rattle.tinyvec.proofs.TinyLemmas.{tiny_items-with, tiny_framed-with}
@@ -30,9 +30,9 @@ pub record CutsAt (bs xs : List ℕ) (start end : Bound ℕ) (p q : ℕ) : Type 
   pub first : IsSplitPoint bs p
   pub last : IsSplitPoint bs q
   pub utf8 : IsUtf8 (take p bs) × IsUtf8 (slice_range bs p q) × IsUtf8 (drop q bs)
-  pub front : take p bs ≡ before xs start
-  pub part : slice_range bs p q ≡ removed xs start end
-  pub back : drop q bs ≡ after xs end
+  pub front : take p bs ≡ items_before xs start
+  pub part : slice_range bs p q ≡ items_within xs start end
+  pub back : drop q bs ≡ items_after xs end
 
 pub text_utf8 : {k : ℕ} (v : Bytes k) → IsText v → IsUtf8 (tiny_items v)
 text_utf8 v is = IsUtf8-had _ is.0

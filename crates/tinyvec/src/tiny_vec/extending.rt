@@ -10,7 +10,7 @@ ghost use Rattle.tinyvec.specs.Refused.{RefusedFor, ClonesBehind, ClonesInRoom, 
 ghost use Rattle.tinyvec.specs.Room.{GrowsByPushes, IsCollected};
 ghost use Rattle.tinyvec_slots.specs.Slots.{AreDefaults};
 ghost use Rattle.std.specs.Iterator.{IsFinite, Drains, YieldsThen, size};
-ghost use Rattle.tinyvec_slots.specs.Ranges.{IsRangeOf, removed};
+ghost use Rattle.tinyvec_slots.specs.Ranges.{IsRangeOf, items_within};
 ghost use Rattle.tinyvec_slots.specs.Filling.{ShowsItems, IntoIterYields, AppendsResultsTo};
 ghost use Rattle.tinyvec.specs.Following.{FillsRoom, PushesItems};
 
@@ -80,16 +80,16 @@ impl<A: Array> TinyVec<A> {
         requires not_exhausted { R.has_bounds range }
         requires in_list { IsRangeOf (view A.Slots self.old).items (R.start_bound range) (R.end_bound range) }
         ensures clones { AppendsAllOrNone A.Item.is_clone
-            (removed (view A.Slots self.old).items (R.start_bound range) (R.end_bound range))
+            (items_within (view A.Slots self.old).items (R.start_bound range) (R.end_bound range))
             result (view A.Slots self.old).items (view A.Slots self.new).items }
         ensures ok { OnOk result (BecomesIn A.Item.is_default (view A.Slots self.old)
             (view A.Slots self.new) (view A.Slots self.new).items
-            (place_for Reserved (length (view A.Slots self.old).items + length (removed (view A.Slots self.old).items (R.start_bound range) (R.end_bound range))) (view A.Slots self.old).place)) }
+            (place_for Reserved (length (view A.Slots self.old).items + length (items_within (view A.Slots self.old).items (R.start_bound range) (R.end_bound range))) (view A.Slots self.old).place)) }
 
         // If there is room only clones allocate.
-        ensures succeeds { length (view A.Slots self.old).items + length (removed (view A.Slots self.old).items (R.start_bound range) (R.end_bound range)) ≤ (view A.Slots self.old).place.capacity
-            → All A.Item.is_infallible (removed (view A.Slots self.old).items (R.start_bound range) (R.end_bound range)) → IsOk result }
-        ensures refused { OnErr result (ClonesRefused A.Item.Clone (removed (view A.Slots self.old).items (R.start_bound range) (R.end_bound range))
+        ensures succeeds { length (view A.Slots self.old).items + length (items_within (view A.Slots self.old).items (R.start_bound range) (R.end_bound range)) ≤ (view A.Slots self.old).place.capacity
+            → All A.Item.is_infallible (items_within (view A.Slots self.old).items (R.start_bound range) (R.end_bound range)) → IsOk result }
+        ensures refused { OnErr result (ClonesRefused A.Item.Clone (items_within (view A.Slots self.old).items (R.start_bound range) (R.end_bound range))
             (view A.Slots self.old) (view A.Slots self.new)) }
     {
         let part = resolve_range(range, self.len());

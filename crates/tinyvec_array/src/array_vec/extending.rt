@@ -3,7 +3,7 @@ ghost use Rattle.std.specs.Prelude.{◌≡◌, ◌+◌, ◌≤◌, ◌++◌, len
 ghost use Rattle.tinyvec_slots.specs.Clones.{AddsClones, AppendsAllOrNone, ClonesOver, RefusedAt, ResizesByClones, CutsToClones};
 ghost use Rattle.tinyvec_array.specs.ArrayVec.{items_of, spare_of, len_of, slots_of, view_of, SameLender};
 ghost use Rattle.tinyvec_array.specs.View.{view, Becomes, StaysInPlace, NothingVacated};
-ghost use Rattle.tinyvec_slots.specs.Ranges.{IsRangeOf, removed};
+ghost use Rattle.tinyvec_slots.specs.Ranges.{IsRangeOf, items_within};
 ghost use Rattle.tinyvec_slots.specs.Filling.{Fills, Extends, AppendsResultsTo};
 
 use crate::tuned::cloning::clone_within;
@@ -84,11 +84,11 @@ impl<S: Slots> ArrayVec<S> {
         S::Item: Clone,
         requires not_exhausted { R.has_bounds range }
         requires in_list { IsRangeOf (items_of S.Slots self.old) (R.start_bound range) (R.end_bound range) }
-        requires room { length (removed (items_of S.Slots self.old) (R.start_bound range) (R.end_bound range))
+        requires room { length (items_within (items_of S.Slots self.old) (R.start_bound range) (R.end_bound range))
             ≤ length (spare_of S.Slots self.old) }
         ensures lender { SameLender S.Slots self.old self.new }
         ensures clones { AddsClones S.Item.Clone
-            (removed (items_of S.Slots self.old) (R.start_bound range) (R.end_bound range)) result
+            (items_within (items_of S.Slots self.old) (R.start_bound range) (R.end_bound range)) result
             (view_of S.Slots self.old) (view_of S.Slots self.new) }
     {
         let len = self.len();

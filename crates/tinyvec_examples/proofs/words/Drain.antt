@@ -7,7 +7,7 @@ use Rattle.tinyvec_slots.specs.declared.can_drain.CanDrain as CanDrain
 use Rattle.tinyvec_slots.specs.declared.drain.Drain.{Drain}
 
 -- of any vector that a drain takes from
-module _ {V : Type 0} (G : CanDrain.Ghosts V ℕ) (d e : Drain V ℕ) (v : V) (vec : d.vec.now ≡ v) (held : G.held v ≡ 1 ∷ 2 ∷ 3 ∷ 4 ∷ []) (start : d.start ≡ 1) (gap : d.gap ≡ 2) (first : d.front ≡ 1) (last : d.back ≡ 3) where
+module _ {V : Type 0} (G : CanDrain.Ghosts V ℕ) (d e : Drain V ℕ) (v : V) (vec : d.vec.now ≡ v) (held : G.drained_list v ≡ 1 ∷ 2 ∷ 3 ∷ 4 ∷ []) (start : d.start ≡ 1) (gap : d.gap ≡ 2) (first : d.front ≡ 1) (last : d.back ≡ 3) where
   pub example-drain_items : drain_items G d ≡ 2 ∷ 3 ∷ []
   example-drain_items = rw (vec, held, first, last) refl
 

@@ -1,19 +1,19 @@
 -- Examples of what a range cuts a list into.
 use Rattle.std.proofs.Common.{◌≡◌, [], ◌∷◌, refl, arith}
 use Rattle.std.specs.declared.ops.Bound.TheVariants.{Included, Excluded}
-use Rattle.tinyvec_slots.specs.Ranges.{range_start, range_end, IsRangeOf, before, removed, after}
+use Rattle.tinyvec_slots.specs.Ranges.{range_start, range_end, IsRangeOf, items_before, items_within, items_after}
 use Rattle.tinyvec_examples.proofs.words.Shown.{nums}
 
 pub example-IsRangeOf : IsRangeOf (nums (1 ∷ 2 ∷ 3 ∷ 4 ∷ [])) (Included 1) (Excluded 3)
 example-IsRangeOf = (omega arith, omega arith)
 
-pub example-before : before (nums (1 ∷ 2 ∷ 3 ∷ 4 ∷ [])) (Included 1) ≡ 1 ∷ []
+pub example-before : items_before (nums (1 ∷ 2 ∷ 3 ∷ 4 ∷ [])) (Included 1) ≡ 1 ∷ []
 example-before = refl
 
-pub example-removed : removed (nums (1 ∷ 2 ∷ 3 ∷ 4 ∷ [])) (Included 1) (Excluded 3) ≡ 2 ∷ 3 ∷ []
+pub example-removed : items_within (nums (1 ∷ 2 ∷ 3 ∷ 4 ∷ [])) (Included 1) (Excluded 3) ≡ 2 ∷ 3 ∷ []
 example-removed = refl
 
-pub example-after : after (nums (1 ∷ 2 ∷ 3 ∷ 4 ∷ [])) (Excluded 3) ≡ 4 ∷ []
+pub example-after : items_after (nums (1 ∷ 2 ∷ 3 ∷ 4 ∷ [])) (Excluded 3) ≡ 4 ∷ []
 example-after = refl
 
 pub example-range_start : range_start (Included 1) ≡ 1

@@ -3,7 +3,7 @@
 ghost use Rattle.std.specs.Prelude.{◌≡◌, ◌≤◌, ◌-◌, ◌+◌, ◌++◌, ◌∷◌, pos, length, drop, slice_get};
 ghost use Rattle.std.specs.List.{remove_range};
 ghost use Rattle.tinyvec_array.specs.Slots.{Vacates, SlotRule};
-ghost use Rattle.tinyvec_array.specs.Ranges.{IsRangeOf, before, after};
+ghost use Rattle.tinyvec_array.specs.Ranges.{IsRangeOf, items_before, items_after};
 ghost use Rattle.tinyvec_array.specs.ArrayVec.{items_of, name_of, view_of};
 ghost use Rattle.tinyvec_array.specs.SliceVec.{slice_items, slice_spare, slice_name};
 
@@ -32,7 +32,7 @@ where
     requires in_list { IsRangeOf (items_of B.Slots v.old) (R.start_bound range) (R.end_bound range) }
     ensures same_reference { name_of B.Slots v.new ≡ name_of B.Slots v.old }
     ensures items { items_of B.Slots v.new
-        ≡ before (items_of B.Slots v.old) (R.start_bound range) ++ after (items_of B.Slots v.old) (R.end_bound range) }
+        ≡ items_before (items_of B.Slots v.old) (R.start_bound range) ++ items_after (items_of B.Slots v.old) (R.end_bound range) }
     ensures slot_rule { SlotRule B.Item.is_default (view_of B.Slots v.old) (view_of B.Slots v.new) }
 {
     drop(v.drain(range));

@@ -5,7 +5,7 @@ ghost use Rattle.std.specs.Int.{div_ceil};
 ghost use Rattle.std.specs.Iterator.{at_most, UpTo};
 ghost use Rattle.std.specs.Iterator.SizeHint.{IsWithinCount};
 ghost use Rattle.std.specs.String.Boundary.{IsSplitPoint};
-ghost use Rattle.tinyvec_slots.specs.Ranges.{range_start, range_end, before, removed, after};
+ghost use Rattle.tinyvec_slots.specs.Ranges.{range_start, range_end, items_before, items_within, items_after};
 ghost use Rattle.tinyvec_text.specs.InlineText.{text_chars, text_len, TextStaysInPlace, IsBoundary};
 
 use super::InlineText;
@@ -46,13 +46,13 @@ impl<const N: usize> InlineText<N> {
         requires start_le_end { range_start (R.start_bound range) ≤ range_end (R.end_bound range) (text_len self.old) }
         requires start_boundary { IsBoundary (text_chars self.old) (range_start (R.start_bound range)) }
         requires end_boundary { IsBoundary (text_chars self.old) (range_end (R.end_bound range) (text_len self.old)) }
-        ensures removed { IfOk result (λ d. d ≡ removed self.old.bytes (R.start_bound range) (R.end_bound range)) }
+        ensures removed { IfOk result (λ d. d ≡ items_within self.old.bytes (R.start_bound range) (R.end_bound range)) }
         ensures bytes { OnOk result (self.new.bytes
-            ≡ before self.old.bytes (R.start_bound range) ++ after self.old.bytes (R.end_bound range)) }
-        ensures text { OnOk result (text_chars self.new ≡ chars (before self.old.bytes (R.start_bound range))
-            ++ chars (after self.old.bytes (R.end_bound range))) }
+            ≡ items_before self.old.bytes (R.start_bound range) ++ items_after self.old.bytes (R.end_bound range)) }
+        ensures text { OnOk result (text_chars self.new ≡ chars (items_before self.old.bytes (R.start_bound range))
+            ++ chars (items_after self.old.bytes (R.end_bound range))) }
         ensures frame { TextStaysInPlace self.old self.new }
-        ensures succeeds { length (removed self.old.bytes (R.start_bound range) (R.end_bound range)) ≤ N → IsOk result }
+        ensures succeeds { length (items_within self.old.bytes (R.start_bound range) (R.end_bound range)) ≤ N → IsOk result }
         ensures refused { OnErr result (self.new ≡ self.old) }
     {
         let part = resolve_range(range, self.list.len());

@@ -4,7 +4,7 @@ ghost use Rattle.std.specs.Char.{IsScalar};
 ghost use Rattle.tinyvec.specs.View.{Reserved, Exact};
 ghost use Rattle.tinyvec.specs.TinyVec.{tiny_items, tiny_spare, tiny_view};
 ghost use Rattle.tinyvec_text.specs.InlineText.{text_chars, text_len, TextGrows, TextPushes, TextReserves, TextShrinks, TextStaysInPlace, TextBecomes, TextKeepsFront, TextMadeFor, IsTextTail, IsFirstChar, IsBoundary};
-ghost use Rattle.tinyvec_slots.specs.Ranges.{range_start, range_end, before, removed, after};
+ghost use Rattle.tinyvec_slots.specs.Ranges.{range_start, range_end, items_before, items_within, items_after};
 ghost use Rattle.std.specs.String.Boundary.{IsSplitPoint};
 
 use super::InlineText;
@@ -242,9 +242,9 @@ impl<const N: usize> InlineText<N> {
         requires end_boundary { IsBoundary (text_chars self.old) (range_end (R.end_bound range) (text_len self.old)) }
         ensures { TextGrows Reserved (text_len self.old - (range_end (R.end_bound range) (text_len self.old)
             - range_start (R.start_bound range)) + length replace_with.now) self.old self.new
-            (before self.old.bytes (R.start_bound range) ++ replace_with.now ++ after self.old.bytes (R.end_bound range))
-            (chars (before self.old.bytes (R.start_bound range)) ++ chars replace_with.now
-            ++ chars (after self.old.bytes (R.end_bound range))) result }
+            (items_before self.old.bytes (R.start_bound range) ++ replace_with.now ++ items_after self.old.bytes (R.end_bound range))
+            (chars (items_before self.old.bytes (R.start_bound range)) ++ chars replace_with.now
+            ++ chars (items_after self.old.bytes (R.end_bound range))) result }
     {
         let part = resolve_range(range, self.list.len());
         let bytes = replace_with.as_bytes();
@@ -261,9 +261,9 @@ impl<const N: usize> InlineText<N> {
         requires start_boundary { IsBoundary (text_chars self.old) (range_start (R.start_bound range)) }
         requires end_boundary { IsBoundary (text_chars self.old) (range_end (R.end_bound range) (text_len self.old)) }
         ensures { TextGrows Reserved
-            (text_len self.old + length (removed self.old.bytes (R.start_bound range) (R.end_bound range))) self.old self.new
-            (self.old.bytes ++ removed self.old.bytes (R.start_bound range) (R.end_bound range))
-            (text_chars self.old ++ chars (removed self.old.bytes (R.start_bound range) (R.end_bound range))) result }
+            (text_len self.old + length (items_within self.old.bytes (R.start_bound range) (R.end_bound range))) self.old self.new
+            (self.old.bytes ++ items_within self.old.bytes (R.start_bound range) (R.end_bound range))
+            (text_chars self.old ++ chars (items_within self.old.bytes (R.start_bound range) (R.end_bound range))) result }
     {
         let part = resolve_range(range, self.list.len());
         push_part(&mut self.list, part.start, part.end - part.start)

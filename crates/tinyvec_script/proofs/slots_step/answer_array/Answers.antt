@@ -2,14 +2,14 @@ use Rattle.std.proofs.Common.{refl, subst, ◌<◌, ◌≤◌, ◌++◌, length,
 use Rattle.std.proofs.lemmas.Grind.{common_steps}
 use Rattle.std.specs.declared.ops.Bound.TheVariants.{Included, Excluded}
 use Rattle.tinyvec_slots.specs.Slots.{items_in, spare_in, len_in, all_slots, SlotRule}
-use Rattle.tinyvec_slots.specs.Ranges.{removed}
+use Rattle.tinyvec_slots.specs.Ranges.{items_within}
 use Rattle.tinyvec_script.specs.Driving.{ListSplices, DrivenSplices}
 use Rattle.tinyvec_script.specs.Step.{ArrayStep}
 use Rattle.tinyvec_script.specs.declared.call.Call.TheVariants.{Splice}
 use Rattle.tinyvec_script.proofs.DrivingLemmas.{splice_answers}
 use Rattle.tinyvec_slots.proofs.SlotsLemmas.{slots_are}
 use Rattle.tinyvec_array.specs.ArrayVec.{view_of}
-use Rattle.tinyvec_array.specs.ViewLaws.{none_vacated}
+use Rattle.tinyvec_array.proofs.RuleLemmas.{none_vacated}
 use Rattle.std.proofs.lemmas.Option.{slice_get_read}
 use Rattle.tinyvec_script.proofs.slots_step.answer_array.Goals as goal
 
@@ -52,7 +52,7 @@ returns-in-Drain-clause-step g c =
     let left = c.drain_into.ensures in
     let in_order : i ≤ j = omega arith in
     let in_list : j ≤ len_in old = omega arith in
-    let taken = left.moved ∙ ap (λ xs. xs ++ removed (items_in old) (Included i) (Excluded j)) c.in-Ok.ensures.items in
+    let taken = left.moved ∙ ap (λ xs. xs ++ items_within (items_in old) (Included i) (Excluded j)) c.in-Ok.ensures.items in
     rw c.in-Drain.is ((in_order, in_list), record { given_are = taken; items_are = left.becomes.items }, left.becomes.slot_rule)
 
 pub returns-then-is_full-clause-step : goal.returns-then-is_full-clause-step

@@ -8,7 +8,7 @@ pub returns : goal.returns
 returns g c =
     let start = c.args.start in
     let end = c.args.end in
-    let xs = g.V.CanDrain.held c.args.vec.now in
+    let xs = g.V.CanDrain.drained_list c.args.vec.now in
     let within = c.requires in
     let all : start + (end - start) ≡ end = omega (arith, within.0) in
     record {

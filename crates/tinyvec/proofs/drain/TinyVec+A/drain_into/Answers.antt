@@ -1,6 +1,6 @@
 use Rattle.std.proofs.Common.{◌≡◌, ◌+◌, ◌-◌, ◌++◌, ◌≤◌, length, take, drop, ap, subst, ◌∙◌, arith, rules, length-append, length-take-le, append_assoc, take_at, drop_at}
 use Rattle.std.specs.List.{remove_range}
-use Rattle.tinyvec_slots.specs.Ranges.{range_end, before, after}
+use Rattle.tinyvec_slots.specs.Ranges.{range_end, items_before, items_after}
 use Rattle.tinyvec.specs.TinyVec.{view}
 use Rattle.tinyvec.specs.View.{Becomes}
 use Rattle.tinyvec.specs.FrameLaws.{tiny_items-with, tiny_framed-with}
@@ -30,6 +30,6 @@ returns-clause-becomes g c =
     let first = length-take-le i xs (omega (arith, order, inside)) in
     let front = ap (take i) (is ∙ append_assoc (take i xs) ds (drop j xs)) ∙ take_at (take i xs) (ds ++ drop j xs) i first in
     let back = ap (drop (i + (j - i))) is ∙ drop_at (take i xs ++ ds) (drop j xs) (i + (j - i)) (length-append (take i xs) ds ∙ omega (arith, first, after_is.1.0)) in
-    let around : take i xs ++ drop j xs ≡ before xs (g.R.RangeBounds.start_bound c.args.range) ++ after xs (g.R.RangeBounds.end_bound c.args.range) = search rules in
+    let around : take i xs ++ drop j xs ≡ items_before xs (g.R.RangeBounds.start_bound c.args.range) ++ items_after xs (g.R.RangeBounds.end_bound c.args.range) = search rules in
     subst (Becomes D (see v) (see new)) (ap (λ l. remove_range l i (i + (j - i))) (tiny_items-with g.A.Slots v ws long) ∙ (λ k. front k ++ back k) ∙ around)
     (frame_becomes D (see v) (see (tiny_with_items g.A.Slots v ws)) (see new) _ (tiny_framed-with g.A.Slots v ws long) c.end_drain.ensures)

@@ -1,8 +1,7 @@
-use Rattle.tinyvec_slots.specs.Clones.{are_clones}
+use Rattle.tinyvec_slots.proofs.CloneLemmas.{are_clones, on_err}
 use Rattle.std.proofs.Common.{length, All, arith, sym, ap, subst, length-drop, rules}
 use Rattle.std.proofs.lemmas.List.Elements.{All-drop}
 use Rattle.std.specs.Prelude.{IsTrue}
-use Rattle.tinyvec_slots.proofs.CloneLemmas.{on_err}
 use Rattle.tinyvec.proofs.CloneLemmas.{appends_alone}
 use Rattle.tinyvec.specs.TinyVec.{view}
 use Rattle.tinyvec.proofs.tiny_vec.TinyVec+A.from_slice.Goals as goal

@@ -3,7 +3,8 @@ use Rattle.tinyvec_slots.specs.Slots.{items_in, spare_in}
 use Rattle.tinyvec_slots.proofs.BorderLemmas.{spare_from}
 use Rattle.tinyvec_array.specs.ArrayVec.{items_of, spare_of, slots_of}
 use Rattle.tinyvec_array.specs.View.{NothingVacated}
-use Rattle.tinyvec_array.specs.ViewLaws.{one_place, becomes, rule_used}
+use Rattle.tinyvec_array.specs.ViewLaws.{one_place, becomes}
+use Rattle.tinyvec_array.proofs.RuleLemmas.{rule_used}
 use Rattle.tinyvec_array.specs.PutLaws.{puts_room_of}
 use Rattle.tinyvec_array.proofs.can_put.ArrayVecCanPut.keep.Goals as goal
 

@@ -1,6 +1,6 @@
 use Rattle.std.proofs.Common.{◌≡◌, ℕ, List, ◌-◌, ◌≤◌, ◌++◌, length, slice_range, sym, ap, ◌∙◌, arith, rules, length-append, append_assoc, take_at, drop_at}
 use Rattle.std.specs.List.{remove_range}
-use Rattle.tinyvec_slots.specs.Ranges.{range_end, before, removed, after}
+use Rattle.tinyvec_slots.specs.Ranges.{range_end, items_before, items_within, items_after}
 use Rattle.tinyvec_slots.specs.Slots.{Slots, split_at, items_in, spare_in, all_slots}
 use Rattle.tinyvec_slots.proofs.Lists.{length-remove_range, length-slice_range}
 use Rattle.tinyvec_slots.proofs.SlotsLemmas.{slots_are}
@@ -40,9 +40,9 @@ cut_parts L S i j k moved order ends fewer listed spare =
 
 module _ (g : _) (c : goal.After-set_len g) where
   cut : (items_in (split_at (c.len-len.result - c.bounded-count.result) (slots_of g.S.Slots c.move_to_end.new.self))
-      ≡ before (items_of g.S.Slots c.args.self.now) (g.R.RangeBounds.start_bound c.args.range) ++ after (items_of g.S.Slots c.args.self.now) (g.R.RangeBounds.end_bound c.args.range))
+      ≡ items_before (items_of g.S.Slots c.args.self.now) (g.R.RangeBounds.start_bound c.args.range) ++ items_after (items_of g.S.Slots c.args.self.now) (g.R.RangeBounds.end_bound c.args.range))
       × (spare_in (split_at (c.len-len.result - c.bounded-count.result) (slots_of g.S.Slots c.move_to_end.new.self))
-      ≡ removed (items_of g.S.Slots c.args.self.now) (g.R.RangeBounds.start_bound c.args.range) (g.R.RangeBounds.end_bound c.args.range) ++ spare_of g.S.Slots c.args.self.now)
+      ≡ items_within (items_of g.S.Slots c.args.self.now) (g.R.RangeBounds.start_bound c.args.range) (g.R.RangeBounds.end_bound c.args.range) ++ spare_of g.S.Slots c.args.self.now)
   cut =
       let part = c.resolve_range-part.result in
       let L = items_of g.S.Slots c.args.self.now in

@@ -1,22 +1,23 @@
 use Rattle.std.proofs.Common.{◌≡◌, ◌+◌, ◌-◌, ◌≤◌, ◌++◌, length, take, drop, refl, ap, ◌∙◌, zero-le, arith, length-append, take_at, drop_at}
-use Rattle.tinyvec_slots.specs.Ranges.{removed}
+use Rattle.tinyvec_slots.specs.Ranges.{items_within}
 use Rattle.tinyvec_slots.proofs.DrainLemmas.{begins_as}
 use Rattle.tinyvec_array.specs.ArrayVec.{items_of, spare_of}
 use Rattle.tinyvec_array.specs.DrainLaws.{drain_of}
-use Rattle.tinyvec_array.specs.ViewLaws.{becomes, same_place, rule_freed}
+use Rattle.tinyvec_array.specs.ViewLaws.{becomes, same_place}
+use Rattle.tinyvec_array.proofs.RuleLemmas.{rule_freed}
 use Rattle.tinyvec_array.proofs.ViewLemmas.{SameLender-then, fewer}
 use Rattle.tinyvec_array.proofs.drain.ArrayVec+S.drain.Goals as goal
 
 pub drain_held-requires : goal.drain_held-requires
 drain_held-requires g c =
-    let M = removed (items_of g.S.Slots c.args.self.now) (g.R.RangeBounds.start_bound c.args.range) (g.R.RangeBounds.end_bound c.args.range) in
+    let M = items_within (items_of g.S.Slots c.args.self.now) (g.R.RangeBounds.start_bound c.args.range) (g.R.RangeBounds.end_bound c.args.range) in
     (zero-le, omega (arith, ap length c.cut_out-count.ensures.spare, length-append M (spare_of g.S.Slots c.args.self.now), c.cut_out-count.ensures.count))
 
 pub returns-clause-begins : goal.returns-clause-begins
 returns-clause-begins g c =
     let cut = c.cut_out-count in
     let n = cut.result in
-    let M = removed (items_of g.S.Slots c.args.self.now) (g.R.RangeBounds.start_bound c.args.range) (g.R.RangeBounds.end_bound c.args.range) in
+    let M = items_within (items_of g.S.Slots c.args.self.now) (g.R.RangeBounds.start_bound c.args.range) (g.R.RangeBounds.end_bound c.args.range) in
     let S = spare_of g.S.Slots c.args.self.now in
     let spare = spare_of g.S.Slots cut.new.self in
     let none : n - 0 ≡ n = omega arith in

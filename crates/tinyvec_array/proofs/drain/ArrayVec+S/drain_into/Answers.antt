@@ -1,7 +1,8 @@
 use Rattle.std.proofs.Common.{◌≡◌, ◌-◌, ◌++◌, length, drop, ap, sym, ◌∙◌, arith, length-append, drop_at}
-use Rattle.tinyvec_slots.specs.Ranges.{removed}
+use Rattle.tinyvec_slots.specs.Ranges.{items_within}
 use Rattle.tinyvec_array.specs.ArrayVec.{items_of, spare_of}
-use Rattle.tinyvec_array.specs.ViewLaws.{becomes, same_place, rule_freed}
+use Rattle.tinyvec_array.specs.ViewLaws.{becomes, same_place}
+use Rattle.tinyvec_array.proofs.RuleLemmas.{rule_freed}
 use Rattle.tinyvec_array.proofs.ViewLemmas.{SameLender-then, fewer, put_back, back_parts, back_lender}
 use Rattle.tinyvec_array.proofs.drain.ArrayVec+S.drain_into.Goals as goal
 
@@ -10,7 +11,7 @@ returns-clause-becomes g c =
     let left = put_back g.S.Slots c.cut_out-count.new.self c.take_range.new.slots in
     let cut = c.cut_out-count in
     let n = cut.result in
-    let M = removed (items_of g.S.Slots c.args.self.now) (g.R.RangeBounds.start_bound c.args.range) (g.R.RangeBounds.end_bound c.args.range) in
+    let M = items_within (items_of g.S.Slots c.args.self.now) (g.R.RangeBounds.start_bound c.args.range) (g.R.RangeBounds.end_bound c.args.range) in
     let S = spare_of g.S.Slots c.args.self.now in
     let defaults = c.take_range.ensures.emptied in
     let ds = defaults.0 in

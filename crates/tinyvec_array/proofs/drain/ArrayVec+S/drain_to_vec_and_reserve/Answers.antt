@@ -1,7 +1,8 @@
 use Rattle.std.proofs.Common.{◌≡◌, [], length, refl, ap, ◌∙◌, arith, rules, length-append}
 use Rattle.tinyvec_slots.specs.Slots.{items_in, spare_in}
 use Rattle.tinyvec_array.specs.ArrayVec.{items_of, spare_of, SameLender}
-use Rattle.tinyvec_array.specs.ViewLaws.{becomes, same_place, rule_freed}
+use Rattle.tinyvec_array.specs.ViewLaws.{becomes, same_place}
+use Rattle.tinyvec_array.proofs.RuleLemmas.{rule_freed}
 use Rattle.tinyvec_array.proofs.ViewLemmas.{slots_of-written, parts_of}
 use Rattle.tinyvec_array.proofs.drain.ArrayVec+S.drain_to_vec_and_reserve.Goals as goal
 

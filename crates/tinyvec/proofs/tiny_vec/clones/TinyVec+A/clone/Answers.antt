@@ -2,8 +2,7 @@ use Rattle.std.specs.Prelude.{length}
 use Rattle.std.proofs.Common.{refl, sym, ap, ◌∙◌, arith, take-append-drop}
 use Rattle.std.proofs.lemmas.Bool.{false≢true}
 use Rattle.std.specs.List.{AllZip}
-use Rattle.tinyvec_slots.specs.Clones.{are_clones}
-use Rattle.tinyvec_slots.proofs.CloneLemmas.{on_err}
+use Rattle.tinyvec_slots.proofs.CloneLemmas.{are_clones, on_err}
 use Rattle.std.proofs.lemmas.Result.{IfOk-from_err}
 use Rattle.tinyvec.proofs.CloneLemmas.{appends_alone, spare_cloned}
 use Rattle.tinyvec.specs.View.{in_array, on_heap}

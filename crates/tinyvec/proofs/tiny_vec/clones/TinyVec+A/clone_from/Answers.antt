@@ -5,8 +5,8 @@ use Rattle.std.proofs.lemmas.List.{take-take}
 use Rattle.std.proofs.lemmas.List.Elements.{All-take, All-drop}
 use Rattle.std.proofs.lemmas.Result.{on_ok_weaker, on_err_weaker}
 use Rattle.std.specs.List.{AllZip}
-use Rattle.tinyvec_slots.specs.Clones.{RefusedAt, are_clones}
-use Rattle.tinyvec_slots.proofs.CloneLemmas.{on_err}
+use Rattle.tinyvec_slots.specs.Clones.{RefusedAt}
+use Rattle.tinyvec_slots.proofs.CloneLemmas.{are_clones, on_err}
 use Rattle.tinyvec.specs.View.{SpareRule}
 use Rattle.std.specs.Prelude.{OnOk}
 use Rattle.tinyvec.proofs.TinyLemmas.{slots_taken, slots_after_room, tiny_slots_then_framed, on_ok_two, on_err_two, never_ok}

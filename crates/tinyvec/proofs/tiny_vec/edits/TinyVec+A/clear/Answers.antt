@@ -1,7 +1,8 @@
 use Rattle.std.proofs.Common.{◌≡◌, [], ◌++◌, refl, length, ap, ◌∙◌, arith, rules}
 use Rattle.tinyvec_slots.specs.Slots.{items_in, spare_in}
 use Rattle.tinyvec_array.specs.ArrayVec.{items_of, spare_of, slots_of, name_of, len_of}
-use Rattle.tinyvec_array.specs.ViewLaws.{one_place, becomes, rule_freed, freed_by}
+use Rattle.tinyvec_array.specs.ViewLaws.{one_place, becomes, freed_by}
+use Rattle.tinyvec_array.proofs.RuleLemmas.{rule_freed}
 use Rattle.tinyvec_array.proofs.ViewLemmas.{slots-parts}
 use Rattle.tinyvec.proofs.FrameLemmas.{inline_becomes}
 use Rattle.tinyvec.proofs.tiny_vec.edits.TinyVec+A.clear.Goals as goal

@@ -1,4 +1,4 @@
-use Rattle.tinyvec_array.specs.ViewLaws.{none_vacated}
+use Rattle.tinyvec_array.proofs.RuleLemmas.{none_vacated}
 use Rattle.tinyvec.proofs.FrameLemmas.{inline_becomes}
 use Rattle.tinyvec.proofs.tiny_vec.edits.TinyVec+A.insert_reserved.Goals as goal
 

@@ -1,5 +1,5 @@
 use Rattle.std.proofs.Common.{◌≡◌, ◌+◌, ◌-◌, ◌≤◌, length, slice_range, sym, ap, ◌∙◌, arith}
-use Rattle.tinyvec_slots.specs.Ranges.{range_start, range_end, removed}
+use Rattle.tinyvec_slots.specs.Ranges.{range_start, range_end, items_within}
 use Rattle.tinyvec_slots.proofs.Lists.{length-slice_range}
 use Rattle.tinyvec.proofs.ExtendingLemmas.{extended_grown, extended_refused}
 use Rattle.tinyvec.proofs.tiny_vec.extending.TinyVec+A.extend_from_within.Goals.{After-resolve_range-part}
@@ -24,12 +24,12 @@ module _ (g : _) (c : After-resolve_range-part g) where
   last = omega (arith, end, c.requires.in_list.1)
 
   part : slice_range (view g.A.Slots c.args.self.now).items c.resolve_range-part.result.start c.resolve_range-part.result.end
-      ≡ removed (view g.A.Slots c.args.self.now).items (g.R.RangeBounds.start_bound c.args.range) (g.R.RangeBounds.end_bound c.args.range)
+      ≡ items_within (view g.A.Slots c.args.self.now).items (g.R.RangeBounds.start_bound c.args.range) (g.R.RangeBounds.end_bound c.args.range)
   part =
       let xs = (view g.A.Slots c.args.self.now).items in
       ap (λ i. slice_range xs i c.resolve_range-part.result.end) start ∙ ap (slice_range xs (range_start (g.R.RangeBounds.start_bound c.args.range))) end
 
-  many : length (removed (view g.A.Slots c.args.self.now).items (g.R.RangeBounds.start_bound c.args.range) (g.R.RangeBounds.end_bound c.args.range))
+  many : length (items_within (view g.A.Slots c.args.self.now).items (g.R.RangeBounds.start_bound c.args.range) (g.R.RangeBounds.end_bound c.args.range))
       ≡ c.resolve_range-part.result.end - c.resolve_range-part.result.start
   many = sym (ap length part) ∙ length-slice_range (view g.A.Slots c.args.self.now).items c.resolve_range-part.result.start c.resolve_range-part.result.end order last
 
@@ -59,7 +59,7 @@ returns g c =
     let cut = c.resolve_range-part.result in
     let grown = c.in_ok-reserve.ensures in
     let same : slice_range (view g.A.Slots c.reserve.new.self).items cut.start cut.end
-    ≡ removed (view g.A.Slots c.args.self.now).items (g.R.RangeBounds.start_bound c.args.range) (g.R.RangeBounds.end_bound c.args.range) =
+    ≡ items_within (view g.A.Slots c.args.self.now).items (g.R.RangeBounds.start_bound c.args.range) (g.R.RangeBounds.end_bound c.args.range) =
     ap (λ l. slice_range l cut.start cut.end) grown.ok.items ∙ part g at in
     let made = extended_grown g.A.Item.Default.is_default g.A.Item.Clone _ _ _ _ _ _ (sym (many g at)) grown.ok.items (λ i. ap (view g.A.Slots) (grown.stays i)) grown.ok.place (rw same at c.clone_reserved.ensures) in
     record { clones = made.clones; ok = made.ok; succeeds = made.succeeds; refused = made.refused }

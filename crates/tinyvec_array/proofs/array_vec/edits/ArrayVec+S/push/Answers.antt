@@ -2,7 +2,8 @@ use Rattle.std.proofs.Common.{length, ap, rules, arith, refl}
 use Rattle.std.proofs.lemmas.Grind.{common_steps}
 use Rattle.tinyvec_slots.proofs.BorderLemmas.{drop-pushed, within}
 use Rattle.tinyvec_array.specs.View.{NothingVacated}
-use Rattle.tinyvec_array.specs.ViewLaws.{rule_used, one_place}
+use Rattle.tinyvec_array.specs.ViewLaws.{one_place}
+use Rattle.tinyvec_array.proofs.RuleLemmas.{rule_used}
 use Rattle.tinyvec_array.proofs.ViewLemmas.{parts_of}
 use Rattle.tinyvec_array.proofs.array_vec.edits.ArrayVec+S.push.Goals as goal
 

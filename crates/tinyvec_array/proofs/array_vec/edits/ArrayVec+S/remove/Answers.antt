@@ -3,7 +3,8 @@ use Rattle.std.proofs.lemmas.Grind.{common_steps}
 use Rattle.std.proofs.lemmas.List.Elements.{All-cons, All-nil}
 use Rattle.tinyvec_slots.proofs.Lists.{length-moved, take-moved}
 use Rattle.tinyvec_array.specs.ArrayVec.{items_of}
-use Rattle.tinyvec_array.specs.ViewLaws.{rule_freed, one_place}
+use Rattle.tinyvec_array.specs.ViewLaws.{one_place}
+use Rattle.tinyvec_array.proofs.RuleLemmas.{rule_freed}
 use Rattle.tinyvec_slots.proofs.BorderLemmas.{take-taken, drop-taken}
 use Rattle.tinyvec_array.proofs.array_vec.edits.ArrayVec+S.remove.Goals as goal
 

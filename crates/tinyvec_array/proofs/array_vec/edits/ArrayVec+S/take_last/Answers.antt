@@ -2,7 +2,8 @@ use Rattle.std.proofs.Common.{rules, refl, ◌<◌, ◌∷◌, [], arith}
 use Rattle.std.proofs.lemmas.Grind.{common_steps}
 use Rattle.std.proofs.lemmas.List.Elements.{All-cons, All-nil}
 use Rattle.tinyvec_slots.proofs.BorderLemmas.{drop-popped}
-use Rattle.tinyvec_array.specs.ViewLaws.{rule_freed, one_place}
+use Rattle.tinyvec_array.specs.ViewLaws.{one_place}
+use Rattle.tinyvec_array.proofs.RuleLemmas.{rule_freed}
 use Rattle.tinyvec_array.proofs.array_vec.edits.ArrayVec+S.take_last.Goals as goal
 
 pub returns-clause-becomes : goal.returns-clause-becomes

@@ -1,7 +1,8 @@
 use Rattle.std.proofs.Common.{refl, rules, ◌-◌, ◌≤◌, ◌++◌, length, arith, ap, ◌∙◌, append_assoc, drop_at, length-take-le, take, drop}
 use Rattle.std.proofs.lemmas.Grind.{common_steps}
 use Rattle.tinyvec_slots.proofs.BorderLemmas.{spare_from, within}
-use Rattle.tinyvec_array.specs.ViewLaws.{rule_freed, one_place}
+use Rattle.tinyvec_array.specs.ViewLaws.{one_place}
+use Rattle.tinyvec_array.proofs.RuleLemmas.{rule_freed}
 use Rattle.tinyvec_array.proofs.array_vec.edits.ArrayVec+S.truncate.Goals as goal
 
 pub returns-then-new_len-len : goal.returns-then-new_len-len

@@ -2,7 +2,8 @@ use Rattle.std.proofs.Common.{◌≡◌, [], refl, length, ap, ◌∙◌, arith,
 use Rattle.tinyvec_slots.specs.Slots.{items_in, spare_in}
 use Rattle.tinyvec_array.specs.SliceParts.{with_front}
 use Rattle.tinyvec_array.specs.ArrayVec.{items_of, spare_of}
-use Rattle.tinyvec_array.specs.ViewLaws.{one_place, becomes, rule_freed}
+use Rattle.tinyvec_array.specs.ViewLaws.{one_place, becomes}
+use Rattle.tinyvec_array.proofs.RuleLemmas.{rule_freed}
 use Rattle.tinyvec_array.proofs.ViewLemmas.{slots_of-written, parts_of}
 use Rattle.tinyvec_array.proofs.array_vec.extending.ArrayVec+S.append.Goals as goal
 

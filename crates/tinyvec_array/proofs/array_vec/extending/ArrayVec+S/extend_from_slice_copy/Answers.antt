@@ -1,7 +1,8 @@
 use Rattle.std.proofs.Common.{refl, ◌≡◌, ◌+◌, ◌-◌, ◌++◌, length, take, drop, sym, ap, ◌∙◌, arith, rules, append_assoc, take_at, drop_at, length-append, length-take-le}
 use Rattle.tinyvec_slots.proofs.BorderLemmas.{list_to, spare_from, within}
 use Rattle.tinyvec_array.specs.View.{NothingVacated}
-use Rattle.tinyvec_array.specs.ViewLaws.{one_place, rule_used}
+use Rattle.tinyvec_array.specs.ViewLaws.{one_place}
+use Rattle.tinyvec_array.proofs.RuleLemmas.{rule_used}
 use Rattle.tinyvec_array.proofs.array_vec.extending.ArrayVec+S.extend_from_slice_copy.Goals as goal
 
 pub returns : goal.returns

@@ -1,7 +1,7 @@
 use Rattle.std.proofs.Common.{refl, ap}
 use Rattle.std.specs.List.{AllZip}
 use Rattle.std.proofs.lemmas.List.Elements.{same_from_all_zip}
-use Rattle.tinyvec_slots.specs.Clones.{are_clones}
+use Rattle.tinyvec_slots.proofs.CloneLemmas.{are_clones}
 use Rattle.tinyvec_slots.proofs.ClonesOverLemmas.{AllZip-cut}
 use Rattle.tinyvec_array.specs.ArrayVec.{slots_of}
 use Rattle.tinyvec_array.proofs.array_vec.in_array.ArrayVec+A.clone.Goals as goal

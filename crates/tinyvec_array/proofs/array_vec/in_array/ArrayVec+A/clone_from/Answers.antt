@@ -1,8 +1,8 @@
 use Rattle.std.proofs.Common.{◌≡◌, ◌+◌, ◌-◌, ◌++◌, length, take, drop, min, refl, sym, ap, subst, ◌∙◌, arith, take_at, drop_at, length-take}
 use Rattle.tinyvec_slots.specs.Slots.{SlotRule, Vacates, items_in, spare_in, len_in, split_at}
-use Rattle.tinyvec_slots.specs.Clones.{AreClones, are_clones}
+use Rattle.tinyvec_slots.specs.Clones.{AreClones}
+use Rattle.tinyvec_slots.proofs.CloneLemmas.{are_clones, on_err}
 use Rattle.tinyvec_slots.proofs.BorderLemmas.{list_to, spare_from}
-use Rattle.tinyvec_slots.proofs.CloneLemmas.{on_err}
 use Rattle.tinyvec_slots.proofs.CloneFromLemmas.{clones_in_part, all_cloned}
 use Rattle.tinyvec_array.specs.ArrayVec.{view_of, slots_of}
 use Rattle.tinyvec_array.specs.ViewLaws.{freed_by}

@@ -4,10 +4,12 @@ use Rattle.std.proofs.lemmas.List.Elements.{All-drop}
 use Rattle.tinyvec_slots.specs.Slots.{items_in, spare_in}
 use Rattle.tinyvec_slots.proofs.BorderLemmas.{list_to, spare_from}
 use Rattle.std.proofs.lemmas.Slice.{between_is}
-use Rattle.tinyvec_array.specs.SliceParts.{with_part, with_part-as_long}
+use Rattle.tinyvec_array.specs.SliceParts.{with_part}
+use Rattle.tinyvec_array.proofs.PartLemmas.{with_part-as_long}
 use Rattle.tinyvec_array.specs.ArrayVec.{items_of, spare_of, slots_of, SameLender}
 use Rattle.tinyvec_array.specs.View.{NothingVacated}
-use Rattle.tinyvec_array.specs.ViewLaws.{becomes, same_place, rule_freed, used_by}
+use Rattle.tinyvec_array.specs.ViewLaws.{becomes, same_place, used_by}
+use Rattle.tinyvec_array.proofs.RuleLemmas.{rule_freed}
 use Rattle.tinyvec_array.specs.Lends.{at_slots}
 use Rattle.tinyvec_array.proofs.ViewLemmas.{parts_of}
 use Rattle.tinyvec_array.proofs.array_vec.in_array.ArrayVec+A.split_off.Goals as goal
