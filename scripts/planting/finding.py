@@ -91,7 +91,7 @@ def tests_of(top):
     yield "random calls", answering | {"tv"}, [top / "tests/random", "--try"]
     yield "rows", answering, [top / "tests/rows/compare", "--try"]
     for it in sorted(below, key=crates.Crate.has_tests):
-        if it.has_tests() or it.files.get("stdout"):
+        if it.has_tests() or "stdin" in it.files and not it.name.endswith("_cases"):
             yield it.name, below[it], [top / "tests/quick", it.name]
 
 

@@ -2,7 +2,6 @@
 use Rattle.std.proofs.Common.{Vec, Global, vec_len, vec_capacity, ◌≡◌, ◌==◌, ◌≤◌, List, length, refl, sym, ap, arith}
 use Rattle.std.specs.Prelude.{true}
 use Rattle.std.proofs.lemmas.Bool.{eqb-true}
-use Rattle.tinyvec_array.specs.ArrayVec.{spare_of}
 use Rattle.tinyvec_array.specs.View.{view as slots_view}
 use Rattle.tinyvec_array.specs.declared.array_vec.ArrayVec.{ArrayVec}
 use Rattle.tinyvec.specs.View.{TinyView, Becomes, StaysInPlace, in_array, on_heap}
@@ -25,8 +24,8 @@ module _ {T : Type 0} (D : T → Type 0) where
 
 -- a list that has no spare slot, or no room on the heap, is full
 pub full_inline : {A T L : Type 0} (g : Storage.Ghosts A T L) (old : TinyVec A T L) (v : ArrayVec A L) (a : Global) → old ≡ Inline v a
-    → true ≡ (length (spare_of g v) == 0) → length (view g old).items ≡ (view g old).place.capacity
-full_inline g old v a was none = rw was (omega (arith, parts_of g v, eqb-true (length (spare_of g v)) 0 (sym none)))
+    → true ≡ (length (slots_view g v).spare == 0) → length (view g old).items ≡ (view g old).place.capacity
+full_inline g old v a was none = rw was (omega (arith, parts_of g v, eqb-true (length (slots_view g v).spare) 0 (sym none)))
 
 pub full_heap : {A T L : Type 0} (g : Storage.Ghosts A T L) (old : TinyVec A T L) (v : Vec T Global) → old ≡ Heap v → vec_capacity v ≤ vec_len v
     → length (view g old).items ≡ (view g old).place.capacity

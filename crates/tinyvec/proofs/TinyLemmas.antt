@@ -9,7 +9,8 @@ use Rattle.tinyvec_slots.specs.Slots.{Slots, items_in, spare_in}
 use Rattle.tinyvec_slots.proofs.SlotsLemmas.{defaults_are, items-with_slot, spare-with_slot}
 use Rattle.tinyvec.specs.View.{in_array, on_heap, TinyView, SpareRule, IsNew, place_pushed}
 use Rattle.tinyvec.specs.Room.{GrowsByPushes, IsCollected}
-use Rattle.tinyvec_array.specs.ArrayVec.{view_of, items_of, slots_of}
+use Rattle.tinyvec_array.specs.ArrayVec.{view_of, slots_of}
+use Rattle.tinyvec_array.specs.View.{view as slots_view}
 use Rattle.tinyvec_array.specs.ViewLaws.{rule_at, rule_by, used_by}
 use Rattle.tinyvec_array.proofs.RuleLemmas.{rule_used}
 use Rattle.tinyvec_array.proofs.ViewLemmas.{view_of-at}
@@ -36,7 +37,7 @@ module _ {A T L : Type 0} (g : Storage.Ghosts A T L) where
   -- and leaves spare slots, place and room
   pub tiny_framed-with_item : (v : TinyVec A T L) (i : ℕ) (x : T) → i < length (view g v).items → FrameOf g v (tiny_with_item g v i x)
   tiny_framed-with_item (Inline v alloc) i x h = record {
-    len = ap length (tiny_items-with_item (Inline v alloc) i x h) ∙ length-set (items_of g v) i x;
+    len = ap length (tiny_items-with_item (Inline v alloc) i x h) ∙ length-set (slots_view g v).items i x;
     spare = ap spare_in (view_of-at g v (slice_set (slots_of g v) i x)) ∙ spare-with_slot (view_of g v) i x h;
     place = ap (λ u. in_array (length u.slots)) (view_of-at g v (slice_set (slots_of g v) i x)) ∙ ap in_array (length-set (slots_of g v) i x);
   }

@@ -2,7 +2,7 @@
 use Rattle.std.proofs.Common.{Vec, Global, vec_capacity, ◌≡◌, ◌==◌, ◌+◌, ◌≤◌, ℕ, max, false, Result, Ok, Err, List, length, sym, ap, ◌∙◌, arith}
 use Rattle.std.specs.Result.{is_err}
 use Rattle.std.proofs.lemmas.Bool.{false≢true, eqb-false}
-use Rattle.tinyvec_array.specs.ArrayVec.{items_of, spare_of, slots_of, len_of}
+use Rattle.tinyvec_array.specs.ArrayVec.{slots_of}
 use Rattle.tinyvec_array.specs.View.{view as slots_view}
 use Rattle.tinyvec_array.proofs.RuleLemmas.{none_vacated}
 use Rattle.tinyvec_array.specs.declared.array_vec.ArrayVec.{ArrayVec}
@@ -22,12 +22,12 @@ abbrev pub Took : {A T L : Type 0} → Storage.Ghosts A T L → (T → Type 0) �
 Took g D xs old new = BecomesIn D (view g old) (view g new) xs (place_for Doubled (length (view g old).items + 1) (view g old).place)
 
 module _ {A T L : Type 0} (g : Storage.Ghosts A T L) (D : T → Type 0) (put : List T → List T) (old new : TinyVec A T L) where
-  pub took_inline : (v w : ArrayVec A L) (a b : Global) → old ≡ Inline v a → new ≡ Inline w b → false ≡ (length (spare_of g v) == 0)
-      → Becomes NothingVacated (slots_view g v) (slots_view g w) (put (items_of g v)) → Took g D (put (view g old).items) old new
+  pub took_inline : (v w : ArrayVec A L) (a b : Global) → old ≡ Inline v a → new ≡ Inline w b → false ≡ (length (slots_view g v).spare == 0)
+      → Becomes NothingVacated (slots_view g v) (slots_view g w) (put (slots_view g v).items) → Took g D (put (view g old).items) old new
   took_inline v w a b was is some made =
-      let room : len_of g v + 1 ≤ length (slots_of g v) = omega (arith, parts_of g v, eqb-false (length (spare_of g v)) 0 (sym some)) in
-      let list = inline_becomes g D v w a b (put (items_of g v)) (none_vacated D made) in
-      rw (is, was) (had_place D Doubled (len_of g v + 1) (view g (Inline v a)) (view g (Inline w b)) (put (items_of g v)) room list)
+      let room : length (slots_view g v).items + 1 ≤ length (slots_of g v) = omega (arith, parts_of g v, eqb-false (length (slots_view g v).spare) 0 (sym some)) in
+      let list = inline_becomes g D v w a b (put (slots_view g v).items) (none_vacated D made) in
+      rw (is, was) (had_place D Doubled (length (slots_view g v).items + 1) (view g (Inline v a)) (view g (Inline w b)) (put (slots_view g v).items) room list)
 
   pub took_heap : (v w : Vec T Global) → old ≡ Heap v → new ≡ Heap w → length v.items + 1 ≤ vec_capacity v → w.items ≡ put v.items → vec_capacity w ≡ vec_capacity v
       → Took g D (put (view g old).items) old new

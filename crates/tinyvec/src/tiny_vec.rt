@@ -6,7 +6,7 @@ ghost use Rattle.tinyvec.specs.TinyVec.{tiny_allocator};
 ghost use Rattle.tinyvec.specs.View.{HoldsInline, IsNew, SameFrame};
 ghost use Rattle.tinyvec.specs.Room.{MadeFor};
 ghost use Rattle.tinyvec_slots.specs.Slots.{AreDefaults};
-ghost use Rattle.tinyvec_array.specs.ArrayVec.{items_of, spare_of};
+ghost use Rattle.tinyvec_array.specs.View.{view as slots_view};
 ghost use Rattle.tinyvec_slots.specs.Clones.{RefusedAt, AreClones};
 ghost use Rattle.std.specs.Borrow.{sem};
 ghost use Rattle.tinyvec_slots.specs.Filling.{Iterates, IteratesMut};
@@ -37,7 +37,7 @@ pub enum TinyVec<A: Drop, T: Drop = <A as Slots>::Item, L: Drop = <A as Slots>::
 impl<A: Slots> TinyVec<A> {
     /// The list of an `ArrayVec`, inline, with its spare slots.
     pub fn from_array_vec(alloc: Global, vec: ArrayVec<A>) -> Self
-        ensures { HoldsInline (items_of A.Slots vec) (spare_of A.Slots vec) (view A.Slots result) }
+        ensures { HoldsInline (slots_view A.Slots vec).items (slots_view A.Slots vec).spare (view A.Slots result) }
     {
         TinyVec::Inline(vec, alloc)
     }

@@ -12,7 +12,7 @@ use Rattle.tinyvec_slots.proofs.BorderLemmas.{list_to, spare_from, replaced_leng
 use Rattle.tinyvec_slots.proofs.SlotsLemmas.{slots_used}
 use Rattle.tinyvec_array.specs.SliceParts.{with_front, with_back, with_front-as_long}
 use Rattle.tinyvec_array.proofs.PartLemmas.{with_back-as_long}
-use Rattle.tinyvec_array.specs.ArrayVec.{view_of, items_of, spare_of, slots_of, len_of, SameLender}
+use Rattle.tinyvec_array.specs.ArrayVec.{view_of, slots_of, SameLender}
 use Rattle.tinyvec_array.specs.View.{view, Becomes, StaysInPlace, ShortensInPlace}
 use Rattle.tinyvec_array.specs.ViewLaws.{stays, becomes, same_place}
 use Rattle.tinyvec_array.specs.SliceVec.{slice_items, slice_spare, slice_slots}
@@ -31,24 +31,24 @@ front_len k xs n is ws =
 
 -- the items were written as a slice
 module _ {S T L : Type 0} (g : Storage.Ghosts S T L) (v : ArrayVec S L) (ws : List T) where
-  pub slots_of-written : length ws ≡ length (items_of g v) → slots_of g (with_items_of g v ws) ≡ ws ++ spare_of g v
+  pub slots_of-written : length ws ≡ length (view g v).items → slots_of g (with_items_of g v ws) ≡ ws ++ (view g v).spare
   slots_of-written long =
-      let n = length (items_of g v) in
+      let n = length (view g v).items in
       cc (g.slots_written v.slots (with_front (g.slots v.slots) n ws), with_front-as_long (g.slots v.slots) ws n long, spare_from (g.count v.len) (g.slots v.slots) n refl)
 
 -- the spare slots were written
 module _ {S T L : Type 0} (g : Storage.Ghosts S T L) (v : ArrayVec S L) (ws : List T) where
   abbrev pub put_back : ArrayVec S L
-  put_back = at_slots g v (with_back (slots_of g v) (len_of g v) ws)
+  put_back = at_slots g v (with_back (slots_of g v) (length (view g v).items) ws)
 
-  pub slots_of-back : length ws ≡ length (spare_of g v) → slots_of g put_back ≡ items_of g v ++ ws
+  pub slots_of-back : length ws ≡ length (view g v).spare → slots_of g put_back ≡ (view g v).items ++ ws
   slots_of-back long =
-      let behind = spare_from (g.count v.len) (g.slots v.slots) (len_of g v) refl in
-      let written = with_back-as_long (slots_of g v) ws (len_of g v) (long ∙ sym (ap length behind)) in
-      cc (g.slots_written v.slots (with_back (slots_of g v) (len_of g v) ws), written, list_to (g.count v.len) (slots_of g v) (len_of g v) refl)
+      let behind = spare_from (g.count v.len) (g.slots v.slots) (length (view g v).items) refl in
+      let written = with_back-as_long (slots_of g v) ws (length (view g v).items) (long ∙ sym (ap length behind)) in
+      cc (g.slots_written v.slots (with_back (slots_of g v) (length (view g v).items) ws), written, list_to (g.count v.len) (slots_of g v) (length (view g v).items) refl)
 
   -- the list is as it was, also where the length is more than there are slots
-  pub back_parts : length ws ≡ length (spare_of g v) → (items_of g put_back ≡ items_of g v) × (spare_of g put_back ≡ ws)
+  pub back_parts : length ws ≡ length (view g v).spare → ((view g put_back).items ≡ (view g v).items) × ((view g put_back).spare ≡ ws)
   back_parts long =
       let k = g.count v.len in
       let all = slots_of-back long in (
@@ -56,10 +56,10 @@ module _ {S T L : Type 0} (g : Storage.Ghosts S T L) (v : ArrayVec S L) (ws : Li
         ap (drop k) all ∙ same_lists _ _ (search (rules, places, long)) (λ i d h. grind (arith, places, long)),
       )
 
-  pub back_lender : length ws ≡ length (spare_of g v) → SameLender g v put_back
+  pub back_lender : length ws ≡ length (view g v).spare → SameLender g v put_back
   back_lender long = record {
-    same_reference = g.name_kept v.slots (with_back (slots_of g v) (len_of g v) ws);
-    slot_count = ap length (slots_of-back long) ∙ length-append (items_of g v) ws ∙ omega (arith, long, parts_of g v);
+    same_reference = g.name_kept v.slots (with_back (slots_of g v) (length (view g v).items) ws);
+    slot_count = ap length (slots_of-back long) ∙ length-append (view g v).items ws ∙ omega (arith, long, parts_of g v);
   }
 
 -- what is read of a vector whose slots were written
@@ -68,7 +68,7 @@ pub view_of-at : {S T L : Type 0} (g : Storage.Ghosts S T L) (v : ArrayVec S L) 
 view_of-at g v xs i = record { slots = g.slots_written v.slots xs i; len = g.count v.len }
 
 -- the slots are the list and the spare slots
-pub slots-parts : {S T L : Type 0} (g : Storage.Ghosts S T L) (v : ArrayVec S L) → slots_of g v ≡ items_of g v ++ spare_of g v
+pub slots-parts : {S T L : Type 0} (g : Storage.Ghosts S T L) (v : ArrayVec S L) → slots_of g v ≡ (view g v).items ++ (view g v).spare
 slots-parts g v = sym (take-append-drop (g.count v.len) (g.slots v.slots))
 
 -- a call, or two one after the other, keeps to the same slots
@@ -84,7 +84,7 @@ module _ {S T L : Type 0} (g : Storage.Ghosts S T L) where
 
 -- a call of `tinyvec_slots` that only removes items
 pub shortened : {S T L : Type 0} (g : Storage.Ghosts S T L) (D : T → Type 0) (old new : ArrayVec S L)
-    → Shortened (items_of g) (λ v. length (slots_of g v)) (CutOf g D) old new → ShortensInPlace D (view g old) (view g new)
+    → Shortened (λ v. (view g v).items) (λ v. length (slots_of g v)) (CutOf g D) old new → ShortensInPlace D (view g old) (view g new)
 shortened g D old new h = record { bound = h.bound; frame = cut_changes g D old new h.cut }
 
 -- a range that is taken out of a list leaves so many fewer items
@@ -95,15 +95,15 @@ fewer xs start end within =
     omega (arith, length-remove_range xs i j within.0 within.1, length-slice_range xs i j within.0 within.1, within.0, within.1)
 
 -- a call that only adds items
-pub grown : {S T L : Type 0} (g : Storage.Ghosts S T L) (D : T → Type 0) (old new : ArrayVec S L) (xs : List T) → items_of g new ≡ items_of g old ++ xs
-    → spare_of g new ≡ drop (len_of g new - len_of g old) (spare_of g old) → (view g new).place ≡ (view g old).place → StaysInPlace D (view g old) (view g new)
+pub grown : {S T L : Type 0} (g : Storage.Ghosts S T L) (D : T → Type 0) (old new : ArrayVec S L) (xs : List T) → (view g new).items ≡ (view g old).items ++ xs
+    → (view g new).spare ≡ drop (length (view g new).items - length (view g old).items) (view g old).spare → (view g new).place ≡ (view g old).place → StaysInPlace D (view g old) (view g new)
 grown g D old new xs listed behind place =
-    let longer = ap length listed ∙ length-append (items_of g old) xs in
-    stays g D old new place (slots_used D (view_of g old) (view_of g new) (len_of g new - len_of g old) (omega (arith, longer)) behind)
+    let longer = ap length listed ∙ length-append (view g old).items xs in
+    stays g D old new place (slots_used D (view_of g old) (view_of g new) (length (view g new).items - length (view g old).items) (omega (arith, longer)) behind)
 
 -- one item was written
-module _ {S T L : Type 0} (g : Storage.Ghosts S T L) (v : ArrayVec S L) (i : ℕ) (x : T) (lt : i < length (items_of g v)) where
-  pub items_of-set : items_of g (at_slots g v (set (g.slots v.slots) i x)) ≡ set (items_of g v) i x
+module _ {S T L : Type 0} (g : Storage.Ghosts S T L) (v : ArrayVec S L) (i : ℕ) (x : T) (lt : i < length (view g v).items) where
+  pub items_of-set : (view g (at_slots g v (set (g.slots v.slots) i x))).items ≡ set (view g v).items i x
   items_of-set = ap (take (g.count v.len)) (g.slots_written v.slots (set (g.slots v.slots) i x)) ∙ take-set-lt (g.count v.len) (g.slots v.slots) i x (search (rules, lt, places))
 
 -- what the owner of a slice sees of a vector over it
@@ -111,7 +111,7 @@ pub owner_sees : {T : Type 0} (v : ArrayVec (MutBor (List T)) ℕ) (xs ys : List
 owner_sees v xs ys listed behind = cc (take-append-drop v.len v.slots.now, listed, behind)
 
 -- the items from i up to j were replaced by `new` in the slots `ws`
-module _ {S T L : Type 0} (g : Storage.Ghosts S T L) (D : T → Type 0) (v : ArrayVec S L) (n : ℕ) (is : n ≡ length (items_of g v)) (i j : ℕ) (new ws : List T)
+module _ {S T L : Type 0} (g : Storage.Ghosts S T L) (D : T → Type 0) (v : ArrayVec S L) (n : ℕ) (is : n ≡ length (view g v).items) (i j : ℕ) (new ws : List T)
     (le : i ≤ j) (inside : j ≤ n) (fits : n - (j - i) + length new ≤ length (slots_of g v))
     (put : ws ≡ take i (slots_of g v) ++ new ++ slice_range (slots_of g v) j n ++ drop (i + length new + (n - j)) (slots_of g v)) where
   abbrev k : ℕ
@@ -121,7 +121,7 @@ module _ {S T L : Type 0} (g : Storage.Ghosts S T L) (D : T → Type 0) (v : Arr
   m = n - (j - i) + length new
 
   abbrev replaced : List T
-  replaced = take i (items_of g v) ++ new ++ drop j (items_of g v)
+  replaced = take i (view g v).items ++ new ++ drop j (view g v).items
 
   slots : slots_of g (at_slots g v ws) ≡ ws
   slots = g.slots_written v.slots ws
@@ -130,13 +130,13 @@ module _ {S T L : Type 0} (g : Storage.Ghosts S T L) (D : T → Type 0) (v : Arr
   count = ap length slots ∙ replaced_length k (slots_of g v) n is i j new ws m le inside refl fits put
 
   long : length replaced ≡ m
-  long = length-replaced i j new (items_of g v) le (omega (arith, is, inside)) ∙ ap (λ l. l - (j - i) + length new) (sym is)
+  long = length-replaced i j new (view g v).items le (omega (arith, is, inside)) ∙ ap (λ l. l - (j - i) + length new) (sym is)
 
   place : (view g (at_slots g v ws)).place ≡ (view g v).place
   place = same_place g v (at_slots g v ws) (record { same_reference = g.name_kept v.slots ws; slot_count = count })
 
   -- and the list was cut
-  pub replaced_cut : (w : ArrayVec S L) → m < n → Becomes D (view g (at_slots g v ws)) (view g w) (take m (items_of g (at_slots g v ws)))
+  pub replaced_cut : (w : ArrayVec S L) → m < n → Becomes D (view g (at_slots g v ws)) (view g w) (take m (view g (at_slots g v ws)).items)
       → Becomes D (view g v) (view g w) replaced
   replaced_cut w few cut =
       let was = ap (λ l. length (take k l)) slots ∙ replaced_len k (slots_of g v) n is i j new ws m le inside refl fits put ∙ is in
@@ -145,7 +145,7 @@ module _ {S T L : Type 0} (g : Storage.Ghosts S T L) (D : T → Type 0) (v : Arr
       record {
         items = cut.items ∙ ap (λ l. take m (take k l)) slots ∙ replaced_shorter k (slots_of g v) n is i j new ws m le inside refl fits put (omega (arith, few));
         place = cut.place ∙ place;
-        slot_rule = (rule.0, (rule.1.0 ∙ ap (λ l. l - len_of g w) was, rule.1.1), rule.2 ∙ (λ e. rule.0 ++ drop (len_of g w - was e) (behind e)));
+        slot_rule = (rule.0, (rule.1.0 ∙ ap (λ l. l - length (view g w).items) was, rule.1.1), rule.2 ∙ (λ e. rule.0 ++ drop (length (view g w).items - was e) (behind e)));
         fits = cut.fits;
       }
 

@@ -11,18 +11,6 @@ module _ {S T L : Type 0} (g : Storage.Ghosts S T L) where
   abbrev pub view_of : ArrayVec S L → Slots T
   view_of v = record { slots = g.slots v.slots; len = g.count v.len }
 
-  -- the list
-  abbrev pub items_of : ArrayVec S L → List T
-  items_of v = items_in (view_of v)
-
-  -- the spare slots after it
-  abbrev pub spare_of : ArrayVec S L → List T
-  spare_of v = spare_in (view_of v)
-
-  -- the length of the list
-  abbrev pub len_of : ArrayVec S L → ℕ
-  len_of v = length (items_of v)
-
   -- the list and the spare slots, one after the other
   abbrev pub slots_of : ArrayVec S L → List T
   slots_of v = g.slots v.slots

@@ -4,7 +4,8 @@ use Rattle.std.proofs.lemmas.List.{same_lists, places}
 use Rattle.tinyvec_slots.specs.Slots.{SameSpare, Cuts}
 use Rattle.tinyvec_slots.proofs.SlotsLemmas.{written_shortened}
 use Rattle.tinyvec_array.specs.SliceParts.{with_front, with_front-as_long}
-use Rattle.tinyvec_array.specs.ArrayVec.{view_of, items_of, name_of}
+use Rattle.tinyvec_array.specs.ArrayVec.{view_of, name_of}
+use Rattle.tinyvec_array.specs.View.{view}
 use Rattle.tinyvec_array.specs.Lends.{with_items_of}
 use Rattle.tinyvec_array.specs.declared.slots.Slots as Storage
 use Rattle.tinyvec_array.specs.declared.array_vec.ArrayVec.{ArrayVec}
@@ -27,13 +28,13 @@ module _ {S T L : Type 0} (g : Storage.Ghosts S T L) where
   abbrev pub CutOf : (T → Type 0) → ArrayVec S L → ArrayVec S L → Type 0
   CutOf D old new = (name_of g new ≡ name_of g old) × Cuts D (view_of g old) (view_of g new)
 
-  pub written_of : (v : ArrayVec S L) (ws : List T) → length ws ≡ length (items_of g v)
-      → (items_of g (with_items_of g v ws) ≡ ws) × KeptOf v (with_items_of g v ws)
+  pub written_of : (v : ArrayVec S L) (ws : List T) → length ws ≡ length (view g v).items
+      → ((view g (with_items_of g v ws)).items ≡ ws) × KeptOf v (with_items_of g v ws)
   written_of v ws long =
-      let slots = with_front (g.slots v.slots) (length (items_of g v)) ws in
-      let are = g.slots_written v.slots slots ∙ sym (with_front-as_long (g.slots v.slots) ws (length (items_of g v)) long) in
-      let list = ap (take (g.count v.len)) are ∙ list_written (g.count v.len) (g.slots v.slots) (length (items_of g v)) refl ws long in
-      let behind = ap (drop (g.count v.len)) are ∙ spare_written (g.count v.len) (g.slots v.slots) (length (items_of g v)) refl ws long in
+      let slots = with_front (g.slots v.slots) (length (view g v).items) ws in
+      let are = g.slots_written v.slots slots ∙ sym (with_front-as_long (g.slots v.slots) ws (length (view g v).items) long) in
+      let list = ap (take (g.count v.len)) are ∙ list_written (g.count v.len) (g.slots v.slots) (length (view g v).items) refl ws long in
+      let behind = ap (drop (g.count v.len)) are ∙ spare_written (g.count v.len) (g.slots v.slots) (length (view g v).items) refl ws long in
       (list, (g.name_kept v.slots slots, (behind, ap length list ∙ long)))
 
   pub kept_cut_of : (D : T → Type 0) (u v w : ArrayVec S L) → KeptOf u v → CutOf D v w → CutOf D u w

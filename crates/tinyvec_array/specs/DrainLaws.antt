@@ -4,7 +4,8 @@ use Rattle.std.proofs.Common.{◌≡◌, ℕ, ◌+◌, ◌≤◌, List, ◌++◌
 use Rattle.std.specs.List.{remove_range}
 use Rattle.tinyvec_slots.specs.Slots.{AreDefaults}
 use Rattle.tinyvec_slots.specs.declared.can_drain.CanDrain as CanDrain
-use Rattle.tinyvec_array.specs.ArrayVec.{items_of, spare_of, SameLender}
+use Rattle.tinyvec_array.specs.ArrayVec.{SameLender}
+use Rattle.tinyvec_array.specs.View.{view}
 use Rattle.tinyvec_array.specs.declared.slots.Slots as Storage
 use Rattle.tinyvec_array.specs.declared.array_vec.ArrayVec.{ArrayVec}
 
@@ -21,7 +22,7 @@ same_around xs ys i j long le same =
 module _ {S T L : Type 0} (g : Storage.Ghosts S T L) where
   -- the same slots are lent, and the list is the same
   abbrev pub DrainKept : ArrayVec S L → ArrayVec S L → Type 0
-  DrainKept old new = SameLender g old new × (items_of g new ≡ items_of g old)
+  DrainKept old new = SameLender g old new × ((view g new).items ≡ (view g old).items)
 
   pub drain_kept_same : (v : ArrayVec S L) → DrainKept v v
   drain_kept_same v = (record { same_reference = refl; slot_count = refl }, refl)
@@ -35,24 +36,24 @@ module _ {S T L : Type 0} (g : Storage.Ghosts S T L) where
   module _ (D : T → Type 0) where
     -- the spare slots of the range hold defaults, and the others are the same
     abbrev pub DrainEnded : ℕ → ℕ → ArrayVec S L → ArrayVec S L → Type 0
-    DrainEnded start gap old new = DrainKept old new × (start + gap ≤ length (spare_of g old) → (ds : List T) × AreDefaults D gap ds
-        × (spare_of g new ≡ take start (spare_of g old) ++ ds ++ drop (start + gap) (spare_of g old)))
+    DrainEnded start gap old new = DrainKept old new × (start + gap ≤ length (view g old).spare → (ds : List T) × AreDefaults D gap ds
+        × ((view g new).spare ≡ take start (view g old).spare ++ ds ++ drop (start + gap) (view g old).spare))
 
     -- what `CanDrain` says of the vector
     abbrev pub drain_of : CanDrain.Ghosts (ArrayVec S L) T
-    drain_of = record { drained_list = spare_of g; Kept = DrainKept; Ended = DrainEnded; drain_word = codes "ArrayVecDrain" }
+    drain_of = record { drained_list = λ v. (view g v).spare; Kept = DrainKept; Ended = DrainEnded; drain_word = codes "ArrayVecDrain" }
 
-    pub drain_kept_ended : (start gap : ℕ) (u v w : ArrayVec S L) → DrainKept u v → length (spare_of g v) ≡ length (spare_of g u)
-        → remove_range (spare_of g v) start (start + gap) ≡ remove_range (spare_of g u) start (start + gap)
+    pub drain_kept_ended : (start gap : ℕ) (u v w : ArrayVec S L) → DrainKept u v → length (view g v).spare ≡ length (view g u).spare
+        → remove_range (view g v).spare start (start + gap) ≡ remove_range (view g u).spare start (start + gap)
         → DrainEnded start gap v w → DrainEnded start gap u w
     drain_kept_ended start gap u v w kept long others ended = (
       drain_kept_then u v w kept ended.0,
       λ fits.
           let left = ended.1 (omega (arith, long, fits)) in
-          let parts = same_around (spare_of g v) (spare_of g u) start (start + gap) long (omega (arith, fits)) others in (
+          let parts = same_around (view g v).spare (view g u).spare start (start + gap) long (omega (arith, fits)) others in (
             left.0,
             left.1,
-            left.2 ∙ ap (λ xs. xs ++ left.0 ++ drop (start + gap) (spare_of g v)) parts.0
-                ∙ ap (λ xs. take start (spare_of g u) ++ left.0 ++ xs) parts.1,
+            left.2 ∙ ap (λ xs. xs ++ left.0 ++ drop (start + gap) (view g v).spare) parts.0
+                ∙ ap (λ xs. take start (view g u).spare ++ left.0 ++ xs) parts.1,
           ),
     )

@@ -1,7 +1,7 @@
 -- The laws of `CanPut` of a vector over slots.
 use Rattle.std.proofs.Common.{◌≡◌, ◌+◌, ◌≤◌, List, [], ◌++◌, length, take, drop, min, refl, sym, ap, ◌∙◌, arith, append-nil, length-append, length-take, length-drop, take-append-drop}
 use Rattle.std.proofs.lemmas.List.{drop_min}
-use Rattle.tinyvec_array.specs.ArrayVec.{items_of, spare_of, slots_of, name_of, SameLender}
+use Rattle.tinyvec_array.specs.ArrayVec.{slots_of, name_of, SameLender}
 use Rattle.tinyvec_array.specs.View.{view, Becomes, NothingVacated}
 use Rattle.tinyvec_array.specs.SpliceLaws.{parts_of}
 use Rattle.tinyvec_array.specs.declared.slots.Slots as Storage
@@ -12,18 +12,18 @@ module _ {S T L : Type 0} (g : Storage.Ghosts S T L) where
   pub record PutsOf (old : ArrayVec S L) (xs : List T) (new : ArrayVec S L) : Type 0 where
     pub same_reference : name_of g new ≡ name_of g old
     pub len : g.count new.len ≡ g.count old.len
-    pub slots : slots_of g new ≡ (items_of g old ++ xs) ++ drop (length (items_of g old) + length xs) (slots_of g old)
-    pub fits : length (items_of g old) + length xs ≤ length (slots_of g old)
+    pub slots : slots_of g new ≡ ((view g old).items ++ xs) ++ drop (length (view g old).items + length xs) (slots_of g old)
+    pub fits : length (view g old).items + length xs ≤ length (slots_of g old)
 
   -- xs were appended
   abbrev pub GetsOf : ArrayVec S L → List T → ArrayVec S L → Type 0
-  GetsOf old xs new = Becomes NothingVacated (view g old) (view g new) (items_of g old ++ xs)
+  GetsOf old xs new = Becomes NothingVacated (view g old) (view g new) ((view g old).items ++ xs)
 
   -- the list is as it was, and xs are in the first spare slots
   pub record LeavesOf (old : ArrayVec S L) (xs : List T) (new : ArrayVec S L) : Type 0 where
     pub lender : SameLender g old new
-    pub items : items_of g new ≡ items_of g old
-    pub spare : spare_of g new ≡ xs ++ drop (length xs) (spare_of g old)
+    pub items : (view g new).items ≡ (view g old).items
+    pub spare : (view g new).spare ≡ xs ++ drop (length xs) (view g old).spare
 
   pub puts_none_of : (v : ArrayVec S L) → PutsOf v [] v
   puts_none_of v =
@@ -40,6 +40,6 @@ module _ {S T L : Type 0} (g : Storage.Ghosts S T L) where
 
   pub puts_room_of : (v : ArrayVec S L) (xs : List T) (w : ArrayVec S L) → PutsOf v xs w → length (slots_of g w) ≡ length (slots_of g v)
   puts_room_of v xs w put =
-      let n = length (items_of g v) + length xs in
-      let long = ap length put.slots ∙ length-append (items_of g v ++ xs) (drop n (slots_of g v)) in
-      omega (arith, long, length-append (items_of g v) xs, length-drop n (slots_of g v), put.fits)
+      let n = length (view g v).items + length xs in
+      let long = ap length put.slots ∙ length-append ((view g v).items ++ xs) (drop n (slots_of g v)) in
+      omega (arith, long, length-append (view g v).items xs, length-drop n (slots_of g v), put.fits)

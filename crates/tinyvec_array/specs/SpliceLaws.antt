@@ -2,7 +2,7 @@
 use Rattle.std.proofs.Common.{◌≡◌, ℕ, ◌+◌, ◌-◌, ◌≤◌, length, refl, sym, ap, ◌∙◌, arith, length-append, take-append-drop}
 use Rattle.tinyvec_slots.specs.Slots.{SlotRule}
 use Rattle.tinyvec_slots.proofs.SlotsLemmas.{shortened}
-use Rattle.tinyvec_array.specs.ArrayVec.{view_of, items_of, spare_of, slots_of, SameLender, VacatesOf}
+use Rattle.tinyvec_array.specs.ArrayVec.{view_of, slots_of, SameLender, VacatesOf}
 use Rattle.tinyvec_array.specs.View.{view, StaysInPlace}
 use Rattle.tinyvec_array.specs.CutLaws.{KeptOf, CutOf}
 use Rattle.tinyvec_array.specs.ViewLaws.{one_place, same_place, stays}
@@ -10,8 +10,8 @@ use Rattle.tinyvec_array.specs.declared.slots.Slots as Storage
 use Rattle.tinyvec_array.specs.declared.array_vec.ArrayVec.{ArrayVec}
 
 module _ {S T L : Type 0} (g : Storage.Ghosts S T L) where
-  pub parts_of : (v : ArrayVec S L) → length (slots_of g v) ≡ length (items_of g v) + length (spare_of g v)
-  parts_of v = ap length (sym (take-append-drop (g.count v.len) (g.slots v.slots))) ∙ length-append (items_of g v) (spare_of g v)
+  pub parts_of : (v : ArrayVec S L) → length (slots_of g v) ≡ length (view g v).items + length (view g v).spare
+  parts_of v = ap length (sym (take-append-drop (g.count v.len) (g.slots v.slots))) ∙ length-append (view g v).items (view g v).spare
 
   pub kept_refl : (v : ArrayVec S L) → KeptOf g v v
   kept_refl v = (refl, (refl, refl))
@@ -28,16 +28,16 @@ module _ {S T L : Type 0} (g : Storage.Ghosts S T L) where
 
   module _ (D : T → Type 0) where
     -- so do calls that vacate slots
-    pub vacated_count : (old new : ArrayVec S L) (n : ℕ) → length (items_of g new) + n ≡ length (items_of g old)
+    pub vacated_count : (old new : ArrayVec S L) (n : ℕ) → length (view g new).items + n ≡ length (view g old).items
         → VacatesOf g D n old new → length (slots_of g new) ≡ length (slots_of g old)
     vacated_count old new n shorter h =
-        let behind = ap length h.2 ∙ length-append h.0 (spare_of g old) in
+        let behind = ap length h.2 ∙ length-append h.0 (view g old).spare in
         omega (arith, parts_of new, parts_of old, behind, h.1.0, shorter)
 
     pub cut_lender : (old new : ArrayVec S L) → CutOf g D old new → SameLender g old new
     cut_lender old new h = record {
       same_reference = h.0;
-      slot_count = vacated_count old new (length (items_of g old) - length (items_of g new)) (omega (arith, h.1.bound)) h.1.spare;
+      slot_count = vacated_count old new (length (view g old).items - length (view g new).items) (omega (arith, h.1.bound)) h.1.spare;
     }
 
     pub cut_changes : (v w : ArrayVec S L) → CutOf g D v w → StaysInPlace D (view g v) (view g w)

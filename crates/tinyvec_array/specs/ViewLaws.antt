@@ -4,7 +4,7 @@ use Rattle.std.specs.Prelude.{Bool, true, false, IsTrue, MatchBool, ⊤}
 use Rattle.std.proofs.lemmas.Bool.{false≢true}
 use Rattle.std.proofs.lemmas.List.{nil_from_length}
 use Rattle.tinyvec_slots.specs.Slots.{AreDefaults, SlotRule}
-use Rattle.tinyvec_array.specs.ArrayVec.{view_of, items_of, SameLender}
+use Rattle.tinyvec_array.specs.ArrayVec.{view_of, SameLender}
 use Rattle.tinyvec_array.specs.View.{PlaceOf, View, view, SpareRule, Becomes, StaysInPlace}
 use Rattle.tinyvec_array.specs.declared.slots.Slots as Storage
 use Rattle.tinyvec_array.specs.declared.array_vec.ArrayVec.{ArrayVec}
@@ -54,8 +54,8 @@ module _ {S T L : Type 0} (g : Storage.Ghosts S T L) where
   same_place old new same = one_place refl same.slot_count same.same_reference
 
   module _ (D : T → Type 0) (old new : ArrayVec S L) (place : (view g new).place ≡ (view g old).place) (rule : SlotRule D (view_of g old) (view_of g new)) where
-    pub becomes : (xs : List T) → items_of g new ≡ xs → Becomes D (view g old) (view g new) xs
+    pub becomes : (xs : List T) → (view g new).items ≡ xs → Becomes D (view g old) (view g new) xs
     becomes xs is = record { items = is; place = place; slot_rule = rule; fits = omega (arith, length-take (g.count new.len) (g.slots new.slots)) }
 
     pub stays : StaysInPlace D (view g old) (view g new)
-    stays = becomes (items_of g new) refl
+    stays = becomes (view g new).items refl

@@ -4,7 +4,8 @@ ghost use Rattle.std.specs.List.{remove_range};
 ghost use Rattle.tinyvec_slots.specs.Slots.{AreDefaults, split_at};
 ghost use Rattle.tinyvec_slots.specs.Ranges.{Within};
 ghost use Rattle.std.specs.Borrow.{sem};
-ghost use Rattle.tinyvec_array.specs.ArrayVec.{view_of, items_of, spare_of, slots_of, len_of, SameLender};
+ghost use Rattle.tinyvec_array.specs.ArrayVec.{view_of, slots_of, SameLender};
+ghost use Rattle.tinyvec_array.specs.View.{view};
 ghost use Rattle.tinyvec_array.specs.Lends.{lends_items, lends_inner, lends_spare};
 ghost use Rattle.tinyvec_slots.specs.Filling.{Iterates, IteratesMut};
 
@@ -52,7 +53,7 @@ impl<S: Drop + Copy, L: Drop + Copy> Clone for ArrayVec<S, L> {
 impl<S: Slots> ArrayVec<S> {
     /// The number of items.
     pub fn len(&self) -> usize
-        ensures value { result ≡ len_of S.Slots self.now }
+        ensures value { result ≡ length (view S.Slots self.now).items }
         ensures fits { result ≤ length (slots_of S.Slots self.now) }
         ensures small { length (slots_of S.Slots self.now) < 2 ^ 64 }
         ensures slot_count { S.Slots.Counts (slots_of S.Slots self.now) }
@@ -63,7 +64,7 @@ impl<S: Slots> ArrayVec<S> {
     /// The number of items that fit, which is that of the slots.
     pub fn capacity(&self) -> usize
         ensures value { result ≡ length (slots_of S.Slots self.now) }
-        ensures parts { result ≡ len_of S.Slots self.now + length (spare_of S.Slots self.now) }
+        ensures parts { result ≡ length (view S.Slots self.now).items + length (view S.Slots self.now).spare }
         ensures slot_count { S.Slots.Counts (slots_of S.Slots self.now) }
     {
         self.slots.as_slice().len()
@@ -71,8 +72,8 @@ impl<S: Slots> ArrayVec<S> {
 
     /// How many more items fit.
     pub fn remaining_capacity(&self) -> usize
-        ensures value { result ≡ length (spare_of S.Slots self.now) }
-        ensures sum { len_of S.Slots self.now + result ≡ length (slots_of S.Slots self.now) }
+        ensures value { result ≡ length (view S.Slots self.now).spare }
+        ensures sum { length (view S.Slots self.now).items + result ≡ length (slots_of S.Slots self.now) }
         ensures slot_count { S.Slots.Counts (slots_of S.Slots self.now) }
     {
         self.capacity() - self.len()
@@ -80,14 +81,14 @@ impl<S: Slots> ArrayVec<S> {
 
     /// Whether the list has no items.
     pub fn is_empty(&self) -> bool
-        ensures { result ≡ (len_of S.Slots self.now == 0) }
+        ensures { result ≡ (length (view S.Slots self.now).items == 0) }
     {
         self.len() == 0
     }
 
     /// Whether no more items fit.
     pub fn is_full(&self) -> bool
-        ensures value { result ≡ (length (spare_of S.Slots self.now) == 0) }
+        ensures value { result ≡ (length (view S.Slots self.now).spare == 0) }
         ensures slot_count { S.Slots.Counts (slots_of S.Slots self.now) }
     {
         self.len() == self.capacity()
@@ -95,7 +96,7 @@ impl<S: Slots> ArrayVec<S> {
 
     /// The items.
     pub fn as_slice(&self) -> &[S::Item]
-        ensures { result.now ≡ items_of S.Slots self.now }
+        ensures { result.now ≡ (view S.Slots self.now).items }
     {
         let slots = self.slots.as_slice();
         // The minimum is the length. It bounds the trip count of a loop over the items.
@@ -104,7 +105,7 @@ impl<S: Slots> ArrayVec<S> {
 
     /// The spare slots.
     pub fn grab_spare_slice(&self) -> &[S::Item]
-        ensures { result.now ≡ spare_of S.Slots self.now }
+        ensures { result.now ≡ (view S.Slots self.now).spare }
     {
         let len = self.len();
         &self.slots.as_slice()[len..]
@@ -115,7 +116,7 @@ impl<S: Slots> ArrayVec<S> {
         requires { new_len ≤ length (slots_of S.Slots self.old) }
         ensures lender { SameLender S.Slots self.old self.new }
         ensures value { view_of S.Slots self.new ≡ split_at new_len (slots_of S.Slots self.old) }
-        ensures len { len_of S.Slots self.new ≡ new_len }
+        ensures len { length (view S.Slots self.new).items ≡ new_len }
     {
         self.len = self.slots.to_len(new_len);
     }
@@ -131,11 +132,11 @@ impl<S: Slots> ArrayVec<S> {
 
     // Moves the items from `start` up to `end` after the others.
     pub(crate) fn move_to_end(&mut self, start: usize, end: usize)
-        requires { Within start end (len_of S.Slots self.old) }
+        requires { Within start end (length (view S.Slots self.old).items) }
         ensures lender { SameLender S.Slots self.old self.new }
-        ensures items { items_of S.Slots self.new
-            ≡ remove_range (items_of S.Slots self.old) start end ++ slice_range (items_of S.Slots self.old) start end }
-        ensures spare { spare_of S.Slots self.new ≡ spare_of S.Slots self.old }
+        ensures items { (view S.Slots self.new).items
+            ≡ remove_range (view S.Slots self.old).items start end ++ slice_range (view S.Slots self.old).items start end }
+        ensures spare { (view S.Slots self.new).spare ≡ (view S.Slots self.old).spare }
     {
         let len = self.len();
         move_to_end_below(self.slots.as_slice_mut(), start, end, len);
@@ -144,7 +145,7 @@ impl<S: Slots> ArrayVec<S> {
     /// The items, for writing.
     pub fn as_mut_slice(&mut self) -> &mut [S::Item]
         ensures* writes_back { sem 𝓛 (lends_items S.row S.Len.row S.Item.row S.Slots self.entry result) }
-        ensures value { result.now ≡ items_of S.Slots self.old }
+        ensures value { result.now ≡ (view S.Slots self.old).items }
     {
         let len = self.len();
         part_of(&mut self.slots, 0, len)
@@ -153,7 +154,7 @@ impl<S: Slots> ArrayVec<S> {
     /// The spare slots, for writing.
     pub fn grab_spare_slice_mut(&mut self) -> &mut [S::Item]
         ensures* writes_back { sem 𝓛 (lends_spare S.row S.Len.row S.Item.row S.Slots self.entry result) }
-        ensures value { result.now ≡ spare_of S.Slots self.old }
+        ensures value { result.now ≡ (view S.Slots self.old).spare }
     {
         let len = self.len();
         let all = self.capacity();
@@ -173,7 +174,7 @@ impl<S: Slots> ArrayVec<S> {
 
     /// Iterates over the items, in order or from the back.
     pub fn iter(&self) -> slice::Iter<'_, S::Item>
-        ensures { Iterates (items_of S.Slots self.now) result }
+        ensures { Iterates (view S.Slots self.now).items result }
     {
         self.as_slice().iter()
     }
@@ -182,10 +183,10 @@ impl<S: Slots> ArrayVec<S> {
     /// spare slots, and after one over `as_mut_slice().iter_mut()` the items too.
     pub fn iter_mut(&mut self) -> slice::IterMut<'_, S::Item>
         ensures* writes_back { sem 𝓛 (lends_iter S.row S.Len.row S.Item.row S.Slots self.entry result) }
-        ensures yields { IteratesMut (items_of S.Slots self.old) result }
+        ensures yields { IteratesMut (view S.Slots self.old).items result }
 
         // Whatever is written, the list is as long as it was.
-        ensures keeps_len { (ws : List S.Item) → len_of S.Slots (with_items_of S.Slots self.old ws) ≡ len_of S.Slots self.old }
+        ensures keeps_len { (ws : List S.Item) → length (view S.Slots (with_items_of S.Slots self.old ws)).items ≡ length (view S.Slots self.old).items }
     {
         self.as_mut_slice().iter_mut()
     }
@@ -198,12 +199,12 @@ where
 {
     // Takes the value of the spare slot at `i`, and leaves a default.
     pub(crate) fn take_spare(&mut self, i: usize) -> S::Item
-        requires { i < length (spare_of S.Slots self.old) }
+        requires { i < length (view S.Slots self.old).spare }
         ensures lender { SameLender S.Slots self.old self.new }
-        ensures value { result ≡ slice_index_or (spare_of S.Slots self.old) i result }
-        ensures items { items_of S.Slots self.new ≡ items_of S.Slots self.old }
+        ensures value { result ≡ slice_index_or (view S.Slots self.old).spare i result }
+        ensures items { (view S.Slots self.new).items ≡ (view S.Slots self.old).items }
         ensures spare { (d : S.Item) × S.Item.is_default d
-            × (spare_of S.Slots self.new ≡ slice_set (spare_of S.Slots self.old) i d) }
+            × ((view S.Slots self.new).spare ≡ slice_set (view S.Slots self.old).spare i d) }
     {
         let len = self.len();
         let most = self.slots.most();
@@ -214,12 +215,12 @@ where
     // Writes defaults into the `n` spare slots from `start` on, or none if there are fewer.
     pub(crate) fn fill_spare_default(&mut self, start: usize, n: usize)
         ensures lender { SameLender S.Slots self.old self.new }
-        ensures items { items_of S.Slots self.new ≡ items_of S.Slots self.old }
-        ensures spare { start + n ≤ length (spare_of S.Slots self.old) → (ds : List S.Item)
+        ensures items { (view S.Slots self.new).items ≡ (view S.Slots self.old).items }
+        ensures spare { start + n ≤ length (view S.Slots self.old).spare → (ds : List S.Item)
             × AreDefaults S.Item.is_default n ds
-            × (spare_of S.Slots self.new
-            ≡ take start (spare_of S.Slots self.old) ++ ds ++ drop (start + n) (spare_of S.Slots self.old)) }
-        ensures none { length (spare_of S.Slots self.old) < start + n → self.new ≡ self.old }
+            × ((view S.Slots self.new).spare
+            ≡ take start (view S.Slots self.old).spare ++ ds ++ drop (start + n) (view S.Slots self.old).spare) }
+        ensures none { length (view S.Slots self.old).spare < start + n → self.new ≡ self.old }
     {
         let len = self.len();
         let spare = self.capacity() - len;
@@ -232,7 +233,7 @@ where
 }
 
 impl<S: Slots> AsSlice<S::Item> for ArrayVec<S> {
-    ghost items = { items_of S.Slots };
+    ghost items = { λ v. (view S.Slots v).items };
 
     fn as_slice(&self) -> &[S::Item] {
         self.as_slice()

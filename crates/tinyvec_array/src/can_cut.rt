@@ -8,13 +8,14 @@ impl<S: Slots> CanCut for ArrayVec<S>
 where
     S::Item: Default,
 {
-    ghost use Rattle.tinyvec_array.specs.ArrayVec.{items_of, slots_of};
+    ghost use Rattle.tinyvec_array.specs.ArrayVec.{slots_of};
+    ghost use Rattle.tinyvec_array.specs.View.{view};
     ghost use Rattle.tinyvec_array.specs.Lends.{with_items_of};
     ghost use Rattle.tinyvec_array.specs.CutLaws.{KeptOf, CutOf, written_of, kept_cut_of};
 
     type Item = S::Item;
 
-    ghost items = { items_of S.Slots };
+    ghost items = { λ v. (view S.Slots v).items };
 
     ghost with_items = { with_items_of S.Slots };
 

@@ -5,12 +5,13 @@ use crate::{ArrayVec, Slots};
 use tinyvec_slots::authors::CanPut;
 
 impl<S: Slots> CanPut for ArrayVec<S> {
-    ghost use Rattle.tinyvec_array.specs.ArrayVec.{items_of, slots_of};
+    ghost use Rattle.tinyvec_array.specs.ArrayVec.{slots_of};
+    ghost use Rattle.tinyvec_array.specs.View.{view};
     ghost use Rattle.tinyvec_array.specs.PutLaws.{PutsOf, GetsOf, LeavesOf, puts_none_of, puts_room_of};
 
     type Item = S::Item;
 
-    ghost items = { items_of S.Slots };
+    ghost items = { λ v. (view S.Slots v).items };
 
     ghost room = { λ v. length (slots_of S.Slots v) };
 

@@ -2,7 +2,7 @@
 ghost use Rattle.std.specs.Prelude.{◌≡◌, ◌++◌, length, ◌≤◌, ◌+◌, ◌^◌, codes, IsErr, vec_len, vec_capacity};
 ghost use Rattle.std.specs.List.{FoldsTo};
 ghost use Rattle.tinyvec_slots.specs.Ranges.{IsRangeOf, items_before, items_within, items_after};
-ghost use Rattle.tinyvec_array.specs.ArrayVec.{items_of, spare_of, len_of, SameLender};
+ghost use Rattle.tinyvec_array.specs.ArrayVec.{SameLender};
 ghost use Rattle.tinyvec_array.specs.View.{view, Becomes};
 ghost use Rattle.tinyvec_array.specs.ToVec.{DrainsToVec};
 
@@ -31,17 +31,17 @@ where
     /// `not_exhausted` fails only for a `RangeInclusive` that was iterated to its end.
     pub fn drain<R: RangeBounds<usize>>(&mut self, range: R) -> ArrayVecDrain<'_, S>
         requires not_exhausted { R.has_bounds range }
-        requires in_list { IsRangeOf (items_of S.Slots self.old) (R.start_bound range) (R.end_bound range) }
+        requires in_list { IsRangeOf (view S.Slots self.old).items (R.start_bound range) (R.end_bound range) }
         ensures begins { DrainBegins ⟦<ArrayVec<S> as CanDrain>⟧ self.entry
-            (items_within (items_of S.Slots self.old) (R.start_bound range) (R.end_bound range)) (spare_of S.Slots self.old)
+            (items_within (view S.Slots self.old).items (R.start_bound range) (R.end_bound range)) (view S.Slots self.old).spare
             (λ v. Becomes S.Item.is_default (view S.Slots self.old) (view S.Slots v)
-            (items_before (items_of S.Slots self.old) (R.start_bound range)
-            ++ items_after (items_of S.Slots self.old) (R.end_bound range))) result }
+            (items_before (view S.Slots self.old).items (R.start_bound range)
+            ++ items_after (view S.Slots self.old).items (R.end_bound range))) result }
 
         // The list lost them at the call.
         ensures lender { SameLender S.Slots self.old (drain_vec result) }
-        ensures items { items_of S.Slots (drain_vec result) ≡ items_before (items_of S.Slots self.old) (R.start_bound range)
-            ++ items_after (items_of S.Slots self.old) (R.end_bound range) }
+        ensures items { (view S.Slots (drain_vec result)).items ≡ items_before (view S.Slots self.old).items (R.start_bound range)
+            ++ items_after (view S.Slots self.old).items (R.end_bound range) }
     {
         let count = self.cut_out(range);
         drain_held(self, 0, count)
@@ -51,13 +51,13 @@ where
     #[inline(always)]
     fn cut_out<R: RangeBounds<usize>>(&mut self, range: R) -> usize
         requires not_exhausted { R.has_bounds range }
-        requires in_list { IsRangeOf (items_of S.Slots self.old) (R.start_bound range) (R.end_bound range) }
+        requires in_list { IsRangeOf (view S.Slots self.old).items (R.start_bound range) (R.end_bound range) }
         ensures lender { SameLender S.Slots self.old self.new }
-        ensures items { items_of S.Slots self.new ≡ items_before (items_of S.Slots self.old) (R.start_bound range)
-            ++ items_after (items_of S.Slots self.old) (R.end_bound range) }
-        ensures spare { spare_of S.Slots self.new
-            ≡ items_within (items_of S.Slots self.old) (R.start_bound range) (R.end_bound range) ++ spare_of S.Slots self.old }
-        ensures count { length (items_within (items_of S.Slots self.old) (R.start_bound range) (R.end_bound range)) ≡ result }
+        ensures items { (view S.Slots self.new).items ≡ items_before (view S.Slots self.old).items (R.start_bound range)
+            ++ items_after (view S.Slots self.old).items (R.end_bound range) }
+        ensures spare { (view S.Slots self.new).spare
+            ≡ items_within (view S.Slots self.old).items (R.start_bound range) (R.end_bound range) ++ (view S.Slots self.old).spare }
+        ensures count { length (items_within (view S.Slots self.old).items (R.start_bound range) (R.end_bound range)) ≡ result }
     {
         let len = self.len();
         let part = resolve_range(range, len);
@@ -79,7 +79,7 @@ where
 
     type Item = S::Item;
 
-    ghost drained_list = { spare_of S.Slots };
+    ghost drained_list = { λ v. (view S.Slots v).spare };
 
     ghost Kept = { DrainKept S.Slots };
 
@@ -124,15 +124,15 @@ where
     /// `not_exhausted` fails only for a `RangeInclusive` that was iterated to its end.
     pub fn drain_each<R: RangeBounds<usize>, F: FnMut(S::Item)>(&mut self, range: R, f: &mut F)
         requires not_exhausted { R.has_bounds range }
-        requires in_list { IsRangeOf (items_of S.Slots self.old) (R.start_bound range) (R.end_bound range) }
+        requires in_list { IsRangeOf (view S.Slots self.old).items (R.start_bound range) (R.end_bound range) }
         requires callable { F.IsAlwaysCallable f.old }
         ensures becomes { Becomes S.Item.is_default (view S.Slots self.old) (view S.Slots self.new)
-            (items_before (items_of S.Slots self.old) (R.start_bound range)
-            ++ items_after (items_of S.Slots self.old) (R.end_bound range)) }
+            (items_before (view S.Slots self.old).items (R.start_bound range)
+            ++ items_after (view S.Slots self.old).items (R.end_bound range)) }
 
         // One call an item, and no more.
         ensures given { FoldsTo (λ p x q. F.step p x tt q) f.old
-            (items_within (items_of S.Slots self.old) (R.start_bound range) (R.end_bound range)) f.new }
+            (items_within (view S.Slots self.old).items (R.start_bound range) (R.end_bound range)) f.new }
         ensures still_callable { F.IsAlwaysCallable f.new }
     {
         for x in self.drain(range) {
@@ -146,15 +146,15 @@ where
     /// `not_exhausted` fails only for a `RangeInclusive` that was iterated to its end.
     pub fn drain_into<R: RangeBounds<usize>>(&mut self, range: R, out: &mut Vec<S::Item>)
         requires not_exhausted { R.has_bounds range }
-        requires in_list { IsRangeOf (items_of S.Slots self.old) (R.start_bound range) (R.end_bound range) }
+        requires in_list { IsRangeOf (view S.Slots self.old).items (R.start_bound range) (R.end_bound range) }
         requires room { vec_len out.old
-            + length (items_within (items_of S.Slots self.old) (R.start_bound range)
+            + length (items_within (view S.Slots self.old).items (R.start_bound range)
             (R.end_bound range)) ≤ vec_capacity out.old }
         ensures becomes { Becomes S.Item.is_default (view S.Slots self.old) (view S.Slots self.new)
-            (items_before (items_of S.Slots self.old) (R.start_bound range)
-            ++ items_after (items_of S.Slots self.old) (R.end_bound range)) }
+            (items_before (view S.Slots self.old).items (R.start_bound range)
+            ++ items_after (view S.Slots self.old).items (R.end_bound range)) }
         ensures moved { out.new.items ≡ out.old.items
-            ++ items_within (items_of S.Slots self.old) (R.start_bound range) (R.end_bound range) }
+            ++ items_within (view S.Slots self.old).items (R.start_bound range) (R.end_bound range) }
         ensures capacity { vec_capacity out.new ≡ vec_capacity out.old }
     {
         let count = self.cut_out(range);
@@ -163,14 +163,14 @@ where
 
     /// Moves the list into a `Vec` that has room for it, and for no more.
     pub fn drain_to_vec(&mut self, alloc: Global) -> Result<Vec<S::Item>, AllocError>
-        ensures { DrainsToVec S.Slots S.Item.is_default (len_of S.Slots self.old) self.old self.new result }
+        ensures { DrainsToVec S.Slots S.Item.is_default (length (view S.Slots self.old).items) self.old self.new result }
     {
         self.drain_to_vec_and_reserve(alloc, 0)
     }
 
     /// The same as `drain_to_vec`.
     pub fn try_drain_to_vec(&mut self, alloc: Global) -> Result<Vec<S::Item>, AllocError>
-        ensures { DrainsToVec S.Slots S.Item.is_default (len_of S.Slots self.old) self.old self.new result }
+        ensures { DrainsToVec S.Slots S.Item.is_default (length (view S.Slots self.old).items) self.old self.new result }
     {
         self.drain_to_vec(alloc)
     }
@@ -183,9 +183,9 @@ where
         alloc: Global,
         additional: usize,
     ) -> Result<Vec<S::Item>, AllocError>
-        ensures drained { DrainsToVec S.Slots S.Item.is_default (len_of S.Slots self.old + additional)
+        ensures drained { DrainsToVec S.Slots S.Item.is_default (length (view S.Slots self.old).items + additional)
             self.old self.new result }
-        ensures too_long { 2 ^ 64 ≤ len_of S.Slots self.old + additional → IsErr result }
+        ensures too_long { 2 ^ 64 ≤ length (view S.Slots self.old).items + additional → IsErr result }
     {
         let len = self.len();
         if additional > usize::MAX - len {
@@ -203,9 +203,9 @@ where
         alloc: Global,
         additional: usize,
     ) -> Result<Vec<S::Item>, AllocError>
-        ensures drained { DrainsToVec S.Slots S.Item.is_default (len_of S.Slots self.old + additional)
+        ensures drained { DrainsToVec S.Slots S.Item.is_default (length (view S.Slots self.old).items + additional)
             self.old self.new result }
-        ensures too_long { 2 ^ 64 ≤ len_of S.Slots self.old + additional → IsErr result }
+        ensures too_long { 2 ^ 64 ≤ length (view S.Slots self.old).items + additional → IsErr result }
     {
         self.drain_to_vec_and_reserve(alloc, additional)
     }

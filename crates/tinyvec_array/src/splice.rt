@@ -2,7 +2,7 @@
 ghost use Rattle.std.specs.Prelude.{◌≡◌, length, false, Some, ◌+◌, ◌-◌, ◌<◌, ◌≤◌, ◌∷◌, ◌++◌, List, IfErr, ◌↔◌, MatchResult, IsOk, OnOk, OnErr};
 ghost use Rattle.std.specs.Iterator.{Drains, YieldsThen};
 ghost use Rattle.std.specs.Iterator.Adapters.{fuse_done, fuse_source, fuse_steps};
-ghost use Rattle.tinyvec_array.specs.ArrayVec.{items_of, slots_of, len_of};
+ghost use Rattle.tinyvec_array.specs.ArrayVec.{slots_of};
 ghost use Rattle.tinyvec_array.specs.View.{view, StaysInPlace};
 ghost use Rattle.tinyvec_slots.specs.Ranges.{IsRangeOf, items_before, items_within, items_after};
 ghost use Rattle.tinyvec_slots.specs.Filling.{IntoIterYields, ShowsItems};
@@ -36,16 +36,16 @@ where
         replacement: I,
     ) -> ArrayVecSplice<'_, S, Fuse<I::IntoIter>>
         requires not_exhausted { R.has_bounds range }
-        requires in_list { IsRangeOf (items_of S.Slots self.old) (R.start_bound range) (R.end_bound range) }
-        ensures begins { SpliceBegins (items_before (items_of S.Slots self.old) (R.start_bound range))
-            (items_within (items_of S.Slots self.old) (R.start_bound range) (R.end_bound range))
-            (items_after (items_of S.Slots self.old) (R.end_bound range)) (splice_view (items_of S.Slots) result)
+        requires in_list { IsRangeOf (view S.Slots self.old).items (R.start_bound range) (R.end_bound range) }
+        ensures begins { SpliceBegins (items_before (view S.Slots self.old).items (R.start_bound range))
+            (items_within (view S.Slots self.old).items (R.start_bound range) (R.end_bound range))
+            (items_after (view S.Slots self.old).items (R.end_bound range)) (splice_view (λ v. (view S.Slots v).items) result)
             (splice_len result) }
         ensures replacement { I.into_iter_gives replacement (fuse_source (splice_replacement result)) }
         ensures unasked { fuse_done (splice_replacement result) ≡ false }
         ensures slots { splice_vec result ≡ self.old }
         ensures same_reference { splice_lender result ≡ self.entry.ghost_name }
-        ensures ready { SpliceCanStep (items_of S.Slots) result }
+        ensures ready { SpliceCanStep (λ v. (view S.Slots v).items) result }
     {
         let part = resolve_range(range, self.len());
         splice_over(self, part.start, part.end, replacement.into_iter())
@@ -61,16 +61,16 @@ where
         replacement: I,
     ) -> Result<(), NoRoom<S::Item, Fuse<I::IntoIter>>>
         requires not_exhausted { R.has_bounds range }
-        requires in_list { IsRangeOf (items_of S.Slots self.old) (R.start_bound range) (R.end_bound range) }
+        requires in_list { IsRangeOf (view S.Slots self.old).items (R.start_bound range) (R.end_bound range) }
         requires can { (it : I.IntoIter) → I.into_iter_gives replacement it → I.IntoIter.can_next it }
         ensures ran { (it : Fuse I.IntoIter) × (xs : List S.Item) × I.into_iter_gives replacement (fuse_source it)
             × (fuse_done it ≡ false)
             × MatchResult result (λ _. Drains (fuse_steps I.IntoIter.next_gives) it xs)
             (λ refused. YieldsThen (fuse_steps I.IntoIter.next_gives) it xs (Some refused.item) refused.rest)
-            × (items_of S.Slots self.new
-            ≡ items_before (items_of S.Slots self.old) (R.start_bound range) ++ xs
-            ++ items_after (items_of S.Slots self.old) (R.end_bound range)) }
-        ensures full { OnErr result (len_of S.Slots self.new ≡ length (slots_of S.Slots self.new)) }
+            × ((view S.Slots self.new).items
+            ≡ items_before (view S.Slots self.old).items (R.start_bound range) ++ xs
+            ++ items_after (view S.Slots self.old).items (R.end_bound range)) }
+        ensures full { OnErr result (length (view S.Slots self.new).items ≡ length (slots_of S.Slots self.new)) }
         ensures changes { StaysInPlace S.Item.is_default (view S.Slots self.old) (view S.Slots self.new) }
 
         // The returned iterator can be iterated further.
@@ -79,21 +79,21 @@ where
         // For an iterator of which `rest` shows the remaining items.
         ensures listed { (rest : I.IntoIter → List S.Item) → ShowsItems I.IntoIter.next_gives rest
             → (it : I.IntoIter) × I.into_iter_gives replacement it
-            × (IsOk result ↔ (length (items_before (items_of S.Slots self.old) (R.start_bound range)) + length (rest it)
-            + length (items_after (items_of S.Slots self.old) (R.end_bound range)) ≤ length (slots_of S.Slots self.new)))
-            × OnOk result (items_of S.Slots self.new
-            ≡ items_before (items_of S.Slots self.old) (R.start_bound range) ++ rest it
-            ++ items_after (items_of S.Slots self.old) (R.end_bound range))
+            × (IsOk result ↔ (length (items_before (view S.Slots self.old).items (R.start_bound range)) + length (rest it)
+            + length (items_after (view S.Slots self.old).items (R.end_bound range)) ≤ length (slots_of S.Slots self.new)))
+            × OnOk result ((view S.Slots self.new).items
+            ≡ items_before (view S.Slots self.old).items (R.start_bound range) ++ rest it
+            ++ items_after (view S.Slots self.old).items (R.end_bound range))
             × IfErr result (λ refused. (placed : List S.Item)
             × (rest it ≡ placed ++ refused.item ∷ fused_rest rest refused.rest)
-            × (items_of S.Slots self.new
-            ≡ items_before (items_of S.Slots self.old) (R.start_bound range) ++ placed
-            ++ items_after (items_of S.Slots self.old) (R.end_bound range))) }
+            × ((view S.Slots self.new).items
+            ≡ items_before (view S.Slots self.old).items (R.start_bound range) ++ placed
+            ++ items_after (view S.Slots self.old).items (R.end_bound range))) }
 
         // For items that are known, as those of a `Vec`, a range or a slice.
         ensures known { (xs : List S.Item) → IntoIterYields I.into_iter_gives I.IntoIter.next_gives replacement xs
-            → PutsBetween (length (slots_of S.Slots self.new)) (items_before (items_of S.Slots self.old) (R.start_bound range)) xs
-            (items_after (items_of S.Slots self.old) (R.end_bound range)) result (items_of S.Slots self.new) }
+            → PutsBetween (length (slots_of S.Slots self.new)) (items_before (view S.Slots self.old).items (R.start_bound range)) xs
+            (items_after (view S.Slots self.old).items (R.end_bound range)) result (view S.Slots self.new).items }
     {
         let splice = self.splice(range, replacement);
         splice.finish()
@@ -111,13 +111,13 @@ where
     where
         S::Item: Copy,
         requires not_exhausted { R.has_bounds range }
-        requires in_list { IsRangeOf (items_of S.Slots self.old) (R.start_bound range) (R.end_bound range) }
-        ensures variant { IsOk result ↔ (length (items_before (items_of S.Slots self.old) (R.start_bound range))
-            + length replacement.now + length (items_after (items_of S.Slots self.old) (R.end_bound range))
+        requires in_list { IsRangeOf (view S.Slots self.old).items (R.start_bound range) (R.end_bound range) }
+        ensures variant { IsOk result ↔ (length (items_before (view S.Slots self.old).items (R.start_bound range))
+            + length replacement.now + length (items_after (view S.Slots self.old).items (R.end_bound range))
             ≤ length (slots_of S.Slots self.old)) }
-        ensures items { OnOk result (items_of S.Slots self.new
-            ≡ items_before (items_of S.Slots self.old) (R.start_bound range) ++ replacement.now
-            ++ items_after (items_of S.Slots self.old) (R.end_bound range)) }
+        ensures items { OnOk result ((view S.Slots self.new).items
+            ≡ items_before (view S.Slots self.old).items (R.start_bound range) ++ replacement.now
+            ++ items_after (view S.Slots self.old).items (R.end_bound range)) }
         ensures changes { StaysInPlace S.Item.is_default (view S.Slots self.old) (view S.Slots self.new) }
         ensures refused { OnErr result (self.new ≡ self.old) }
     {

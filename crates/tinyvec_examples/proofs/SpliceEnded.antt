@@ -7,8 +7,8 @@ use Rattle.tinyvec_slots.specs.AnySplice.{SpliceView, Splices, FinishesWith}
 use Rattle.tinyvec_slots.specs.SplicedByWord.{IsSpliceRefused, SplicedByWord}
 use Rattle.tinyvec_slots.specs.declared.no_room.NoRoom.{NoRoom}
 use Rattle.tinyvec_slots.proofs.AnySpliceLemmas.{spliced_len, spliced_all, spliced_refused}
-use Rattle.tinyvec_array.specs.ArrayVec.{view_of, items_of, spare_of, slots_of, len_of}
-use Rattle.tinyvec_array.specs.View.{view as slots_view}
+use Rattle.tinyvec_array.specs.ArrayVec.{view_of, slots_of}
+use Rattle.tinyvec_array.specs.View.{view, view as slots_view}
 use Rattle.tinyvec_array.specs.CutLaws.{KeptOf}
 use Rattle.tinyvec_slots.specs.Splice.{splice_vec, SpliceKeeps}
 use Rattle.tinyvec_array.proofs.ViewLemmas.{parts_of}
@@ -43,22 +43,22 @@ module _ {S I T : Type 0} {view : S → SpliceView I T} {keeps : S → S → Typ
   ended_all (Err refused) f le = absurd (let no : false ≡ true = (ended_fits (Err refused) f).1 le in cc)
 
 -- the slot rule from the splice on
-pub ended_slots : {S T L I : Type 0} (g : Storage.Ghosts S T L) (D : T → Type 0) (s t : Splice (ArrayVec S L) (Fuse I)) (old v : ArrayVec S L) → SpliceKeeps (items_of g) (KeptOf g) s t
+pub ended_slots : {S T L I : Type 0} (g : Storage.Ghosts S T L) (D : T → Type 0) (s t : Splice (ArrayVec S L) (Fuse I)) (old v : ArrayVec S L) → SpliceKeeps (λ v. (view g v).items) (KeptOf g) s t
     → splice_vec s ≡ old → SlotRule D (view_of g (splice_vec t)) (view_of g v) → SlotRule D (view_of g old) (view_of g v)
 ended_slots g D s t old v keeps slots rule =
-    let count : len_of g (splice_vec t) ≡ len_of g old = keeps.kept.1.1 ∙ ap (len_of g) slots in
-    let behind : spare_of g (splice_vec t) ≡ spare_of g old = keeps.kept.1.0 ∙ ap (spare_of g) slots in (
+    let count : length (view g (splice_vec t)).items ≡ length (view g old).items = keeps.kept.1.1 ∙ ap (λ v. length (view g v).items) slots in
+    let behind : (view g (splice_vec t)).spare ≡ (view g old).spare = keeps.kept.1.0 ∙ ap (λ v. (view g v).spare) slots in (
       rule.0,
-      (rule.1.0 ∙ ap (λ n. n - len_of g v) count, rule.1.1),
-      rule.2 ∙ ap (λ n. rule.0 ++ drop (len_of g v - n) (spare_of g (splice_vec t))) count ∙ ap (λ l. rule.0 ++ drop (len_of g v - len_of g old) l) behind,
+      (rule.1.0 ∙ ap (λ n. n - length (view g v).items) count, rule.1.1),
+      rule.2 ∙ ap (λ n. rule.0 ++ drop (length (view g v).items - n) (view g (splice_vec t)).spare) count ∙ ap (λ l. rule.0 ++ drop (length (view g v).items - length (view g old).items) l) behind,
     )
 
 -- as many slots as at its start
-pub ended_count : {S T L I : Type 0} (g : Storage.Ghosts S T L) (s t : Splice (ArrayVec S L) (Fuse I)) (old v : ArrayVec S L) → SpliceKeeps (items_of g) (KeptOf g) s t
+pub ended_count : {S T L I : Type 0} (g : Storage.Ghosts S T L) (s t : Splice (ArrayVec S L) (Fuse I)) (old v : ArrayVec S L) → SpliceKeeps (λ v. (view g v).items) (KeptOf g) s t
     → splice_vec s ≡ old → (slots_view g v).place ≡ (slots_view g (splice_vec t)).place → length (slots_of g v) ≡ length (slots_of g old)
 ended_count g s t old v keeps slots place =
-    let count : len_of g (splice_vec t) ≡ len_of g old = keeps.kept.1.1 ∙ ap (len_of g) slots in
-    let behind : length (spare_of g (splice_vec t)) ≡ length (spare_of g old) = ap length (keeps.kept.1.0 ∙ ap (spare_of g) slots) in
+    let count : length (view g (splice_vec t)).items ≡ length (view g old).items = keeps.kept.1.1 ∙ ap (λ v. length (view g v).items) slots in
+    let behind : length (view g (splice_vec t)).spare ≡ length (view g old).spare = ap length (keeps.kept.1.0 ∙ ap (λ v. (view g v).spare) slots) in
     omega (arith, ap (λ p. p.capacity) place, count, behind, parts_of g (splice_vec t), parts_of g old)
 
 -- what was taken from an end

@@ -1,6 +1,6 @@
 //! What callers can prove of every type that can be written and read.
 ghost use Rattle.std.specs.Prelude.{◌≡◌, ◌⊎◌, ◌++◌, ℕ, List, map, IfErr, IfOk};
-ghost use Rattle.tinyvec_array.specs.ArrayVec.{items_of};
+ghost use Rattle.tinyvec_array.specs.View.{view as slots_view};
 ghost use Rattle.tinyvec.specs.TinyVec.{view, tiny_items};
 ghost use Rattle.tinyvec_borsh.specs.Code.{TellsApart};
 ghost use Rattle.tinyvec_borsh.specs.Reading.{ReadsBack};
@@ -56,7 +56,7 @@ pub fn copied_lists<A: Array, const N: usize>(
 where
     A::Item: BorshSerialize + BorshDeserialize,
     requires { TellsApart A.Item.content_of }
-    ensures same { IfOk result (λ w. map (items_of A.Slots) (tiny_items w) ≡ map (items_of A.Slots) (tiny_items v.now)) }
+    ensures same { IfOk result (λ w. map (λ v. (slots_view A.Slots v).items) (tiny_items w) ≡ map (λ v. (slots_view A.Slots v).items) (tiny_items v.now)) }
     ensures err { IfErr result (λ e. (e ≡ BorshError.Io) ⊎ (e ≡ BorshError.Memory)) }
 {
     copied(alloc, v)

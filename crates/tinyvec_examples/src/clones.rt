@@ -1,7 +1,8 @@
 //! Clones, of items that own memory and of numbers.
 ghost use Rattle.std.specs.Prelude.{◌≡◌, ◌+◌, ◌-◌, ◌≤◌, length, IfOk, OnOk, OnErr};
 ghost use Rattle.std.specs.List.{AppendsClones};
-ghost use Rattle.tinyvec_array.specs.ArrayVec.{items, items_of, len_of};
+ghost use Rattle.tinyvec_array.specs.ArrayVec.{items};
+ghost use Rattle.tinyvec_array.specs.View.{view};
 
 use std::alloc::AllocError;
 use tinyvec_array::{Array, ArrayVec};
@@ -10,10 +11,10 @@ use tinyvec_array::{Array, ArrayVec};
 pub fn appended<A: Array>(v: &mut ArrayVec<A>, more: &[A::Item]) -> Result<(), AllocError>
 where
     A::Item: Clone,
-    requires { length more.now ≤ A.CAPACITY - len_of A.Slots v.old }
-    ensures items { OnOk result (AppendsClones A.Item.is_clone (items_of A.Slots v.old) (items_of A.Slots v.new) more.now) }
-    ensures len { OnOk result (len_of A.Slots v.new ≡ len_of A.Slots v.old + length more.now) }
-    ensures refused { OnErr result (items_of A.Slots v.new ≡ items_of A.Slots v.old) }
+    requires { length more.now ≤ A.CAPACITY - length (view A.Slots v.old).items }
+    ensures items { OnOk result (AppendsClones A.Item.is_clone (view A.Slots v.old).items (view A.Slots v.new).items more.now) }
+    ensures len { OnOk result (length (view A.Slots v.new).items ≡ length (view A.Slots v.old).items + length more.now) }
+    ensures refused { OnErr result ((view A.Slots v.new).items ≡ (view A.Slots v.old).items) }
 {
     // For the proof: how many slots there are.
     let _slots = v.capacity();

@@ -1,6 +1,6 @@
 //! Callers of a drain.
 ghost use Rattle.std.specs.Prelude.{◌≡◌, ◌-◌, ◌++◌, ◌∷◌, [], pos, Some, slice_get};
-ghost use Rattle.tinyvec_array.specs.ArrayVec.{items_of};
+ghost use Rattle.tinyvec_array.specs.View.{view};
 ghost use Rattle.tinyvec_array.specs.Ranges.{IsRangeOf, items_before, items_within, items_after};
 
 use std::ops::RangeBounds;
@@ -25,9 +25,9 @@ pub fn nth_of<A: Array, R: RangeBounds<usize>>(
     n: usize,
 ) -> Option<A::Item>
     requires not_exhausted { R.has_bounds range }
-    requires in_list { IsRangeOf (items_of A.Slots v.old) (R.start_bound range) (R.end_bound range) }
-    ensures item { result ≡ slice_get (items_within (items_of A.Slots v.old) (R.start_bound range) (R.end_bound range)) n }
-    ensures left { items_of A.Slots v.new ≡ items_before (items_of A.Slots v.old) (R.start_bound range) ++ items_after (items_of A.Slots v.old) (R.end_bound range) }
+    requires in_list { IsRangeOf (view A.Slots v.old).items (R.start_bound range) (R.end_bound range) }
+    ensures item { result ≡ slice_get (items_within (view A.Slots v.old).items (R.start_bound range) (R.end_bound range)) n }
+    ensures left { (view A.Slots v.new).items ≡ items_before (view A.Slots v.old).items (R.start_bound range) ++ items_after (view A.Slots v.old).items (R.end_bound range) }
 {
     let mut d = v.drain(range);
     d.nth(n)
@@ -35,9 +35,9 @@ pub fn nth_of<A: Array, R: RangeBounds<usize>>(
 
 /// Moves all items to an empty vector.
 pub fn move_all<A: Array>(from: &mut ArrayVec<A>, to: &mut ArrayVec<A>)
-    requires { items_of A.Slots to.old ≡ [] }
-    ensures moved { items_of A.Slots to.new ≡ items_of A.Slots from.old }
-    ensures left { items_of A.Slots from.new ≡ [] }
+    requires { (view A.Slots to.old).items ≡ [] }
+    ensures moved { (view A.Slots to.new).items ≡ (view A.Slots from.old).items }
+    ensures left { (view A.Slots from.new).items ≡ [] }
 {
     // For the proof: both have as many slots.
     let _both = (from.len(), to.len());

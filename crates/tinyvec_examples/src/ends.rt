@@ -1,13 +1,13 @@
 //! Callers of `push`, `try_push` and `pop`.
-ghost use Rattle.std.specs.Prelude.{◌≡◌, ◌<◌, ◌∷◌, [], ◌++◌, pos};
-ghost use Rattle.tinyvec_array.specs.ArrayVec.{items_of, len_of};
+ghost use Rattle.std.specs.Prelude.{◌≡◌, ◌<◌, ◌∷◌, [], ◌++◌, pos, length};
+ghost use Rattle.tinyvec_array.specs.View.{view};
 
 use tinyvec_array::{Array, ArrayVec};
 
 /// Appends `x` if `is_full` says that there is room.
 pub fn push_if_room<A: Array>(v: &mut ArrayVec<A>, x: A::Item)
-    ensures room { len_of A.Slots v.old < A.CAPACITY → items_of A.Slots v.new ≡ items_of A.Slots v.old ++ x ∷ [] }
-    ensures full { len_of A.Slots v.old ≡ A.CAPACITY → v.new ≡ v.old }
+    ensures room { length (view A.Slots v.old).items < A.CAPACITY → (view A.Slots v.new).items ≡ (view A.Slots v.old).items ++ x ∷ [] }
+    ensures full { length (view A.Slots v.old).items ≡ A.CAPACITY → v.new ≡ v.old }
 {
     if !v.is_full() {
         v.push(x);

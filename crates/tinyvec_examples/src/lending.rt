@@ -1,15 +1,16 @@
 //! Callers that write through what a vector lends.
-ghost use Rattle.std.specs.Prelude.{◌≡◌, ◌<◌, slice_set};
-ghost use Rattle.tinyvec_array.specs.ArrayVec.{items_len, items, spare, items_of, spare_of, len_of, name_of};
+ghost use Rattle.std.specs.Prelude.{◌≡◌, ◌<◌, slice_set, length};
+ghost use Rattle.tinyvec_array.specs.ArrayVec.{items_len, items, spare, name_of};
+ghost use Rattle.tinyvec_array.specs.View.{view};
 
 use tinyvec_array::{ArrayVec, Slots};
 
 /// One item, by its index, in any slots: that item, and nothing else.
 pub fn set<S: Slots>(v: &mut ArrayVec<S>, i: usize, x: S::Item)
-    requires { i < len_of S.Slots v.old }
+    requires { i < length (view S.Slots v.old).items }
     ensures same_reference { name_of S.Slots v.new ≡ name_of S.Slots v.old }
-    ensures items { items_of S.Slots v.new ≡ slice_set (items_of S.Slots v.old) i x }
-    ensures spare { spare_of S.Slots v.new ≡ spare_of S.Slots v.old }
+    ensures items { (view S.Slots v.new).items ≡ slice_set (view S.Slots v.old).items i x }
+    ensures spare { (view S.Slots v.new).spare ≡ (view S.Slots v.old).spare }
 {
     v[i] = x;
 }

@@ -1,7 +1,8 @@
 //! Callers of a splice.
 ghost use Rattle.std.specs.Prelude.{◌≡◌, ◌≤◌, ◌+◌, ◌-◌, ◌++◌, ◌∷◌, [], List, length, take, drop, max, IsOk, OnOk, OnErr, IfErr, ◌↔◌};
 ghost use Rattle.std.specs.Iterator.Adapters.{fuse_steps};
-ghost use Rattle.tinyvec_array.specs.ArrayVec.{items_of, view_of, len_of};
+ghost use Rattle.tinyvec_array.specs.ArrayVec.{view_of};
+ghost use Rattle.tinyvec_array.specs.View.{view};
 ghost use Rattle.tinyvec_array.specs.Slots.{SlotRule};
 ghost use Rattle.tinyvec_array.specs.Ends.{front, back, given_items, RunsWord, TakesFromEnds};
 ghost use Rattle.tinyvec_array.specs.Fused.{fused_rest, HasTwoEnds};
@@ -16,17 +17,17 @@ use tinyvec_array::{Array, ArrayVec, ArrayVecSplice, SpliceRest};
 pub fn one_from_each_end<A: Array, I: DoubleEndedIterator<Item = A::Item>>(
     splice: &mut ArrayVecSplice<'_, A, Fuse<I>>,
 ) -> (Option<A::Item>, Option<A::Item>)
-    requires ready { SpliceCanStep (items_of A.Slots) splice.old }
+    requires ready { SpliceCanStep (λ v. (view A.Slots v).items) splice.old }
     requires can { (s : I) → I.can_next s × I.can_next_back s }
-    ensures asked { RunsWord (SpliceSteps (items_of A.Slots) (KeptOf A.Slots) (fuse_steps I.next_gives))
-        (SpliceStepsBack (items_of A.Slots) (KeptOf A.Slots) (fuse_steps I.next_back_gives))
+    ensures asked { RunsWord (SpliceSteps (λ v. (view A.Slots v).items) (KeptOf A.Slots) (fuse_steps I.next_gives))
+        (SpliceStepsBack (λ v. (view A.Slots v).items) (KeptOf A.Slots) (fuse_steps I.next_back_gives))
         splice.old (front ∷ back ∷ []) (result.0 ∷ result.1 ∷ []) splice.new }
-    ensures yields { TakesFromEnds (splice_left (items_of A.Slots) splice.old) (front ∷ back ∷ [])
-        (result.0 ∷ result.1 ∷ []) (splice_left (items_of A.Slots) splice.new) }
+    ensures yields { TakesFromEnds (splice_left (λ v. (view A.Slots v).items) splice.old) (front ∷ back ∷ [])
+        (result.0 ∷ result.1 ∷ []) (splice_left (λ v. (view A.Slots v).items) splice.new) }
     ensures spliced { (rest : I → List A.Item) → HasTwoEnds I.next_gives I.next_back_gives rest
-        → SplicedByWord (splice_view (items_of A.Slots)) (SpliceKeeps (items_of A.Slots) (KeptOf A.Slots)) (fused_rest rest)
+        → SplicedByWord (splice_view (λ v. (view A.Slots v).items)) (SpliceKeeps (λ v. (view A.Slots v).items) (KeptOf A.Slots)) (fused_rest rest)
         splice.old (front ∷ back ∷ []) splice.new }
-    ensures ready { SpliceCanStep (items_of A.Slots) splice.new }
+    ensures ready { SpliceCanStep (λ v. (view A.Slots v).items) splice.new }
 {
     let first = splice.next();
     let last = splice.next_back();
@@ -41,16 +42,16 @@ pub fn replace<A: Array, I: DoubleEndedIterator<Item = A::Item>>(
     replacement: I,
 ) -> Result<(), SpliceRest<A::Item, Fuse<I>>>
     requires start_le_end { start ≤ end }
-    requires in_bounds { end ≤ len_of A.Slots vec.old }
+    requires in_bounds { end ≤ length (view A.Slots vec.old).items }
     requires can { (s : I) → I.can_next s × I.can_next_back s }
     ensures list { (rest : I → List A.Item) → HasTwoEnds I.next_gives I.next_back_gives rest
-        → (IsOk result ↔ (start + length (rest replacement) + (len_of A.Slots vec.old - end) ≤ A.CAPACITY))
-        × OnOk result (items_of A.Slots vec.new ≡ take start (items_of A.Slots vec.old) ++ rest replacement ++ drop end (items_of A.Slots vec.old))
+        → (IsOk result ↔ (start + length (rest replacement) + (length (view A.Slots vec.old).items - end) ≤ A.CAPACITY))
+        × OnOk result ((view A.Slots vec.new).items ≡ take start (view A.Slots vec.old).items ++ rest replacement ++ drop end (view A.Slots vec.old).items)
         × IfErr result
         (λ refused. IsSpliceRefused (front ∷ back ∷ []) (end - start)
-        (take start (items_of A.Slots vec.old)) (drop end (items_of A.Slots vec.old)) (rest replacement)
-        (items_of A.Slots vec.new) (refused.item ∷ fused_rest rest refused.rest)) }
-    ensures full { OnErr result (len_of A.Slots vec.new ≡ A.CAPACITY) }
+        (take start (view A.Slots vec.old).items) (drop end (view A.Slots vec.old).items) (rest replacement)
+        (view A.Slots vec.new).items (refused.item ∷ fused_rest rest refused.rest)) }
+    ensures full { OnErr result (length (view A.Slots vec.new).items ≡ A.CAPACITY) }
     ensures slot_rule { SlotRule A.Item.is_default (view_of A.Slots vec.old) (view_of A.Slots vec.new) }
 {
     // For the proof: how many slots there are.
@@ -69,13 +70,13 @@ pub fn touches_of_replace<A: Array, I: DoubleEndedIterator<Item = A::Item>>(
     replacement: I,
 ) -> (Option<A::Item>, Option<A::Item>, u128)
     requires start_le_end { start ≤ end }
-    requires in_bounds { end ≤ len_of A.Slots vec.old }
+    requires in_bounds { end ≤ length (view A.Slots vec.old).items }
     requires can { (s : I) → I.can_next s × I.can_next_back s }
-    ensures kept { len_of A.Slots vec.old - (end - start) ≤ len_of A.Slots vec.new }
+    ensures kept { length (view A.Slots vec.old).items - (end - start) ≤ length (view A.Slots vec.new).items }
     ensures at_least { length (given_items (result.0 ∷ result.1 ∷ []))
-        + (len_of A.Slots vec.new - (len_of A.Slots vec.old - (end - start))) ≤ result.2 }
-    ensures at_most { result.2 ≤ (end - start) + (len_of A.Slots vec.new - (len_of A.Slots vec.old - (end - start)))
-        + max (len_of A.Slots vec.old) (len_of A.Slots vec.new) }
+        + (length (view A.Slots vec.new).items - (length (view A.Slots vec.old).items - (end - start))) ≤ result.2 }
+    ensures at_most { result.2 ≤ (end - start) + (length (view A.Slots vec.new).items - (length (view A.Slots vec.old).items - (end - start)))
+        + max (length (view A.Slots vec.old).items) (length (view A.Slots vec.new).items) }
 {
     let mut splice = vec.splice(start..end, replacement);
     let (first, last) = one_from_each_end(&mut splice);

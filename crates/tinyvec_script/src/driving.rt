@@ -3,7 +3,8 @@ ghost use Rattle.std.specs.Prelude.{◌≡◌, ◌+◌, ◌<◌, ◌≤◌, ◌�
 ghost use Rattle.std.specs.Iterator.Adapters.{fuse_steps};
 ghost use Rattle.std.specs.Vec.Iter.{into_iter_items, into_iter_steps, into_iter_steps_back};
 ghost use Rattle.tinyvec_slots.specs.Ends.{RunsWord, given_items};
-ghost use Rattle.tinyvec_array.specs.ArrayVec.{view_of, items_of, slots_of, len_of};
+ghost use Rattle.tinyvec_array.specs.ArrayVec.{view_of, slots_of};
+ghost use Rattle.tinyvec_array.specs.View.{view as slots_view};
 ghost use Rattle.tinyvec_slots.specs.Slots.{items_in, SlotRule};
 ghost use Rattle.tinyvec_slots.specs.Fused.{fused_rest};
 ghost use Rattle.tinyvec_slots.specs.Splice.{splice_left, SpliceCanStep, SpliceSteps, SpliceStepsBack};
@@ -65,12 +66,12 @@ pub fn drive_array_splice<A: Array>(
     word: &[End],
 ) -> Result<Driven<A::Item>, NoMemory<Vec<A::Item>>>
     requires start_le_end { start ≤ end }
-    requires in_bounds { end ≤ len_of A.Slots vec.old }
+    requires in_bounds { end ≤ length (slots_view A.Slots vec.old).items }
     ensures splices { IfOk result (λ driven. DrivenSplices items_in (SlotRule A.Item.is_default)
         (length (slots_of A.Slots vec.old)) (view_of A.Slots vec.old) start end word.now replacement.items
         driven.yields.items driven.rest.items (view_of A.Slots vec.new)) }
-    ensures computed { IfOk result (λ driven. SpliceComputes (length (slots_of A.Slots vec.old)) (items_of A.Slots vec.old)
-        start end word.now replacement.items driven.yields.items driven.rest.items (items_of A.Slots vec.new)) }
+    ensures computed { IfOk result (λ driven. SpliceComputes (length (slots_of A.Slots vec.old)) (slots_view A.Slots vec.old).items
+        start end word.now replacement.items driven.yields.items driven.rest.items (slots_view A.Slots vec.new).items) }
     ensures refused { IfErr result (λ refused. (refused.0 ≡ replacement) × (vec.new ≡ vec.old)
         × (start < end + vec_len replacement)) }
 {

@@ -6,7 +6,8 @@ ghost use Rattle.tinyvec.specs.View.{BecomesIn, Reserved, Exact, place_for};
 ghost use Rattle.tinyvec.specs.Room.{MovesToHeap};
 ghost use Rattle.std.specs.Box.{boxed_slice_items};
 ghost use Rattle.tinyvec_slots.specs.Slots.{AreDefaults};
-ghost use Rattle.tinyvec_array.specs.ArrayVec.{items_of, spare_of, slots_of};
+ghost use Rattle.tinyvec_array.specs.ArrayVec.{slots_of};
+ghost use Rattle.tinyvec_array.specs.View.{view as slots_view};
 
 use crate::TinyVec;
 use std::alloc::AllocError;
@@ -111,8 +112,8 @@ impl<A: Array> TinyVec<A> {
     // Moves the items of `heap` into an array.
     fn to_inline(heap: &mut Vec<A::Item>) -> ArrayVec<A>
         requires { vec_len heap.old ≤ A.CAPACITY }
-        ensures items { items_of A.Slots result ≡ heap.old.items }
-        ensures spare { AreDefaults A.Item.is_default (A.CAPACITY - vec_len heap.old) (spare_of A.Slots result) }
+        ensures items { (slots_view A.Slots result).items ≡ heap.old.items }
+        ensures spare { AreDefaults A.Item.is_default (A.CAPACITY - vec_len heap.old) (slots_view A.Slots result).spare }
         ensures slots { length (slots_of A.Slots result) ≡ A.CAPACITY }
     {
         let mut v = ArrayVec::new();

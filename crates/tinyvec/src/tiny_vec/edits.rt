@@ -1,6 +1,6 @@
 //! Items that are pushed, popped, inserted, removed and cut off.
 ghost use Rattle.std.specs.Prelude.{IsTrue, length, ◌==◌};
-ghost use Rattle.tinyvec_array.specs.ArrayVec.{spare_of};
+ghost use Rattle.tinyvec_array.specs.View.{view as slots_view};
 ghost use Rattle.std.specs.Prelude.{◌≡◌, ◌+◌, ◌-◌, ◌<◌, ◌↔◌, [], ◌∷◌, ◌++◌, take, drop, slice_get, IsSome, IfSome, IsOk};
 ghost use Rattle.std.specs.Prelude.{OnOk, OnErr, IfErr, ◌≤◌, if◌then◌else◌, is_ok, insert, remove, slice_index_or, vec_len};
 ghost use Rattle.std.specs.Prelude.{vec_capacity, IfOk, IfNone};
@@ -247,7 +247,7 @@ impl<A: Array> TinyVec<A> {
 // `is_full` of an array. A loop of pushes of small items is faster by `<` than by `==`.
 #[inline(always)]
 fn is_full<A: Array>(v: &ArrayVec<A>) -> bool
-    ensures value { result ≡ (length (spare_of A.Slots v.now) == 0) }
+    ensures value { result ≡ (length (slots_view A.Slots v.now).spare == 0) }
 {
     let slots = v.as_inner().as_slice();
     if slots.len() * mem::size_of::<A::Item>() / 16 > slots.len() {

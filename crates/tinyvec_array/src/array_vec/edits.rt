@@ -1,6 +1,6 @@
 //! Items that are pushed, popped, inserted, removed and cut off.
 ghost use Rattle.std.specs.Prelude.{◌≡◌, ◌+◌, ◌-◌, ◌<◌, ◌↔◌, [], ◌∷◌, ◌++◌, length, take, drop, slice_get, slice_index_or, IsSome, IfNone, IfSome, ◌≤◌, remove, insert};
-ghost use Rattle.tinyvec_array.specs.ArrayVec.{items_of, spare_of, slots_of, len_of, SameLender};
+ghost use Rattle.tinyvec_array.specs.ArrayVec.{slots_of, SameLender};
 ghost use Rattle.tinyvec_array.specs.View.{view, Becomes, NothingVacated};
 ghost use Rattle.tinyvec_slots.specs.Ranges.{Within};
 ghost use Rattle.std.specs.Borrow.{sem};
@@ -18,9 +18,9 @@ use tinyvec_slots::authors::{remove_shifting, replace_within};
 impl<S: Slots> ArrayVec<S> {
     /// Appends `value`.
     pub fn push(&mut self, value: S::Item)
-        requires { 0 < length (spare_of S.Slots self.old) }
+        requires { 0 < length (view S.Slots self.old).spare }
         ensures { Becomes NothingVacated (view S.Slots self.old) (view S.Slots self.new)
-            (items_of S.Slots self.old ++ value ∷ []) }
+            ((view S.Slots self.old).items ++ value ∷ []) }
     {
         let len = self.len();
         let at = bounded_index(len, self.slots.most());
@@ -30,10 +30,10 @@ impl<S: Slots> ArrayVec<S> {
 
     /// Appends `value`, or returns it if the vector is full.
     pub fn try_push(&mut self, value: S::Item) -> Option<S::Item>
-        ensures variant { IsSome result ↔ (length (spare_of S.Slots self.old) ≡ 0) }
+        ensures variant { IsSome result ↔ (length (view S.Slots self.old).spare ≡ 0) }
         ensures refused { IfSome result (λ y. (y ≡ value) × (self.new ≡ self.old)) }
         ensures becomes { IfNone result (Becomes NothingVacated (view S.Slots self.old) (view S.Slots self.new)
-            (items_of S.Slots self.old ++ value ∷ [])) }
+            ((view S.Slots self.old).items ++ value ∷ [])) }
     {
         if self.is_full() {
             return Some(value);
@@ -46,7 +46,7 @@ impl<S: Slots> ArrayVec<S> {
 
     /// Appends `value`, and returns it for writing.
     pub fn push_mut(&mut self, value: S::Item) -> &mut S::Item
-        requires { 0 < length (spare_of S.Slots self.old) }
+        requires { 0 < length (view S.Slots self.old).spare }
         ensures* writes_back { sem 𝓛 (lends_pushed S.row S.Len.row S.Item.row S.Slots self.entry result) }
         ensures value { result.now ≡ value }
     {
@@ -59,21 +59,21 @@ impl<S: Slots> ArrayVec<S> {
 
     /// Inserts `element` at `index`, and moves the later items up.
     pub fn insert(&mut self, index: usize, element: S::Item)
-        requires in_list { index ≤ len_of S.Slots self.old }
-        requires room { 0 < length (spare_of S.Slots self.old) }
+        requires in_list { index ≤ length (view S.Slots self.old).items }
+        requires room { 0 < length (view S.Slots self.old).spare }
         ensures { Becomes NothingVacated (view S.Slots self.old) (view S.Slots self.new)
-            (insert (items_of S.Slots self.old) index element) }
+            (insert (view S.Slots self.old).items index element) }
     {
         self.put_in(index, element);
     }
 
     /// Inserts `element` at `index`, or returns it if the vector is full.
     pub fn try_insert(&mut self, index: usize, element: S::Item) -> Option<S::Item>
-        requires { index ≤ len_of S.Slots self.old }
-        ensures variant { IsSome result ↔ (length (spare_of S.Slots self.old) ≡ 0) }
+        requires { index ≤ length (view S.Slots self.old).items }
+        ensures variant { IsSome result ↔ (length (view S.Slots self.old).spare ≡ 0) }
         ensures refused { IfSome result (λ y. (y ≡ element) × (self.new ≡ self.old)) }
         ensures becomes { IfNone result (Becomes NothingVacated (view S.Slots self.old) (view S.Slots self.new)
-            (insert (items_of S.Slots self.old) index element)) }
+            (insert (view S.Slots self.old).items index element)) }
     {
         if self.is_full() {
             return Some(element);
@@ -86,8 +86,8 @@ impl<S: Slots> ArrayVec<S> {
 
     /// Inserts `element` at `index`, moves the later items up, and returns the new item for writing.
     pub fn insert_mut(&mut self, index: usize, element: S::Item) -> &mut S::Item
-        requires in_list { index ≤ len_of S.Slots self.old }
-        requires room { 0 < length (spare_of S.Slots self.old) }
+        requires in_list { index ≤ length (view S.Slots self.old).items }
+        requires room { 0 < length (view S.Slots self.old).spare }
         ensures* writes_back { sem 𝓛 (lends_inserted S.row S.Len.row S.Item.row S.Slots self.entry index result) }
         ensures value { result.now ≡ element }
     {
@@ -97,8 +97,8 @@ impl<S: Slots> ArrayVec<S> {
 
     // Inserts `element` at `index`, by one write of the slots.
     fn put_in(&mut self, index: usize, element: S::Item)
-        requires in_list { index ≤ len_of S.Slots self.old }
-        requires room { 0 < length (spare_of S.Slots self.old) }
+        requires in_list { index ≤ length (view S.Slots self.old).items }
+        requires room { 0 < length (view S.Slots self.old).spare }
         ensures value { self.new ≡ inserted_at S.Slots self.old index element }
         ensures slot_count { S.Slots.Counts (slots_of S.Slots self.old) }
     {
@@ -116,12 +116,12 @@ impl<S: Slots> ArrayVec<S> {
 
     // Swaps the items at `i` and `j`.
     fn swap_items(&mut self, i: usize, j: usize)
-        requires first { i < len_of S.Slots self.old }
-        requires second { j < len_of S.Slots self.old }
+        requires first { i < length (view S.Slots self.old).items }
+        requires second { j < length (view S.Slots self.old).items }
         ensures lender { SameLender S.Slots self.old self.new }
-        ensures swapped { SwappedAt (items_of S.Slots self.old) (items_of S.Slots self.new) i j }
-        ensures len { len_of S.Slots self.new ≡ len_of S.Slots self.old }
-        ensures spare { spare_of S.Slots self.new ≡ spare_of S.Slots self.old }
+        ensures swapped { SwappedAt (view S.Slots self.old).items (view S.Slots self.new).items i j }
+        ensures len { length (view S.Slots self.new).items ≡ length (view S.Slots self.old).items }
+        ensures spare { (view S.Slots self.new).spare ≡ (view S.Slots self.old).spare }
     {
         self.as_mut_slice().swap(i, j);
     }
@@ -134,11 +134,11 @@ where
 {
     /// Removes the last item and returns it. Its slot is reset to a default.
     pub fn pop(&mut self) -> Option<S::Item>
-        ensures variant { IsSome result ↔ (0 < len_of S.Slots self.old) }
+        ensures variant { IsSome result ↔ (0 < length (view S.Slots self.old).items) }
         ensures becomes { Becomes S.Item.is_default (view S.Slots self.old) (view S.Slots self.new)
-            (take (len_of S.Slots self.old - 1) (items_of S.Slots self.old)) }
-        ensures some { IfSome result (λ x. items_of S.Slots self.old ≡ items_of S.Slots self.new ++ x ∷ []) }
-        ensures value { result ≡ slice_get (items_of S.Slots self.old) (len_of S.Slots self.old - 1) }
+            (take (length (view S.Slots self.old).items - 1) (view S.Slots self.old).items) }
+        ensures some { IfSome result (λ x. (view S.Slots self.old).items ≡ (view S.Slots self.new).items ++ x ∷ []) }
+        ensures value { result ≡ slice_get (view S.Slots self.old).items (length (view S.Slots self.old).items - 1) }
         ensures none { IfNone result (self.new ≡ self.old) }
     {
         if self.is_empty() {
@@ -149,11 +149,11 @@ where
 
     // Takes the last item.
     pub(crate) fn take_last(&mut self) -> S::Item
-        requires { 0 < len_of S.Slots self.old }
+        requires { 0 < length (view S.Slots self.old).items }
         ensures becomes { Becomes S.Item.is_default (view S.Slots self.old) (view S.Slots self.new)
-            (take (len_of S.Slots self.old - 1) (items_of S.Slots self.old)) }
-        ensures last { items_of S.Slots self.old ≡ items_of S.Slots self.new ++ result ∷ [] }
-        ensures value { result ≡ slice_index_or (items_of S.Slots self.old) (len_of S.Slots self.old - 1) result }
+            (take (length (view S.Slots self.old).items - 1) (view S.Slots self.old).items) }
+        ensures last { (view S.Slots self.old).items ≡ (view S.Slots self.new).items ++ result ∷ [] }
+        ensures value { result ≡ slice_index_or (view S.Slots self.old).items (length (view S.Slots self.old).items - 1) result }
     {
         let len = self.len();
         let most = self.slots.most();
@@ -167,10 +167,10 @@ where
 
     /// Removes the item at `index` and returns it. The later ones move down.
     pub fn remove(&mut self, index: usize) -> S::Item
-        requires { index < len_of S.Slots self.old }
-        ensures value { result ≡ slice_index_or (items_of S.Slots self.old) index result }
+        requires { index < length (view S.Slots self.old).items }
+        ensures value { result ≡ slice_index_or (view S.Slots self.old).items index result }
         ensures becomes { Becomes S.Item.is_default (view S.Slots self.old) (view S.Slots self.new)
-            (remove (items_of S.Slots self.old) index) }
+            (remove (view S.Slots self.old).items index) }
     {
         let len = self.len();
         if prefers_shifting_in(&self.slots, index, len) {
@@ -185,10 +185,10 @@ where
     /// Removes the item at `index` and returns it, or returns `None` if the list has no such item. The later ones move
     /// down.
     pub fn pop_at(&mut self, index: usize) -> Option<S::Item>
-        ensures variant { IsSome result ↔ (index < len_of S.Slots self.old) }
-        ensures value { result ≡ slice_get (items_of S.Slots self.old) index }
+        ensures variant { IsSome result ↔ (index < length (view S.Slots self.old).items) }
+        ensures value { result ≡ slice_get (view S.Slots self.old).items index }
         ensures becomes { Becomes S.Item.is_default (view S.Slots self.old) (view S.Slots self.new)
-            (remove (items_of S.Slots self.old) index) }
+            (remove (view S.Slots self.old).items index) }
         ensures none { IfNone result (self.new ≡ self.old) }
     {
         if index >= self.len() {
@@ -199,10 +199,10 @@ where
 
     /// Removes the item at `index` and returns it. The last one takes its place.
     pub fn swap_remove(&mut self, index: usize) -> S::Item
-        requires { index < len_of S.Slots self.old }
-        ensures value { result ≡ slice_index_or (items_of S.Slots self.old) index result }
+        requires { index < length (view S.Slots self.old).items }
+        ensures value { result ≡ slice_index_or (view S.Slots self.old).items index result }
         ensures becomes { Becomes S.Item.is_default (view S.Slots self.old) (view S.Slots self.new)
-            (swap_remove (items_of S.Slots self.old) index result) }
+            (swap_remove (view S.Slots self.old).items index result) }
     {
         let last = self.len() - 1;
         self.swap_items(index, last);
@@ -212,7 +212,7 @@ where
     /// Keeps the first `new_len` items, or all if there are no more. Each vacated slot is reset to a default.
     pub fn truncate(&mut self, new_len: usize)
         ensures { Becomes S.Item.is_default (view S.Slots self.old) (view S.Slots self.new)
-            (take new_len (items_of S.Slots self.old)) }
+            (take new_len (view S.Slots self.old).items) }
     {
         let len = self.len();
         if new_len < len {
@@ -234,10 +234,10 @@ where
     pub(crate) fn replace_fitting(&mut self, start: usize, end: usize, new: &[S::Item])
     where
         S::Item: Copy,
-        requires in_list { Within start end (len_of S.Slots self.old) }
-        requires room { len_of S.Slots self.old - (end - start) + length new.now ≤ length (slots_of S.Slots self.old) }
+        requires in_list { Within start end (length (view S.Slots self.old).items) }
+        requires room { length (view S.Slots self.old).items - (end - start) + length new.now ≤ length (slots_of S.Slots self.old) }
         ensures { Becomes S.Item.is_default (view S.Slots self.old) (view S.Slots self.new)
-            (take start (items_of S.Slots self.old) ++ new.now ++ drop end (items_of S.Slots self.old)) }
+            (take start (view S.Slots self.old).items ++ new.now ++ drop end (view S.Slots self.old).items) }
     {
         let len = self.len();
         let new_len = len - (end - start) + new.len();

@@ -1,7 +1,7 @@
 //! Growing by other lists, by clones, by iterators and by closures.
 ghost use Rattle.std.specs.Prelude.{◌≡◌, ◌+◌, ◌≤◌, ◌++◌, length, take, drop, IsOk, OnOk, OnErr, [], ◌-◌, ◌∷◌, List, IfErr, Some, ◌<◌, ◌↔◌, ℕ, All, Err, reverse, IsSome, IfSome, IfNone, IfOk, MatchResult};
 ghost use Rattle.tinyvec_slots.specs.Clones.{AddsClones, AppendsAllOrNone, ClonesOver, RefusedAt, ResizesByClones, CutsToClones};
-ghost use Rattle.tinyvec_array.specs.ArrayVec.{items_of, spare_of, len_of, slots_of, view_of, SameLender};
+ghost use Rattle.tinyvec_array.specs.ArrayVec.{slots_of, view_of, SameLender};
 ghost use Rattle.tinyvec_array.specs.View.{view, Becomes, StaysInPlace, NothingVacated};
 ghost use Rattle.tinyvec_slots.specs.Ranges.{IsRangeOf, items_within};
 ghost use Rattle.tinyvec_slots.specs.Filling.{Fills, Extends, AppendsResultsTo};
@@ -20,7 +20,7 @@ impl<S: TakesClones> ArrayVec<S> {
     pub fn extend_from_slice(&mut self, other: &[S::Item]) -> Result<(), AllocError>
     where
         S::Item: Clone,
-        requires room { length other.now ≤ length (spare_of S.Slots self.old) }
+        requires room { length other.now ≤ length (view S.Slots self.old).spare }
         ensures lender { SameLender S.Slots self.old self.new }
         ensures clones { AddsClones S.Item.Clone other.now result (view_of S.Slots self.old) (view_of S.Slots self.new) }
     {
@@ -37,17 +37,17 @@ impl<S: TakesClones> ArrayVec<S> {
         S::Item: Clone,
         ensures lender { SameLender S.Slots self.old self.new }
         ensures too_long { (result ≡ Err TryFromSliceError.TooLong) ↔
-            (length (spare_of S.Slots self.old) < length other.now) }
+            (length (view S.Slots self.old).spare < length other.now) }
         ensures unchanged { result ≡ Err TryFromSliceError.TooLong → self.new ≡ self.old }
-        ensures clones { AppendsAllOrNone S.Item.is_clone other.now result (items_of S.Slots self.old)
-            (items_of S.Slots self.new) }
-        ensures spare { OnOk result (spare_of S.Slots self.new ≡ drop (length other.now) (spare_of S.Slots self.old)) }
+        ensures clones { AppendsAllOrNone S.Item.is_clone other.now result (view S.Slots self.old).items
+            (view S.Slots self.new).items }
+        ensures spare { OnOk result ((view S.Slots self.new).spare ≡ drop (length other.now) (view S.Slots self.old).spare) }
 
         // The first `j` spare slots hold the clones made.
         ensures memory { result ≡ Err TryFromSliceError.Memory → (j : ℕ)
             × RefusedAt S.Item.is_infallible other.now j
-            × ClonesOver S.Item.is_clone (take j other.now) j (spare_of S.Slots self.old) (spare_of S.Slots self.new) }
-        ensures succeeds { length other.now ≤ length (spare_of S.Slots self.old)
+            × ClonesOver S.Item.is_clone (take j other.now) j (view S.Slots self.old).spare (view S.Slots self.new).spare }
+        ensures succeeds { length other.now ≤ length (view S.Slots self.old).spare
             → All S.Item.is_infallible other.now → IsOk result }
     {
         if other.len() > self.remaining_capacity() {
@@ -66,9 +66,9 @@ impl<S: Slots> ArrayVec<S> {
     pub fn extend_from_slice_copy(&mut self, other: &[S::Item])
     where
         S::Item: Copy,
-        requires room { length other.now ≤ length (spare_of S.Slots self.old) }
+        requires room { length other.now ≤ length (view S.Slots self.old).spare }
         ensures { Becomes NothingVacated (view S.Slots self.old) (view S.Slots self.new)
-            (items_of S.Slots self.old ++ other.now) }
+            ((view S.Slots self.old).items ++ other.now) }
     {
         let len = self.len();
         let end = len + other.len();
@@ -83,12 +83,12 @@ impl<S: Slots> ArrayVec<S> {
     where
         S::Item: Clone,
         requires not_exhausted { R.has_bounds range }
-        requires in_list { IsRangeOf (items_of S.Slots self.old) (R.start_bound range) (R.end_bound range) }
-        requires room { length (items_within (items_of S.Slots self.old) (R.start_bound range) (R.end_bound range))
-            ≤ length (spare_of S.Slots self.old) }
+        requires in_list { IsRangeOf (view S.Slots self.old).items (R.start_bound range) (R.end_bound range) }
+        requires room { length (items_within (view S.Slots self.old).items (R.start_bound range) (R.end_bound range))
+            ≤ length (view S.Slots self.old).spare }
         ensures lender { SameLender S.Slots self.old self.new }
         ensures clones { AddsClones S.Item.Clone
-            (items_within (items_of S.Slots self.old) (R.start_bound range) (R.end_bound range)) result
+            (items_within (view S.Slots self.old).items (R.start_bound range) (R.end_bound range)) result
             (view_of S.Slots self.old) (view_of S.Slots self.new) }
     {
         let len = self.len();
@@ -102,12 +102,12 @@ impl<S: Slots> ArrayVec<S> {
     /// called on a full vector, so `iter` may be infinite.
     pub fn fill<I: IntoIterator<Item = S::Item>>(&mut self, iter: I) -> I::IntoIter
         requires { (it : I.IntoIter) → I.into_iter_gives iter it → I.IntoIter.can_next it }
-        ensures items { Fills I.into_iter_gives I.IntoIter.next_gives iter (length (spare_of S.Slots self.old))
-            (λ xs. items_of S.Slots self.new ≡ items_of S.Slots self.old ++ xs) result }
+        ensures items { Fills I.into_iter_gives I.IntoIter.next_gives iter (length (view S.Slots self.old).spare)
+            (λ xs. (view S.Slots self.new).items ≡ (view S.Slots self.old).items ++ xs) result }
         ensures grows { StaysInPlace NothingVacated (view S.Slots self.old) (view S.Slots self.new) }
 
         // An iterator that stopped at a full vector can be iterated further.
-        ensures goes_on { length (spare_of S.Slots self.new) ≡ 0 → I.IntoIter.can_next result }
+        ensures goes_on { length (view S.Slots self.new).spare ≡ 0 → I.IntoIter.can_next result }
     {
         put_until_full(self, iter.into_iter())
     }
@@ -119,9 +119,9 @@ impl<S: Slots> ArrayVec<S> {
         iter: I,
     ) -> Result<(), NoRoom<S::Item, I::IntoIter>>
         requires { (it : I.IntoIter) → I.into_iter_gives iter it → I.IntoIter.can_next it }
-        ensures items { Extends I.into_iter_gives I.IntoIter.next_gives iter (length (spare_of S.Slots self.old))
-            (λ xs. items_of S.Slots self.new ≡ items_of S.Slots self.old ++ xs) result }
-        ensures full { OnErr result (spare_of S.Slots self.new ≡ []) }
+        ensures items { Extends I.into_iter_gives I.IntoIter.next_gives iter (length (view S.Slots self.old).spare)
+            (λ xs. (view S.Slots self.new).items ≡ (view S.Slots self.old).items ++ xs) result }
+        ensures full { OnErr result ((view S.Slots self.new).spare ≡ []) }
         ensures grows { StaysInPlace NothingVacated (view S.Slots self.old) (view S.Slots self.new) }
 
         // The returned iterator can be iterated further.
@@ -147,10 +147,10 @@ impl<S: Slots> ArrayVec<S> {
         S::Item: Clone,
         requires room { new_len ≤ length (slots_of S.Slots self.old) }
         ensures lender { SameLender S.Slots self.old self.new }
-        ensures len { OnOk result (len_of S.Slots self.new ≡ new_len) }
-        ensures grown { len_of S.Slots self.old < new_len
+        ensures len { OnOk result (length (view S.Slots self.new).items ≡ new_len) }
+        ensures grown { length (view S.Slots self.old).items < new_len
             → ResizesByClones S.Item.Clone new_len value result (view_of S.Slots self.old) (view_of S.Slots self.new) }
-        ensures cut { new_len ≤ len_of S.Slots self.old
+        ensures cut { new_len ≤ length (view S.Slots self.old).items
             → CutsToClones S.Item.Clone new_len value result (view_of S.Slots self.old) (view_of S.Slots self.new) }
         ensures value_returned { IfErr result (λ refused. refused.0 ≡ value) }
         ensures succeeds { S.Item.is_infallible value → IsOk result }
@@ -172,7 +172,7 @@ impl<S: Slots> ArrayVec<S> {
     pub(crate) fn grow_by_clones(&mut self, n: usize, x: &S::Item) -> Result<(), AllocError>
     where
         S::Item: Clone,
-        requires longer { len_of S.Slots self.old ≤ n }
+        requires longer { length (view S.Slots self.old).items ≤ n }
         requires in_bounds { n ≤ length (slots_of S.Slots self.old) }
         ensures lender { SameLender S.Slots self.old self.new }
         ensures grown { ResizesByClones S.Item.Clone n x.now result (view_of S.Slots self.old) (view_of S.Slots self.new) }
@@ -184,7 +184,7 @@ impl<S: Slots> ArrayVec<S> {
     fn cut_to_clones(&mut self, n: usize, x: &S::Item) -> Result<(), AllocError>
     where
         S::Item: Clone,
-        requires shorter { n ≤ len_of S.Slots self.old }
+        requires shorter { n ≤ length (view S.Slots self.old).items }
         ensures lender { SameLender S.Slots self.old self.new }
         ensures cut { CutsToClones S.Item.Clone n x.now result (view_of S.Slots self.old) (view_of S.Slots self.new) }
     {
@@ -200,13 +200,13 @@ impl<S: Slots> ArrayVec<S> {
         requires room { n ≤ length (slots_of S.Slots self.old) }
         requires callable { F.IsAlwaysCallable f.old }
         ensures lender { SameLender S.Slots self.old self.new }
-        ensures len { len_of S.Slots self.new ≡ n }
-        ensures grown { len_of S.Slots self.old ≤ n
-            → AppendsResultsTo F.step (items_of S.Slots self.old) (items_of S.Slots self.new) f.old f.new
-            × (spare_of S.Slots self.new ≡ drop (n - len_of S.Slots self.old) (spare_of S.Slots self.old)) }
-        ensures cut { n ≤ len_of S.Slots self.old → (items_of S.Slots self.new ≡ take n (items_of S.Slots self.old))
-            × ((ys : List S.Item) × AppendsResultsTo F.step [] ys f.old f.new × (length ys ≡ len_of S.Slots self.old - n)
-            × (spare_of S.Slots self.new ≡ reverse ys ++ spare_of S.Slots self.old)) }
+        ensures len { length (view S.Slots self.new).items ≡ n }
+        ensures grown { length (view S.Slots self.old).items ≤ n
+            → AppendsResultsTo F.step (view S.Slots self.old).items (view S.Slots self.new).items f.old f.new
+            × ((view S.Slots self.new).spare ≡ drop (n - length (view S.Slots self.old).items) (view S.Slots self.old).spare) }
+        ensures cut { n ≤ length (view S.Slots self.old).items → ((view S.Slots self.new).items ≡ take n (view S.Slots self.old).items)
+            × ((ys : List S.Item) × AppendsResultsTo F.step [] ys f.old f.new × (length ys ≡ length (view S.Slots self.old).items - n)
+            × ((view S.Slots self.new).spare ≡ reverse ys ++ (view S.Slots self.old).spare)) }
     {
         if n <= self.len() {
             self.cut_to_answers(n, f);
@@ -217,26 +217,26 @@ impl<S: Slots> ArrayVec<S> {
 
     // Fills the list up to `n` items with what `f` returns.
     pub(crate) fn grow_by_answers<F: FnMut() -> S::Item>(&mut self, n: usize, f: &mut F)
-        requires longer { len_of S.Slots self.old ≤ n }
+        requires longer { length (view S.Slots self.old).items ≤ n }
         requires room { n ≤ length (slots_of S.Slots self.old) }
         requires callable { F.IsAlwaysCallable f.old }
         ensures lender { SameLender S.Slots self.old self.new }
-        ensures len { len_of S.Slots self.new ≡ n }
-        ensures items { AppendsResultsTo F.step (items_of S.Slots self.old) (items_of S.Slots self.new) f.old f.new }
-        ensures spare { spare_of S.Slots self.new ≡ drop (n - len_of S.Slots self.old) (spare_of S.Slots self.old) }
+        ensures len { length (view S.Slots self.new).items ≡ n }
+        ensures items { AppendsResultsTo F.step (view S.Slots self.old).items (view S.Slots self.new).items f.old f.new }
+        ensures spare { (view S.Slots self.new).spare ≡ drop (n - length (view S.Slots self.old).items) (view S.Slots self.old).spare }
     {
         put_answers(self, n, f);
     }
 
     // Truncates to `n` items, and fills the emptied slots with what `f` returns, the last slot first.
     fn cut_to_answers<F: FnMut() -> S::Item>(&mut self, n: usize, f: &mut F)
-        requires shorter { n ≤ len_of S.Slots self.old }
+        requires shorter { n ≤ length (view S.Slots self.old).items }
         requires callable { F.IsAlwaysCallable f.old }
         ensures lender { SameLender S.Slots self.old self.new }
-        ensures items { items_of S.Slots self.new ≡ take n (items_of S.Slots self.old) }
+        ensures items { (view S.Slots self.new).items ≡ take n (view S.Slots self.old).items }
         ensures spare { (ys : List S.Item) × AppendsResultsTo F.step [] ys f.old f.new
-            × (length ys ≡ len_of S.Slots self.old - n)
-            × (spare_of S.Slots self.new ≡ reverse ys ++ spare_of S.Slots self.old) }
+            × (length ys ≡ length (view S.Slots self.old).items - n)
+            × ((view S.Slots self.new).spare ≡ reverse ys ++ (view S.Slots self.old).spare) }
     {
         while self.len() > n {
             self.replace_last(f());
@@ -245,10 +245,10 @@ impl<S: Slots> ArrayVec<S> {
 
     // Cuts off the last item, and leaves `x` in its slot.
     fn replace_last(&mut self, x: S::Item)
-        requires { 0 < len_of S.Slots self.old }
+        requires { 0 < length (view S.Slots self.old).items }
         ensures lender { SameLender S.Slots self.old self.new }
-        ensures items { items_of S.Slots self.new ≡ take (len_of S.Slots self.old - 1) (items_of S.Slots self.old) }
-        ensures spare { spare_of S.Slots self.new ≡ x ∷ spare_of S.Slots self.old }
+        ensures items { (view S.Slots self.new).items ≡ take (length (view S.Slots self.old).items - 1) (view S.Slots self.old).items }
+        ensures spare { (view S.Slots self.new).spare ≡ x ∷ (view S.Slots self.old).spare }
     {
         let last = self.len() - 1;
         self.slots.as_slice_mut()[last] = x;
@@ -263,9 +263,9 @@ where
 {
     /// Moves the items of `other` to the end, and leaves `other` empty. Each item moves once.
     pub fn append(&mut self, other: &mut Self)
-        requires { len_of S.Slots other.old ≤ length (spare_of S.Slots self.old) }
+        requires { length (view S.Slots other.old).items ≤ length (view S.Slots self.old).spare }
         ensures becomes { Becomes NothingVacated (view S.Slots self.old) (view S.Slots self.new)
-            (items_of S.Slots self.old ++ items_of S.Slots other.old) }
+            ((view S.Slots self.old).items ++ (view S.Slots other.old).items) }
         ensures emptied { Becomes S.Item.is_default (view S.Slots other.old) (view S.Slots other.new) [] }
     {
         put_taken(self, other.as_mut_slice());
@@ -275,9 +275,9 @@ where
     /// `append` if the items fit; otherwise nothing changes. Returns `other` either way: emptied in `Ok`, as it was
     /// in `Err`.
     pub fn append_if_fits<'o>(&mut self, other: &'o mut Self) -> Result<&'o mut Self, &'o mut Self>
-        ensures variant { IsOk result ↔ (len_of S.Slots other.old ≤ length (spare_of S.Slots self.old)) }
+        ensures variant { IsOk result ↔ (length (view S.Slots other.old).items ≤ length (view S.Slots self.old).spare) }
         ensures becomes { OnOk result (Becomes NothingVacated (view S.Slots self.old) (view S.Slots self.new)
-            (items_of S.Slots self.old ++ items_of S.Slots other.old)) }
+            ((view S.Slots self.old).items ++ (view S.Slots other.old).items)) }
         ensures emptied { IfOk result (λ emptied. Becomes S.Item.is_default (view S.Slots other.old)
             (view S.Slots emptied.now) []) }
         ensures refused { IfErr result (λ back. (self.new ≡ self.old) × (back.now ≡ other.old)) }
@@ -296,11 +296,11 @@ where
     // A reference that may be in the result has no value after the call, so no clause can say that `other` is empty at
     // `None`.
     pub fn try_append<'o>(&mut self, other: &'o mut Self) -> Option<&'o mut Self>
-        ensures variant { IsSome result ↔ (length (spare_of S.Slots self.old) < len_of S.Slots other.old) }
+        ensures variant { IsSome result ↔ (length (view S.Slots self.old).spare < length (view S.Slots other.old).items) }
         ensures refused { IfSome result (λ back. (back.now ≡ other.old) × (self.new ≡ self.old)) }
         ensures same_reference { IfSome result (λ back. back.ghost_name ≡ other.entry.ghost_name) }
         ensures becomes { IfNone result (Becomes NothingVacated (view S.Slots self.old) (view S.Slots self.new)
-            (items_of S.Slots self.old ++ items_of S.Slots other.old)) }
+            ((view S.Slots self.old).items ++ (view S.Slots other.old).items)) }
     {
         match self.append_if_fits(other) {
             Ok(_emptied) => None,

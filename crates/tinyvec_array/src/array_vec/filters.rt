@@ -1,11 +1,10 @@
 //! Keeping some of the items. The loops are in `tinyvec_slots`, over `CanCut`, implemented in `can_cut.rt`.
-ghost use Rattle.std.specs.Prelude.{◌≡◌, ◌-◌, slice_get, Some};
+ghost use Rattle.std.specs.Prelude.{◌≡◌, ◌-◌, slice_get, Some, length};
 ghost use Rattle.std.specs.Fn.{FnOnceTakesAtMut, CalledAt, CalledAtMut, CalledAtPairMut, ComparesKeys};
 ghost use Rattle.std.specs.List.{dedup as dedup_list};
 ghost use Rattle.std.specs.List.Retain.{IsFiltered, RetainsInTurn, IsDeduped, PopsIf};
 ghost use Rattle.tinyvec_slots.specs.Ranges.{range_start, range_end, IsRangeOf};
 ghost use Rattle.tinyvec_slots.specs.Extracting.{Extracts};
-ghost use Rattle.tinyvec_array.specs.ArrayVec.{items_of, len_of};
 ghost use Rattle.tinyvec_array.specs.View.{view, ShortensInPlace};
 ghost use Rattle.tinyvec_array.specs.CutLaws.{CutOf};
 
@@ -22,7 +21,7 @@ where
     /// vacated slots precede the old spare slots.
     pub fn retain<F: FnMut(&S::Item) -> bool>(&mut self, mut f: F)
         requires { F.IsAlwaysCallable f }
-        ensures filtered { IsFiltered (CalledAt F.FnMut) f (items_of S.Slots self.old) (items_of S.Slots self.new) }
+        ensures filtered { IsFiltered (CalledAt F.FnMut) f (view S.Slots self.old).items (view S.Slots self.new).items }
         ensures shorter { ShortensInPlace S.Item.is_default (view S.Slots self.old) (view S.Slots self.new) }
     {
         tinyvec_slots::authors::retain(self, &mut f);
@@ -32,7 +31,7 @@ where
     /// at most once. The vacated slots precede the old spare slots.
     pub fn retain_mut<F: FnMut(&mut S::Item) -> bool>(&mut self, mut f: F)
         requires { F.IsAlwaysCallable f }
-        ensures filtered { RetainsInTurn (CalledAtMut F.FnMut) f (items_of S.Slots self.old) (items_of S.Slots self.new) }
+        ensures filtered { RetainsInTurn (CalledAtMut F.FnMut) f (view S.Slots self.old).items (view S.Slots self.new).items }
         ensures shorter { ShortensInPlace S.Item.is_default (view S.Slots self.old) (view S.Slots self.new) }
     {
         tinyvec_slots::authors::retain_mut(self, &mut f);
@@ -42,7 +41,7 @@ where
     pub fn dedup(&mut self)
     where
         S::Item: PartialEq,
-        ensures items { items_of S.Slots self.new ≡ dedup_list S.Item.eq (items_of S.Slots self.old) }
+        ensures items { (view S.Slots self.new).items ≡ dedup_list S.Item.eq (view S.Slots self.old).items }
         ensures shorter { ShortensInPlace S.Item.is_default (view S.Slots self.old) (view S.Slots self.new) }
     {
         self.dedup_by(|current, last| *current == *last);
@@ -52,8 +51,8 @@ where
     /// `true`. A kept item is moved at most once.
     pub fn dedup_by<F: FnMut(&mut S::Item, &mut S::Item) -> bool>(&mut self, mut same: F)
         requires { F.IsAlwaysCallable same }
-        ensures filtered { IsDeduped (CalledAtPairMut F.FnMut) same (items_of S.Slots self.old)
-            (items_of S.Slots self.new) }
+        ensures filtered { IsDeduped (CalledAtPairMut F.FnMut) same (view S.Slots self.old).items
+            (view S.Slots self.new).items }
         ensures shorter { ShortensInPlace S.Item.is_default (view S.Slots self.old) (view S.Slots self.new) }
     {
         tinyvec_slots::authors::dedup_by(self, &mut same);
@@ -63,8 +62,8 @@ where
     /// moved at most once.
     pub fn dedup_by_key<K: PartialEq + Drop, F: FnMut(&mut S::Item) -> K>(&mut self, mut key: F)
         requires { F.IsAlwaysCallable key }
-        ensures filtered { IsDeduped (ComparesKeys F.FnMut K.eq) key (items_of S.Slots self.old)
-            (items_of S.Slots self.new) }
+        ensures filtered { IsDeduped (ComparesKeys F.FnMut K.eq) key (view S.Slots self.old).items
+            (view S.Slots self.new).items }
         ensures shorter { ShortensInPlace S.Item.is_default (view S.Slots self.old) (view S.Slots self.new) }
     {
         tinyvec_slots::authors::dedup_by_key(self, &mut key);
@@ -73,9 +72,9 @@ where
     /// Calls `predicate` on the last item, and removes and returns the item if it returns `true`. Otherwise the item
     /// stays, as `predicate` left it. Calls nothing if the list is empty.
     pub fn pop_if<F: FnOnce(&mut S::Item) -> bool>(&mut self, predicate: F) -> Option<S::Item>
-        requires { (x : S.Item) → slice_get (items_of S.Slots self.old) (len_of S.Slots self.old - 1) ≡ Some x
+        requires { (x : S.Item) → slice_get (view S.Slots self.old).items (length (view S.Slots self.old).items - 1) ≡ Some x
             → FnOnceTakesAtMut F.FnOnce predicate x }
-        ensures popped { PopsIf F.FnOnce (items_of S.Slots self.old) (items_of S.Slots self.new) predicate result }
+        ensures popped { PopsIf F.FnOnce (view S.Slots self.old).items (view S.Slots self.new).items predicate result }
         ensures shorter { ShortensInPlace S.Item.is_default (view S.Slots self.old) (view S.Slots self.new) }
     {
         tinyvec_slots::authors::pop_if(self, predicate)
@@ -93,9 +92,9 @@ where
         pred: F,
     ) -> ExtractIf<'_, ArrayVec<S>, F>
         requires not_exhausted { R.has_bounds range }
-        requires in_list { IsRangeOf (items_of S.Slots self.old) (R.start_bound range) (R.end_bound range) }
-        ensures { Extracts (items_of S.Slots) (CutOf S.Slots S.Item.is_default) F.FnMut self.entry
-            (range_start (R.start_bound range)) (range_end (R.end_bound range) (len_of S.Slots self.old)) pred result }
+        requires in_list { IsRangeOf (view S.Slots self.old).items (R.start_bound range) (R.end_bound range) }
+        ensures { Extracts (λ v. (view S.Slots v).items) (CutOf S.Slots S.Item.is_default) F.FnMut self.entry
+            (range_start (R.start_bound range)) (range_end (R.end_bound range) (length (view S.Slots self.old).items)) pred result }
     {
         let part = resolve_range(range, self.len());
         tinyvec_slots::authors::extract_if(self, part.start, part.end, pred)

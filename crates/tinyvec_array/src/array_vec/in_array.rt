@@ -5,7 +5,7 @@ ghost use Rattle.std.specs.List.{AllZip, AppendsResults};
 ghost use Rattle.tinyvec_slots.specs.Slots.{AreDefaults, SlotRule, split_at};
 ghost use Rattle.tinyvec_slots.specs.Clones.{RefusedAt, ClonesAreEqual, AreClones, ClonesInPart, ResizesByClones};
 ghost use Rattle.tinyvec_slots.specs.Filling.{Collects};
-ghost use Rattle.tinyvec_array.specs.ArrayVec.{view_of, items_of, spare_of, slots_of, len_of, SameLender};
+ghost use Rattle.tinyvec_array.specs.ArrayVec.{view_of, slots_of, SameLender};
 ghost use Rattle.tinyvec_array.specs.View.{view, Becomes};
 
 use crate::parts::part_of;
@@ -47,8 +47,8 @@ impl<A: Array> ArrayVec<A> {
     #[inline(always)]
     pub fn new() -> Self
         ensures border { view_of A.Slots result ≡ split_at 0 (slots_of A.Slots result) }
-        ensures items { items_of A.Slots result ≡ [] }
-        ensures spare { AreDefaults A.Item.is_default A.CAPACITY (spare_of A.Slots result) }
+        ensures items { (view A.Slots result).items ≡ [] }
+        ensures spare { AreDefaults A.Item.is_default A.CAPACITY (view A.Slots result).spare }
     {
         Self::from_array_empty(A::default())
     }
@@ -57,8 +57,8 @@ impl<A: Array> ArrayVec<A> {
     #[inline(always)]
     pub fn from_array(array: A) -> Self
         ensures value { view_of A.Slots result ≡ split_at A.CAPACITY (A.Slots.slots array) }
-        ensures items { items_of A.Slots result ≡ A.Slots.slots array }
-        ensures spare { spare_of A.Slots result ≡ [] }
+        ensures items { (view A.Slots result).items ≡ A.Slots.slots array }
+        ensures spare { (view A.Slots result).spare ≡ [] }
     {
         Self::from_array_len(array, A::CAPACITY)
     }
@@ -106,9 +106,9 @@ impl<A: Array> ArrayVec<A> {
     pub fn try_from_slice(slice: &[A::Item]) -> Result<Self, TryFromSliceError>
     where
         A::Item: Clone,
-        ensures items { IfOk result (λ v. AreClones A.Item.is_clone slice.now (items_of A.Slots v)) }
+        ensures items { IfOk result (λ v. AreClones A.Item.is_clone slice.now (view A.Slots v).items) }
         ensures spare { IfOk result
-            (λ v. AreDefaults A.Item.is_default (A.CAPACITY - length slice.now) (spare_of A.Slots v)) }
+            (λ v. AreDefaults A.Item.is_default (A.CAPACITY - length slice.now) (view A.Slots v).spare) }
         ensures too_long { (result ≡ Err TryFromSliceError.TooLong) ↔ (A.CAPACITY < length slice.now) }
         ensures memory { result ≡ Err TryFromSliceError.Memory → (j : ℕ) × RefusedAt A.Item.is_infallible slice.now j }
         ensures succeeds { length slice.now ≤ A.CAPACITY → All A.Item.is_infallible slice.now → IsOk result }
@@ -127,12 +127,12 @@ impl<A: Array> ArrayVec<A> {
     // Inlined, since a call would copy the returned vector once more.
     #[inline(always)]
     pub fn split_off(&mut self, at: usize) -> Self
-        requires { at ≤ len_of A.Slots self.old }
+        requires { at ≤ length (view A.Slots self.old).items }
         ensures becomes { Becomes A.Item.is_default (view A.Slots self.old) (view A.Slots self.new)
-            (take at (items_of A.Slots self.old)) }
-        ensures tail { items_of A.Slots result ≡ drop at (items_of A.Slots self.old) }
-        ensures tail_spare { AreDefaults A.Item.is_default (A.CAPACITY - (len_of A.Slots self.old - at))
-            (spare_of A.Slots result) }
+            (take at (view A.Slots self.old).items) }
+        ensures tail { (view A.Slots result).items ≡ drop at (view A.Slots self.old).items }
+        ensures tail_spare { AreDefaults A.Item.is_default (A.CAPACITY - (length (view A.Slots self.old).items - at))
+            (view A.Slots result).spare }
     {
         let len = self.len();
         let mut back = ArrayVec::new();
@@ -148,12 +148,12 @@ impl<A: Array> ArrayVec<A> {
     ) -> Result<Self, FromIterRest<Self, A::Item, I::IntoIter>>
         requires { (it : I.IntoIter) → I.into_iter_gives iter it → I.IntoIter.can_next it }
         ensures items { Collects I.into_iter_gives I.IntoIter.next_gives iter A.CAPACITY
-            (λ v xs. items_of A.Slots v ≡ xs) result }
-        ensures full { IfErr result (λ refused. (len_of A.Slots refused.vec ≡ A.CAPACITY)
-            × (spare_of A.Slots refused.vec ≡ [])) }
-        ensures spare { IfOk result (λ v. AreDefaults A.Item.is_default (A.CAPACITY - len_of A.Slots v)
-            (spare_of A.Slots v)) }
-        ensures fits { IfOk result (λ v. len_of A.Slots v ≤ A.CAPACITY) }
+            (λ v xs. (view A.Slots v).items ≡ xs) result }
+        ensures full { IfErr result (λ refused. (length (view A.Slots refused.vec).items ≡ A.CAPACITY)
+            × ((view A.Slots refused.vec).spare ≡ [])) }
+        ensures spare { IfOk result (λ v. AreDefaults A.Item.is_default (A.CAPACITY - length (view A.Slots v).items)
+            (view A.Slots v).spare) }
+        ensures fits { IfOk result (λ v. length (view A.Slots v).items ≤ A.CAPACITY) }
 
         // The returned iterator can be iterated further.
         ensures goes_on { IfErr result (λ refused. I.IntoIter.can_next refused.rest) }
@@ -176,7 +176,7 @@ impl<A: Array> ArrayVec<A> {
             (view_of A.Slots self.new) }
         ensures slot_rule { OnOk result (SlotRule A.Item.is_default (view_of A.Slots self.old) (view_of A.Slots self.new)) }
         ensures value_returned { IfErr result (λ refused. refused.0 ≡ value) }
-        ensures cuts { new_len ≤ len_of A.Slots self.old → IsOk result }
+        ensures cuts { new_len ≤ length (view A.Slots self.old).items → IsOk result }
     {
         let len = self.len();
         if new_len <= len {
@@ -194,8 +194,8 @@ impl<A: Array> ArrayVec<A> {
         requires room { new_len ≤ A.CAPACITY }
         requires callable { F.IsAlwaysCallable f }
         ensures lender { SameLender A.Slots self.old self.new }
-        ensures items { AppendsResults F.step (take new_len (items_of A.Slots self.old)) (items_of A.Slots self.new) f }
-        ensures len { len_of A.Slots self.new ≡ new_len }
+        ensures items { AppendsResults F.step (take new_len (view A.Slots self.old).items) (view A.Slots self.new).items f }
+        ensures len { length (view A.Slots self.new).items ≡ new_len }
         ensures slot_rule { SlotRule A.Item.is_default (view_of A.Slots self.old) (view_of A.Slots self.new) }
     {
         let len = self.len();
@@ -210,7 +210,7 @@ impl<A: Array> ArrayVec<A> {
     pub fn clone(&self) -> Result<Self, AllocError>
     where
         A::Item: Clone,
-        ensures items { IfOk result (λ v. AreClones A.Item.is_clone (items_of A.Slots self.now) (items_of A.Slots v)) }
+        ensures items { IfOk result (λ v. AreClones A.Item.is_clone (view A.Slots self.now).items (view A.Slots v).items) }
         ensures slots { IfOk result (λ v. AreClones A.Item.is_clone (slots_of A.Slots self.now) (slots_of A.Slots v)) }
         ensures if_clones_equal { IfOk result (λ v. ClonesAreEqual A.Item.is_clone → v ≡ self.now) }
         ensures refused { OnErr result ((j : ℕ) × RefusedAt A.Item.is_infallible (slots_of A.Slots self.now) j) }
@@ -227,13 +227,13 @@ impl<A: Array> ArrayVec<A> {
     where
         A::Item: Clone,
         ensures lender { SameLender A.Slots self.old self.new }
-        ensures items { OnOk result (AreClones A.Item.is_clone (items_of A.Slots source.now) (items_of A.Slots self.new)) }
+        ensures items { OnOk result (AreClones A.Item.is_clone (view A.Slots source.now).items (view A.Slots self.new).items) }
         ensures slot_rule { OnOk result (SlotRule A.Item.is_default (view_of A.Slots self.old) (view_of A.Slots self.new)) }
         ensures refused { OnErr result (ClonesInPart A.Item.is_default A.Item.is_infallible A.Item.is_clone
-            (items_of A.Slots source.now) (items_of A.Slots self.old) (items_of A.Slots self.new)
-            (min (len_of A.Slots self.old) (len_of A.Slots source.now))
-            ⊤ (spare_of A.Slots self.old) (spare_of A.Slots self.new)) }
-        ensures succeeds { All A.Item.is_infallible (items_of A.Slots source.now) → IsOk result }
+            (view A.Slots source.now).items (view A.Slots self.old).items (view A.Slots self.new).items
+            (min (length (view A.Slots self.old).items) (length (view A.Slots source.now).items))
+            ⊤ (view A.Slots self.old).spare (view A.Slots self.new).spare) }
+        ensures succeeds { All A.Item.is_infallible (view A.Slots source.now).items → IsOk result }
     {
         let len = source.len();
         self.truncate(len);
@@ -255,7 +255,7 @@ impl<A: Array> Default for ArrayVec<A> {
 
 impl<A: Array> From<A> for ArrayVec<A> {
     ghost from_gives = { λ array v. (view_of A.Slots v ≡ split_at A.CAPACITY (A.Slots.slots array))
-        × (items_of A.Slots v ≡ A.Slots.slots array) × (spare_of A.Slots v ≡ []) };
+        × ((view A.Slots v).items ≡ A.Slots.slots array) × ((view A.Slots v).spare ≡ []) };
 
     fn from(array: A) -> Self {
         Self::from_array(array)
@@ -269,7 +269,7 @@ impl<A: Array> IntoIterator for ArrayVec<A> {
 
     type IntoIter = ArrayVecIterator<A>;
 
-    ghost into_iter_gives = { λ v it. IteratesOver (items_of A.Slots v) it };
+    ghost into_iter_gives = { λ v it. IteratesOver (view A.Slots v).items it };
 
     fn into_iter(self) -> ArrayVecIterator<A> {
         into_items(self)

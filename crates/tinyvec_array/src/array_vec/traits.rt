@@ -1,7 +1,8 @@
 //! Comparisons, hashes, texts, writers, indexing and iteration.
 ghost use Rattle.std.specs.Prelude.{◌≡◌, ◌<◌, List, length, slice_index_or, true, false, ◌+◌, ◌≤◌, ◌↔◌, ◌++◌, drop, IsOk, OnOk, OnErr};
 ghost use Rattle.std.specs.Borrow.{sem};
-ghost use Rattle.tinyvec_array.specs.ArrayVec.{items_of, spare_of, slots_of, name_of, len_of};
+ghost use Rattle.tinyvec_array.specs.ArrayVec.{slots_of, name_of};
+ghost use Rattle.tinyvec_array.specs.View.{view};
 ghost use Rattle.tinyvec_array.specs.Lends.{lends_items, lends_item};
 ghost use Rattle.tinyvec_slots.specs.Filling.{Iterates, IteratesMut};
 ghost use Rattle.std.specs.Cmp.{on_equiv, on_total, on_po, on_per};
@@ -26,9 +27,9 @@ use tinyvec_slots::authors::{
 impl<S: Slots> Index<usize> for ArrayVec<S> {
     type Output = S::Item;
 
-    ghost can_index = { λ v i. i < length (items_of S.Slots v) };
+    ghost can_index = { λ v i. i < length (view S.Slots v).items };
 
-    ghost index_gives = { λ v i x. x ≡ slice_index_or (items_of S.Slots v) i x };
+    ghost index_gives = { λ v i x. x ≡ slice_index_or (view S.Slots v).items i x };
 
     fn index(&self, index: usize) -> &S::Item {
         &self.as_slice()[index]
@@ -37,9 +38,9 @@ impl<S: Slots> Index<usize> for ArrayVec<S> {
 
 impl<S: Slots> IndexMut<usize> for ArrayVec<S> {
     fn index_mut(&mut self, index: usize) -> &mut S::Item
-        requires { index < len_of S.Slots self.old }
+        requires { index < length (view S.Slots self.old).items }
         ensures* writes_back { sem 𝓛 (lends_item S.row S.Len.row S.Item.row S.Slots self.entry index result) }
-        ensures value { result.now ≡ slice_index_or (items_of S.Slots self.old) index result.now }
+        ensures value { result.now ≡ slice_index_or (view S.Slots self.old).items index result.now }
     {
         slot_of(&mut self.slots, index)
     }
@@ -51,7 +52,7 @@ impl<'a, T: Drop + 'a, S: Slots<Item = T>> IntoIterator for &'a ArrayVec<S> {
 
     type IntoIter = slice::Iter<'a, T>;
 
-    ghost into_iter_gives = { λ v it. Iterates (items_of S.Slots v.now) it };
+    ghost into_iter_gives = { λ v it. Iterates (view S.Slots v.now).items it };
 
     fn into_iter(self) -> slice::Iter<'a, T> {
         self.iter()
@@ -66,12 +67,12 @@ impl<'a, T: Drop + 'a, S: Slots<Item = T>> IntoIterator for &'a mut ArrayVec<S> 
 
     type IntoIter = slice::IterMut<'a, T>;
 
-    ghost into_iter_gives = { λ v it. IteratesMut (items_of S.Slots v.now) it };
+    ghost into_iter_gives = { λ v it. IteratesMut (view S.Slots v.now).items it };
 
     fn into_iter(self) -> slice::IterMut<'a, T>
         ensures* writes_back { sem 𝓛 (lends_iter S.row S.Len.row T.row S.Slots self.entry result) }
-        ensures into_iter_gives { IteratesMut (items_of S.Slots self.old) result }
-        ensures keeps_len { (ws : List T) → len_of S.Slots (with_items_of S.Slots self.old ws) ≡ len_of S.Slots self.old }
+        ensures into_iter_gives { IteratesMut (view S.Slots self.old).items result }
+        ensures keeps_len { (ws : List T) → length (view S.Slots (with_items_of S.Slots self.old ws)).items ≡ length (view S.Slots self.old).items }
     {
         self.iter_mut()
     }
@@ -81,9 +82,9 @@ impl<S: Slots> PartialEq for ArrayVec<S>
 where
     S::Item: PartialEq,
 {
-    ghost eq = { λ v w. pointwise S.Item.eq (items_of S.Slots v) (items_of S.Slots w) };
+    ghost eq = { λ v w. pointwise S.Item.eq (view S.Slots v).items (view S.Slots w).items };
 
-    ghost laws = { on_per (items_of S.Slots) (lists_per S.Item.laws) };
+    ghost laws = { on_per (λ v. (view S.Slots v).items) (lists_per S.Item.laws) };
 
     fn eq(&self, other: &Self) -> bool {
         eq_slices(self.as_slice(), other.as_slice())
@@ -94,16 +95,16 @@ impl<S: Slots> Eq for ArrayVec<S>
 where
     S::Item: Eq,
 {
-    ghost laws = { on_equiv (items_of S.Slots) (lists_equiv S.Item.Eq.laws) };
+    ghost laws = { on_equiv (λ v. (view S.Slots v).items) (lists_equiv S.Item.Eq.laws) };
 }
 
 impl<S: Slots> PartialOrd for ArrayVec<S>
 where
     S::Item: PartialOrd,
 {
-    ghost partial_cmp = { λ v w. slice_partial_cmp S.Item.partial_cmp (items_of S.Slots v) (items_of S.Slots w) };
+    ghost partial_cmp = { λ v w. slice_partial_cmp S.Item.partial_cmp (view S.Slots v).items (view S.Slots w).items };
 
-    ghost laws = { on_po (items_of S.Slots) (lists_po S.Item.PartialOrd.laws) };
+    ghost laws = { on_po (λ v. (view S.Slots v).items) (lists_po S.Item.PartialOrd.laws) };
 
     fn partial_cmp(&self, other: &Self) -> Option<Ordering> {
         partial_cmp_slices(self.as_slice(), other.as_slice())
@@ -114,14 +115,14 @@ impl<S: Slots> Ord for ArrayVec<S>
 where
     S::Item: Ord,
 {
-    ghost cmp = { λ v w. slice_cmp S.Item.cmp (items_of S.Slots v) (items_of S.Slots w) };
+    ghost cmp = { λ v w. slice_cmp S.Item.cmp (view S.Slots v).items (view S.Slots w).items };
 
-    ghost total = { on_total (items_of S.Slots) (lists_total S.Item.total) };
+    ghost total = { on_total (λ v. (view S.Slots v).items) (lists_total S.Item.total) };
 
-    ghost matches_partial_cmp = { λ v w. lists_agrees S.Item.matches_partial_cmp (items_of S.Slots v)
-        (items_of S.Slots w) };
+    ghost matches_partial_cmp = { λ v w. lists_agrees S.Item.matches_partial_cmp (view S.Slots v).items
+        (view S.Slots w).items };
 
-    ghost matches_eq = { λ v w. lists_ties S.Item.cmp S.Item.matches_eq (items_of S.Slots v) (items_of S.Slots w) };
+    ghost matches_eq = { λ v w. lists_ties S.Item.cmp S.Item.matches_eq (view S.Slots v).items (view S.Slots w).items };
 
     fn cmp(&self, other: &Self) -> Ordering {
         cmp_slices(self.as_slice(), other.as_slice())
@@ -132,9 +133,9 @@ impl<S: Slots> Hash for ArrayVec<S>
 where
     S::Item: Hash,
 {
-    ghost hash_input = { λ v. fed.slice S.Item.hash_input (items_of S.Slots v) };
+    ghost hash_input = { λ v. fed.slice S.Item.hash_input (view S.Slots v).items };
 
-    ghost respects_eq = { (on_Alike (items_of S.Slots) (items_Alike (record { fed = S.Item.respects_eq }))).fed };
+    ghost respects_eq = { (on_Alike (λ v. (view S.Slots v).items) (items_Alike (record { fed = S.Item.respects_eq }))).fed };
 
     fn hash<H: Hasher>(&self, state: &mut H) {
         hash_items(self.as_slice(), state);
@@ -145,7 +146,7 @@ impl<S: Slots> fmt::Debug for ArrayVec<S>
 where
     S::Item: fmt::Debug,
 {
-    ghost debug_output = { λ v. debug_list S.Item.debug_output (items_of S.Slots v) };
+    ghost debug_output = { λ v. debug_list S.Item.debug_output (view S.Slots v).items };
 
     fn fmt<W: fmt::Write>(&self, f: &mut fmt::Formatter<W>) -> fmt::Result {
         fmt::Debug::fmt(&self.as_slice(), f)
@@ -156,7 +157,7 @@ impl<S: Slots> fmt::Display for ArrayVec<S>
 where
     S::Item: fmt::Display,
 {
-    ghost output = { λ v. debug_list S.Item.output (items_of S.Slots v) };
+    ghost output = { λ v. debug_list S.Item.output (view S.Slots v).items };
 
     fn fmt<W: fmt::Write>(&self, f: &mut fmt::Formatter<W>) -> fmt::Result {
         write_items(f, self.as_slice(), &Plain)
@@ -169,7 +170,7 @@ where
 {
     fn fmt<W: fmt::Write>(&self, f: &mut fmt::Formatter<W>) -> fmt::Result
         ensures { DisplaysOnOk W.write_str_gives f.old result
-            (list_in_radix S.Item.word 2 false (items_of S.Slots self.now)) f.new }
+            (list_in_radix S.Item.word 2 false (view S.Slots self.now).items) f.new }
     {
         write_items(f, self.as_slice(), &InBinary)
     }
@@ -181,7 +182,7 @@ where
 {
     fn fmt<W: fmt::Write>(&self, f: &mut fmt::Formatter<W>) -> fmt::Result
         ensures { DisplaysOnOk W.write_str_gives f.old result
-            (list_in_radix S.Item.word 8 false (items_of S.Slots self.now)) f.new }
+            (list_in_radix S.Item.word 8 false (view S.Slots self.now).items) f.new }
     {
         write_items(f, self.as_slice(), &InOctal)
     }
@@ -193,7 +194,7 @@ where
 {
     fn fmt<W: fmt::Write>(&self, f: &mut fmt::Formatter<W>) -> fmt::Result
         ensures { DisplaysOnOk W.write_str_gives f.old result
-            (list_in_radix S.Item.word 16 false (items_of S.Slots self.now)) f.new }
+            (list_in_radix S.Item.word 16 false (view S.Slots self.now).items) f.new }
     {
         write_items(f, self.as_slice(), &InHex)
     }
@@ -205,7 +206,7 @@ where
 {
     fn fmt<W: fmt::Write>(&self, f: &mut fmt::Formatter<W>) -> fmt::Result
         ensures { DisplaysOnOk W.write_str_gives f.old result
-            (list_in_radix S.Item.word 16 true (items_of S.Slots self.now)) f.new }
+            (list_in_radix S.Item.word 16 true (view S.Slots self.now).items) f.new }
     {
         write_items(f, self.as_slice(), &InUpperHex)
     }
@@ -213,17 +214,17 @@ where
 
 /// `write_str` appends the whole text. If it does not fit, it fails and changes nothing.
 impl<S: Slots<Item = u8>> fmt::Write for ArrayVec<S> {
-    ghost write_str_gives = { λ v bytes w. (items_of S.Slots w ≡ items_of S.Slots v ++ bytes)
-        × (spare_of S.Slots w ≡ drop (length bytes) (spare_of S.Slots v))
+    ghost write_str_gives = { λ v bytes w. ((view S.Slots w).items ≡ (view S.Slots v).items ++ bytes)
+        × ((view S.Slots w).spare ≡ drop (length bytes) (view S.Slots v).spare)
         × (name_of S.Slots w ≡ name_of S.Slots v) };
 
     fn write_str(&mut self, s: &str) -> fmt::Result
-        ensures ok { IsOk result → (items_of S.Slots self.new ≡ items_of S.Slots self.old ++ s.now)
-            × (spare_of S.Slots self.new ≡ drop (length s.now) (spare_of S.Slots self.old))
+        ensures ok { IsOk result → ((view S.Slots self.new).items ≡ (view S.Slots self.old).items ++ s.now)
+            × ((view S.Slots self.new).spare ≡ drop (length s.now) (view S.Slots self.old).spare)
             × (name_of S.Slots self.new ≡ name_of S.Slots self.old) }
-        ensures spare { OnOk result (spare_of S.Slots self.new ≡ drop (length s.now) (spare_of S.Slots self.old)) }
+        ensures spare { OnOk result ((view S.Slots self.new).spare ≡ drop (length s.now) (view S.Slots self.old).spare) }
         ensures variant { IsOk result
-            ↔ (len_of S.Slots self.old + length s.now ≤ length (slots_of S.Slots self.old)) }
+            ↔ (length (view S.Slots self.old).items + length s.now ≤ length (slots_of S.Slots self.old)) }
         ensures err { OnErr result (self.new ≡ self.old) }
         ensures slot_count { length (slots_of S.Slots self.new) ≡ length (slots_of S.Slots self.old) }
     {
@@ -239,7 +240,7 @@ impl<S: Slots<Item = u8>> fmt::Write for ArrayVec<S> {
 impl<S: Slots> DerefSlice for ArrayVec<S> {
     type Elem = S::Item;
 
-    ghost deref_gives = { λ v xs. xs ≡ items_of S.Slots v };
+    ghost deref_gives = { λ v xs. xs ≡ (view S.Slots v).items };
 
     fn deref(&self) -> &[S::Item] {
         self.as_slice()
@@ -249,7 +250,7 @@ impl<S: Slots> DerefSlice for ArrayVec<S> {
 impl<S: Slots> DerefSliceMut for ArrayVec<S> {
     fn deref_mut(&mut self) -> &mut [S::Item]
         ensures* writes_back { sem 𝓛 (lends_items S.row S.Len.row S.Item.row S.Slots self.entry result) }
-        ensures value { result.now ≡ items_of S.Slots self.old }
+        ensures value { result.now ≡ (view S.Slots self.old).items }
     {
         self.as_mut_slice()
     }

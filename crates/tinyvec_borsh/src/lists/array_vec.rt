@@ -1,6 +1,6 @@
 //! An `ArrayVec` of what can be written and read.
-ghost use Rattle.std.specs.Prelude.{◌<◌, ◌-◌, List, map, IfOk, IfErr};
-ghost use Rattle.tinyvec_array.specs.ArrayVec.{items_of, len_of, spare_of};
+ghost use Rattle.std.specs.Prelude.{◌<◌, ◌-◌, List, map, IfOk, IfErr, length};
+ghost use Rattle.tinyvec_array.specs.View.{view};
 ghost use Rattle.tinyvec_slots.specs.Slots.{AreDefaults};
 ghost use Rattle.tinyvec_borsh.specs.Items.{SpellsList, ListFits, ListReason, InItem};
 ghost use Rattle.tinyvec_borsh.specs.Reading.{FailsFor, LeavesRest, ReadsSpelling};
@@ -19,7 +19,7 @@ where
 {
     ghost Content = { List A.Item.Content };
 
-    ghost content_of = { λ v. map A.Item.content_of (items_of A.Slots v) };
+    ghost content_of = { λ v. map A.Item.content_of (view A.Slots v).items };
 
     ghost Spells = { SpellsList A.Item.Spells };
 
@@ -51,13 +51,13 @@ where
         alloc: Global,
         reader: &mut Counted<R>,
     ) -> Result<Self, BorshError>
-        ensures ok { IfOk result (λ v. ReadsSpelling (SpellsList A.Item.Spells (map A.Item.content_of (items_of A.Slots v)))
+        ensures ok { IfOk result (λ v. ReadsSpelling (SpellsList A.Item.Spells (map A.Item.content_of (view A.Slots v).items))
             (R.remaining reader.old.inner) (R.remaining reader.new.inner)) }
         ensures valid { IfOk result (λ v. ListFits A.Item.Spells A.Item.Fits A.CAPACITY
-            (map A.Item.content_of (items_of A.Slots v))) }
+            (map A.Item.content_of (view A.Slots v).items)) }
         ensures fails { FailsFor R.remaining (ListReason A.Item.Spells A.Item.Fits A.Item.Reason (λ _. ⊥) A.CAPACITY)
             reader.old reader.new result }
-        ensures spare { IfOk result (λ v. AreDefaults A.Item.is_default (A.CAPACITY - len_of A.Slots v) (spare_of A.Slots v)) }
+        ensures spare { IfOk result (λ v. AreDefaults A.Item.is_default (A.CAPACITY - length (view A.Slots v).items) (view A.Slots v).spare) }
         ensures rest { IfErr result (LeavesRest A.Item.Spells
             (InItem A.Item.Spells A.Item.Fits (A.Item.Reason BorshError.InvalidLength) A.CAPACITY) A.CAPACITY
             (R.remaining reader.old.inner) (R.remaining reader.new.inner)) }

@@ -2,7 +2,8 @@
 use Rattle.std.proofs.Common.{◌≡◌, ℕ, List, [], ◌∷◌, ◌++◌, drop, insert, slice_set, refl}
 use Rattle.tinyvec_array.specs.SliceParts.{with_front, with_back}
 use Rattle.tinyvec_array.specs.Lends.{at_slots, with_items_of}
-use Rattle.tinyvec_array.specs.ArrayVec.{items_of, slots_of}
+use Rattle.tinyvec_array.specs.ArrayVec.{slots_of}
+use Rattle.tinyvec_array.specs.View.{view}
 use Rattle.tinyvec_array.specs.CutLaws.{written_of}
 use Rattle.tinyvec_array.specs.declared.slots.Slots as Storage
 use Rattle.tinyvec_array.specs.declared.array_vec.ArrayVec.{ArrayVec}
@@ -45,5 +46,5 @@ module _ {S L : Type 0} (g : Storage.Ghosts S ℕ L) (v : ArrayVec S L) where
   pub example-lends_array_of : (a : S) → slots_of g (record v { slots = a }) ≡ g.slots a
   example-lends_array_of a = refl
 
-  pub example-with_items_of : items_of g v ≡ 1 ∷ 2 ∷ [] → items_of g (with_items_of g v (3 ∷ 4 ∷ [])) ≡ 3 ∷ 4 ∷ []
+  pub example-with_items_of : (view g v).items ≡ 1 ∷ 2 ∷ [] → (view g (with_items_of g v (3 ∷ 4 ∷ []))).items ≡ 3 ∷ 4 ∷ []
   example-with_items_of list = (written_of g v (3 ∷ 4 ∷ []) (rw (list) refl)).0

@@ -4,7 +4,8 @@ ghost use Rattle.std.specs.Prelude.{◌≡◌, ◌≤◌, ◌-◌, ◌+◌, ◌+
 ghost use Rattle.std.specs.List.{remove_range};
 ghost use Rattle.tinyvec_array.specs.Slots.{Vacates, SlotRule};
 ghost use Rattle.tinyvec_array.specs.Ranges.{IsRangeOf, items_before, items_after};
-ghost use Rattle.tinyvec_array.specs.ArrayVec.{items_of, name_of, view_of};
+ghost use Rattle.tinyvec_array.specs.ArrayVec.{name_of, view_of};
+ghost use Rattle.tinyvec_array.specs.View.{view};
 ghost use Rattle.tinyvec_array.specs.SliceVec.{slice_items, slice_spare, slice_name};
 
 use std::ops::RangeBounds;
@@ -14,11 +15,11 @@ use tinyvec_array::{ArrayVec, SliceVec, Slots};
 pub fn drain_one<B: Slots>(v: &mut ArrayVec<B>) -> Option<B::Item>
 where
     B::Item: Default,
-    requires { 3 ≤ length (items_of B.Slots v.old) }
+    requires { 3 ≤ length (view B.Slots v.old).items }
     ensures same_reference { name_of B.Slots v.new ≡ name_of B.Slots v.old }
-    ensures items { items_of B.Slots v.new ≡ remove_range (items_of B.Slots v.old) 1 3 }
+    ensures items { (view B.Slots v.new).items ≡ remove_range (view B.Slots v.old).items 1 3 }
     ensures spare { Vacates B.Item.is_default 2 (view_of B.Slots v.old) (view_of B.Slots v.new) }
-    ensures value { result ≡ slice_get (items_of B.Slots v.old) 1 }
+    ensures value { result ≡ slice_get (view B.Slots v.old).items 1 }
 {
     let mut d = v.drain(1..3);
     d.next()
@@ -29,10 +30,10 @@ pub fn cut<B: Slots, R: RangeBounds<usize>>(v: &mut ArrayVec<B>, range: R)
 where
     B::Item: Default,
     requires not_exhausted { R.has_bounds range }
-    requires in_list { IsRangeOf (items_of B.Slots v.old) (R.start_bound range) (R.end_bound range) }
+    requires in_list { IsRangeOf (view B.Slots v.old).items (R.start_bound range) (R.end_bound range) }
     ensures same_reference { name_of B.Slots v.new ≡ name_of B.Slots v.old }
-    ensures items { items_of B.Slots v.new
-        ≡ items_before (items_of B.Slots v.old) (R.start_bound range) ++ items_after (items_of B.Slots v.old) (R.end_bound range) }
+    ensures items { (view B.Slots v.new).items
+        ≡ items_before (view B.Slots v.old).items (R.start_bound range) ++ items_after (view B.Slots v.old).items (R.end_bound range) }
     ensures slot_rule { SlotRule B.Item.is_default (view_of B.Slots v.old) (view_of B.Slots v.new) }
 {
     drop(v.drain(range));

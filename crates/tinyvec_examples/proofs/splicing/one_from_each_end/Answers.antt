@@ -4,7 +4,7 @@ use Rattle.tinyvec_slots.specs.Ends.{front, back}
 use Rattle.tinyvec_slots.specs.Fused.{fused_rest}
 use Rattle.tinyvec_slots.proofs.Fused.{fused_ends}
 use Rattle.tinyvec_slots.proofs.AnySpliceLemmas.{RunsWord-takes_removed}
-use Rattle.tinyvec_array.specs.ArrayVec.{items_of}
+use Rattle.tinyvec_array.specs.View.{view}
 use Rattle.tinyvec_array.specs.CutLaws.{KeptOf}
 use Rattle.tinyvec_slots.specs.Splice.{splice_view, SpliceKeeps}
 use Rattle.tinyvec_array.specs.SpliceLaws.{kept_refl, kept_then}
@@ -17,12 +17,12 @@ returns-clause-asked g c = let t = c.next_back-last.new.self in (c.next-first.ne
 pub returns-clause-yields : goal.returns-clause-yields
 returns-clause-yields g c =
     let t = c.next_back-last.new.self in
-    RunsWord-takes_removed (splice_view (items_of g.A.Slots)) (SpliceKeeps (items_of g.A.Slots) (KeptOf g.A.Slots)) (fuse_steps g.I.Iterator.next_gives) (fuse_steps g.I.DoubleEndedIterator.next_back_gives) c.args.splice.now (front ∷ back ∷ [])
+    RunsWord-takes_removed (splice_view (λ v. (view g.A.Slots v).items)) (SpliceKeeps (λ v. (view g.A.Slots v).items) (KeptOf g.A.Slots)) (fuse_steps g.I.Iterator.next_gives) (fuse_steps g.I.DoubleEndedIterator.next_back_gives) c.args.splice.now (front ∷ back ∷ [])
     (c.next-first.result ∷ c.next_back-last.result ∷ []) t (c.next-first.new.self, c.next-first.ensures.steps, (t, c.next_back-last.ensures.steps, refl))
 
 pub returns-clause-spliced : goal.returns-clause-spliced
 returns-clause-spliced g c = λ rest ends.
     let t = c.next_back-last.new.self in
-    RunsWord-splices (items_of g.A.Slots) (KeptOf g.A.Slots) (kept_refl g.A.Slots) (kept_then g.A.Slots) (fused_rest rest) (fuse_steps g.I.Iterator.next_gives) (fuse_steps g.I.DoubleEndedIterator.next_back_gives) (fused_ends _ _ rest ends)
+    RunsWord-splices (λ v. (view g.A.Slots v).items) (KeptOf g.A.Slots) (kept_refl g.A.Slots) (kept_then g.A.Slots) (fused_rest rest) (fuse_steps g.I.Iterator.next_gives) (fuse_steps g.I.DoubleEndedIterator.next_back_gives) (fused_ends _ _ rest ends)
     c.args.splice.now (front ∷ back ∷ []) (c.next-first.result ∷ c.next_back-last.result ∷ []) t
     (c.next-first.new.self, c.next-first.ensures.steps, (t, c.next_back-last.ensures.steps, refl))

@@ -1,5 +1,6 @@
 use Rattle.std.proofs.Common.{◌+◌, ◌-◌, ◌≤◌, Result, Ok, Err, OnOk, IsOk, true≢false, sym, length, take, drop, arith, length-take-le, length-drop}
-use Rattle.tinyvec_array.specs.ArrayVec.{items_of, slots_of}
+use Rattle.tinyvec_array.specs.ArrayVec.{slots_of}
+use Rattle.tinyvec_array.specs.View.{view}
 use Rattle.tinyvec.proofs.FrameLemmas.{inline_becomes, heap_becomes}
 use Rattle.tinyvec.proofs.splice.TinyVec+A.replace_reserved.Goals as goal
 
@@ -12,7 +13,7 @@ pub returns-in-Inline : goal.returns-in-Inline
 returns-in-Inline g c =
     let G = g.A.Slots in
     let v = c.in-Inline.v in
-    let xs = items_of G v in
+    let xs = (view G v).items in
     let part = c.args.part in
     let made = c.replace_range-fits.ensures in
     let inside : part.end ≤ length xs = rw c.in-Inline.is at c.requires.in_list in

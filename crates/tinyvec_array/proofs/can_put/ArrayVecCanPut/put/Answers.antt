@@ -1,13 +1,14 @@
 use Rattle.std.proofs.Common.{◌≡◌, ◌+◌, ◌∷◌, [], ◌++◌, length, drop, set, sym, ◌∙◌, ap, append_assoc, length-append, arith}
 use Rattle.std.proofs.lemmas.List.{length_push}
 use Rattle.tinyvec_slots.proofs.CloneLemmas.{set_next}
-use Rattle.tinyvec_array.specs.ArrayVec.{items_of, slots_of}
+use Rattle.tinyvec_array.specs.ArrayVec.{slots_of}
+use Rattle.tinyvec_array.specs.View.{view}
 use Rattle.tinyvec_array.proofs.can_put.ArrayVecCanPut.put.Goals as goal
 
 pub returns : goal.returns
 returns g c v xs h at room =
     let x = c.args.x in
-    let list = items_of g.S.Slots v in
+    let list = (view g.S.Slots v).items in
     let slots = slots_of g.S.Slots v in
     let long : length (list ++ xs) ≡ c.args.at = length-append list xs ∙ omega (arith, at) in
     let next : c.args.at + 1 ≡ length list + length (xs ++ x ∷ []) = omega (arith, at, length_push xs x) in

@@ -5,12 +5,13 @@ use Rattle.tinyvec_slots.specs.Slots.{Slots, split_at, items_in, spare_in, all_s
 use Rattle.tinyvec_slots.proofs.Lists.{length-remove_range, length-slice_range}
 use Rattle.tinyvec_slots.proofs.SlotsLemmas.{slots_are}
 use Rattle.tinyvec_slots.proofs.BorderLemmas.{within}
-use Rattle.tinyvec_array.specs.ArrayVec.{items_of, spare_of, view_of, slots_of}
+use Rattle.tinyvec_array.specs.ArrayVec.{view_of, slots_of}
+use Rattle.tinyvec_array.specs.View.{view}
 use Rattle.tinyvec_array.proofs.drain.ArrayVec+S.cut_out.Goals as goal
 
 pub set_len-requires : goal.set_len-requires
 set_len-requires g c =
-    let L = items_of g.S.Slots c.args.self.now in
+    let L = (view g.S.Slots c.args.self.now).items in
     let i = c.resolve_range-part.result.start in
     let j = c.resolve_range-part.result.end in
     let moved = c.move_to_end.new.self in
@@ -23,7 +24,7 @@ set_len-requires g c =
     let out = length-slice_range L i j order ends in
     let all = c.len-len.ensures.value in
     let count = c.bounded-count.ensures in
-    let long : length (items_of g.S.Slots moved) ≡ c.len-len.result = omega arith in
+    let long : length (view g.S.Slots moved).items ≡ c.len-len.result = omega arith in
     let le = within (g.S.Slots.count moved.len) (slots_of g.S.Slots moved) c.len-len.result (sym long) in
     omega arith
 
@@ -40,12 +41,12 @@ cut_parts L S i j k moved order ends fewer listed spare =
 
 module _ (g : _) (c : goal.After-set_len g) where
   cut : (items_in (split_at (c.len-len.result - c.bounded-count.result) (slots_of g.S.Slots c.move_to_end.new.self))
-      ≡ items_before (items_of g.S.Slots c.args.self.now) (g.R.RangeBounds.start_bound c.args.range) ++ items_after (items_of g.S.Slots c.args.self.now) (g.R.RangeBounds.end_bound c.args.range))
+      ≡ items_before (view g.S.Slots c.args.self.now).items (g.R.RangeBounds.start_bound c.args.range) ++ items_after (view g.S.Slots c.args.self.now).items (g.R.RangeBounds.end_bound c.args.range))
       × (spare_in (split_at (c.len-len.result - c.bounded-count.result) (slots_of g.S.Slots c.move_to_end.new.self))
-      ≡ items_within (items_of g.S.Slots c.args.self.now) (g.R.RangeBounds.start_bound c.args.range) (g.R.RangeBounds.end_bound c.args.range) ++ spare_of g.S.Slots c.args.self.now)
+      ≡ items_within (view g.S.Slots c.args.self.now).items (g.R.RangeBounds.start_bound c.args.range) (g.R.RangeBounds.end_bound c.args.range) ++ (view g.S.Slots c.args.self.now).spare)
   cut =
       let part = c.resolve_range-part.result in
-      let L = items_of g.S.Slots c.args.self.now in
+      let L = (view g.S.Slots c.args.self.now).items in
       let all = c.len-len.ensures.value in
       let bounds = g.R.RangeBounds.end_bound c.args.range in
       let start_is = c.resolve_range-part.ensures.start in

@@ -4,7 +4,6 @@ use Rattle.std.specs.List.{FoldsTo}
 use Rattle.tinyvec_slots.specs.Drain.{DrainKeeps, drain_items}
 use Rattle.tinyvec_slots.proofs.DrainLemmas.{DrainKeeps-then}
 use Rattle.tinyvec_slots.specs.Ranges.{items_before, items_after}
-use Rattle.tinyvec_array.specs.ArrayVec.{items_of}
 use Rattle.tinyvec_array.specs.View.{view, Becomes}
 use Rattle.tinyvec_array.specs.DrainLaws.{drain_of, drain_kept_then}
 use Rattle.tinyvec_array.proofs.drain.ArrayVec+S.drain_each.Goals as goal
@@ -38,5 +37,5 @@ returns-clause-becomes g c =
     let lost = c.drain-x-items.ensures.begins.leaves new (keeps.leaves new (c.in-None.ensures.steps.1.leaves new c.drop-x-iterator.ensures)) in
     let same = c.in-None.ensures.steps.1.same_reference ∙ keeps.same_reference in
     subst (λ w. Becomes g.S.Item.Default.is_default (view g.S.Slots c.args.self.now) (view g.S.Slots w)
-    (items_before (items_of g.S.Slots c.args.self.now) (g.R.RangeBounds.start_bound c.args.range) ++ items_after (items_of g.S.Slots c.args.self.now) (g.R.RangeBounds.end_bound c.args.range)))
+    (items_before (view g.S.Slots c.args.self.now).items (g.R.RangeBounds.start_bound c.args.range) ++ items_after (view g.S.Slots c.args.self.now).items (g.R.RangeBounds.end_bound c.args.range)))
     (search rules) lost

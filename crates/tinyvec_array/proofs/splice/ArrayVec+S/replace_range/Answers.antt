@@ -1,7 +1,7 @@
 use Rattle.std.proofs.Common.{◌≡◌, ℕ, List, ◌<◌, ◌≤◌, ◌+◌, ◌-◌, true≢false, refl, sym, length, take, drop, ap, ◌∙◌, arith, rules, length-take-le, length-drop}
 use Rattle.tinyvec_slots.specs.Ranges.{range_start, range_end}
 use Rattle.tinyvec_slots.proofs.ReplacingLemmas.{placed_at}
-use Rattle.tinyvec_array.specs.ArrayVec.{items_of}
+use Rattle.tinyvec_array.specs.View.{view}
 use Rattle.tinyvec_array.proofs.splice.ArrayVec+S.replace_range.Goals as goal
 
 -- how long a list is with r items in the place of a range
@@ -10,7 +10,7 @@ with_part xs i j r le within = omega (arith, length-take-le i xs (omega (arith, 
 
 pub returns-then-replacement-capacity-clause-variant : goal.returns-then-replacement-capacity-clause-variant
 returns-then-replacement-capacity-clause-variant g c =
-    let xs = items_of g.S.Slots c.args.self.now in
+    let xs = (view g.S.Slots c.args.self.now).items in
     let new = c.args.replacement.now in
     let part = c.resolve_range-part.result in
     let first = g.R.RangeBounds.start_bound c.args.range in
@@ -23,7 +23,7 @@ returns-then-replacement-capacity-clause-variant g c =
 
 pub returns-clause-variant : goal.returns-clause-variant
 returns-clause-variant g c =
-    let xs = items_of g.S.Slots c.args.self.now in
+    let xs = (view g.S.Slots c.args.self.now).items in
     let new = c.args.replacement.now in
     let part = c.resolve_range-part.result in
     let first = g.R.RangeBounds.start_bound c.args.range in
@@ -37,4 +37,4 @@ returns-clause-variant g c =
 pub returns-clause-items : goal.returns-clause-items
 returns-clause-items g c =
     let end = c.resolve_range-part.ensures.end ∙ ap (range_end (g.R.RangeBounds.end_bound c.args.range)) c.len.ensures.value in
-    placed_at _ (items_of g.S.Slots c.args.self.now) c.args.replacement.now _ _ _ _ c.replace_fitting.ensures.items c.resolve_range-part.ensures.start end
+    placed_at _ (view g.S.Slots c.args.self.now).items c.args.replacement.now _ _ _ _ c.replace_fitting.ensures.items c.resolve_range-part.ensures.start end

@@ -1,7 +1,6 @@
 use Rattle.std.proofs.Common.{subst, rules}
 use Rattle.std.specs.Iterator.Adapters.{fuse_source}
 use Rattle.tinyvec_slots.proofs.ReplacingLemmas.{between}
-use Rattle.tinyvec_array.specs.ArrayVec.{items_of}
 use Rattle.tinyvec_array.specs.View.{view, StaysInPlace}
 use Rattle.tinyvec_slots.specs.Splice.{splice_replacement, splice_view}
 use Rattle.tinyvec_slots.proofs.SpliceLemmas.{puts_listed}
@@ -36,5 +35,5 @@ returns-clause-listed g c = λ rest shows.
     let s = c.splice-splice.result in
     let made = c.splice-splice.ensures in
     let lender = made.same_reference in
-    let puts = puts_listed rest _ (splice_view (items_of g.S.Slots) s) _ _ _ _ made.unasked made.begins.front made.begins.back (c.finish.ensures.listed rest shows) in
+    let puts = puts_listed rest _ (splice_view (λ v. (view g.S.Slots v).items) s) _ _ _ _ made.unasked made.begins.front made.begins.back (c.finish.ensures.listed rest shows) in
     (fuse_source (splice_replacement s), made.replacement, search rules, search rules, search rules)

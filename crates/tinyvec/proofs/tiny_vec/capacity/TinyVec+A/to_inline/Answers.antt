@@ -2,8 +2,7 @@ use Rattle.std.proofs.Common.{rules, ◌≡◌, ◌+◌, ◌-◌, ◌∷◌, ◌
 use Rattle.std.proofs.lemmas.List.{length_push}
 use Rattle.std.proofs.lemmas.List.Elements.{All-drop}
 use Rattle.std.specs.Vec.Iter.{drain_items}
-use Rattle.tinyvec_array.specs.ArrayVec.{items_of, spare_of, len_of}
-use Rattle.tinyvec_array.specs.View.{NothingVacated}
+use Rattle.tinyvec_array.specs.View.{view, NothingVacated}
 use Rattle.tinyvec_array.specs.ViewLaws.{used_by}
 use Rattle.tinyvec_array.proofs.ViewLemmas.{parts_of}
 use Rattle.tinyvec.proofs.tiny_vec.capacity.TinyVec+A.to_inline.Goals as goal
@@ -16,19 +15,19 @@ loop-x-preserved g c =
     let x = c.in-Some.x in
     let put = c.push.ensures in
     let rest = drain_items c.next.new.self in
-    let grown : len_of g.A.Slots c.push.new.self ≡ len_of g.A.Slots old + 1 = rw put.items (length_push (items_of g.A.Slots old) x) in
-    let behind : spare_of g.A.Slots c.push.new.self ≡ drop 1 (spare_of g.A.Slots old) = used_by NothingVacated _ _ _ _ 1 grown (put.slot_rule) in
-    let less : length (spare_of g.A.Slots c.push.new.self) ≡ length (spare_of g.A.Slots old) - 1 = rw behind (length-drop 1 (spare_of g.A.Slots old)) in
+    let grown : length (view g.A.Slots c.push.new.self).items ≡ length (view g.A.Slots old).items + 1 = rw put.items (length_push (view g.A.Slots old).items x) in
+    let behind : (view g.A.Slots c.push.new.self).spare ≡ drop 1 (view g.A.Slots old).spare = used_by NothingVacated _ _ _ _ 1 grown (put.slot_rule) in
+    let less : length (view g.A.Slots c.push.new.self).spare ≡ length (view g.A.Slots old).spare - 1 = rw behind (length-drop 1 (view g.A.Slots old).spare) in
     let all = ap length inv.moved in
-    let moved : (items_of g.A.Slots old ++ x ∷ []) ++ rest ≡ items_of g.A.Slots old ++ drain_items c.loop-x.x-iterator = append_assoc (items_of g.A.Slots old) (x ∷ []) rest ∙ ap (λ xs. items_of g.A.Slots old ++ xs) (sym step.0) in
-    let front = length-append (items_of g.A.Slots old) (drain_items c.loop-x.x-iterator) in
+    let moved : ((view g.A.Slots old).items ++ x ∷ []) ++ rest ≡ (view g.A.Slots old).items ++ drain_items c.loop-x.x-iterator = append_assoc (view g.A.Slots old).items (x ∷ []) rest ∙ ap (λ xs. (view g.A.Slots old).items ++ xs) (sym step.0) in
+    let front = length-append (view g.A.Slots old).items (drain_items c.loop-x.x-iterator) in
     let more = ap length step.0 in
     let count = c.args.heap.now.ok.0 in record {
       can = tt;
       ends = tt;
       moved = rw put.items (moved ∙ inv.moved);
       room = omega (arith, inv.room, c.requires);
-      defaults = rw behind (All-drop g.A.Item.Default.is_default 1 (spare_of g.A.Slots old) inv.defaults);
+      defaults = rw behind (All-drop g.A.Item.Default.is_default 1 (view g.A.Slots old).spare inv.defaults);
     }
 
 pub returns : goal.returns

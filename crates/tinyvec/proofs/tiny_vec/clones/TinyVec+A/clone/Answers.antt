@@ -7,7 +7,8 @@ use Rattle.std.proofs.lemmas.Result.{IfOk-from_err}
 use Rattle.tinyvec.proofs.CloneLemmas.{appends_alone, spare_cloned}
 use Rattle.tinyvec.specs.View.{in_array, on_heap}
 use Rattle.tinyvec.specs.TinyVec.{view}
-use Rattle.tinyvec_array.specs.ArrayVec.{items_of, spare_of, view_of}
+use Rattle.tinyvec_array.specs.ArrayVec.{view_of}
+use Rattle.tinyvec_array.specs.View.{view as slots_view}
 use Rattle.tinyvec.proofs.tiny_vec.clones.TinyVec+A.clone.Goals as goal
 
 pub returns-in_err-copy-in-Inline-clause-copied : goal.returns-in_err-copy-in-Inline-clause-copied
@@ -29,7 +30,7 @@ returns-in-Inline-clause-copied g c =
       len = rw c.in-Inline.is made.items.len;
       if_clones_equal = λ rule.
           let same = made.if_clones_equal rule in
-          rw c.in-Inline.is (ap (λ w. items_of g.A.Slots w) same, ap (λ w. spare_of g.A.Slots w) same);
+          rw c.in-Inline.is (ap (λ w. (slots_view g.A.Slots w).items) same, ap (λ w. (slots_view g.A.Slots w).spare) same);
       spare = rw c.in-Inline.is (spare_cloned g.A.Item.Clone.is_clone (view_of g.A.Slots c.in-Inline.v) (view_of g.A.Slots c.in_ok-copy-in-Inline.copy) made.items.len made.slots.each);
       place = rw c.in-Inline.is (ap in_array made.slots.len);
     }

@@ -1,6 +1,7 @@
 use Rattle.std.proofs.Common.{◌≡◌, [], ◌++◌, refl, length, ap, ◌∙◌, arith, rules}
 use Rattle.tinyvec_slots.specs.Slots.{items_in, spare_in}
-use Rattle.tinyvec_array.specs.ArrayVec.{items_of, spare_of, slots_of, name_of, len_of}
+use Rattle.tinyvec_array.specs.ArrayVec.{slots_of, name_of}
+use Rattle.tinyvec_array.specs.View.{view}
 use Rattle.tinyvec_array.specs.ViewLaws.{one_place, becomes, freed_by}
 use Rattle.tinyvec_array.proofs.RuleLemmas.{rule_freed}
 use Rattle.tinyvec_array.proofs.ViewLemmas.{slots-parts}
@@ -17,9 +18,9 @@ returns-in-Inline-self g c =
     let gone = c.clear.ensures in
     let same : slots_of G c.in-Inline-self.v ≡ slots_of G w = search rules in
     let named : name_of G c.in-Inline-self.v ≡ name_of G w = search rules in
-    let empty : items_of G new ≡ [] = ap (λ u. items_in u) c.set_len.ensures.value in
-    let freed = freed_by D (items_of G v) (items_of G w) _ _ (len_of G v) (omega (arith, ap length gone.items)) (gone.slot_rule) in
-    let behind : spare_of G new ≡ freed.0 ++ spare_of G v =
-    ap (λ u. spare_in u) c.set_len.ensures.value ∙ same ∙ slots-parts G w ∙ ap (λ l. l ++ spare_of G w) gone.items ∙ freed.2 in
+    let empty : (view G new).items ≡ [] = ap (λ u. items_in u) c.set_len.ensures.value in
+    let freed = freed_by D (view G v).items (view G w).items _ _ (length (view G v).items) (omega (arith, ap length gone.items)) (gone.slot_rule) in
+    let behind : (view G new).spare ≡ freed.0 ++ (view G v).spare =
+    ap (λ u. spare_in u) c.set_len.ensures.value ∙ same ∙ slots-parts G w ∙ ap (λ l. l ++ (view G w).spare) gone.items ∙ freed.2 in
     let place = one_place refl (c.set_len.ensures.lender.slot_count ∙ ap length same) (c.set_len.ensures.lender.same_reference ∙ named) ∙ gone.place in
-    rw c.in-Inline.is (inline_becomes G D _ _ _ _ _ (becomes G D v new place (rule_freed D (items_of G v) (items_of G new) _ _ (len_of G v) (omega (arith, ap length empty)) (freed.0, freed.1, behind)) [] empty))
+    rw c.in-Inline.is (inline_becomes G D _ _ _ _ _ (becomes G D v new place (rule_freed D (view G v).items (view G new).items _ _ (length (view G v).items) (omega (arith, ap length empty)) (freed.0, freed.1, behind)) [] empty))

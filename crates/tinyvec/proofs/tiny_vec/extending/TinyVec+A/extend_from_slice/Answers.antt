@@ -3,7 +3,8 @@ use Rattle.tinyvec.proofs.ExtendingLemmas.{inline_clones, heap_clones, extended_
 use Rattle.tinyvec.proofs.tiny_vec.extending.TinyVec+A.extend_from_slice.Goals.{In_default, in_default-via-in-Inline+else-other-capacity, in_default-via-in-Heap+else-other-capacity-2}
 use Rattle.tinyvec.specs.TinyVec.{view}
 use Rattle.tinyvec.proofs.PlaceLemmas.{heap_grown, heap_enough}
-use Rattle.tinyvec_array.specs.ArrayVec.{len_of, slots_of, view_of}
+use Rattle.tinyvec_array.specs.ArrayVec.{slots_of, view_of}
+use Rattle.tinyvec_array.specs.View.{view as slots_view}
 use Rattle.tinyvec.proofs.tiny_vec.extending.TinyVec+A.extend_from_slice.Goals as goal
 
 pub extend_from_slice-requires : goal.extend_from_slice-requires
@@ -12,7 +13,7 @@ extend_from_slice-requires g c = record { room = omega (arith, c.if-other-capaci
 pub returns-in-Inline : goal.returns-in-Inline
 returns-in-Inline g c =
     let v = c.in-Inline.v in
-    let room : len_of g.A.Slots v + length c.args.other.now ≤ length (slots_of g.A.Slots v) =
+    let room : length (slots_view g.A.Slots v).items + length c.args.other.now ≤ length (slots_of g.A.Slots v) =
     omega (arith, c.if-other-capacity.true, c.capacity.ensures, c.len.ensures.value) in
     rw c.in-Inline.is
     (let made = extended_in_room g.A.Item.Default.is_default g.A.Item.Clone _ _ _ _

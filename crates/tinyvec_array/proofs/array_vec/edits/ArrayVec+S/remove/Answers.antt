@@ -2,7 +2,7 @@ use Rattle.std.proofs.Common.{refl, rules, ◌<◌, ◌∷◌, [], arith, ◌∙
 use Rattle.std.proofs.lemmas.Grind.{common_steps}
 use Rattle.std.proofs.lemmas.List.Elements.{All-cons, All-nil}
 use Rattle.tinyvec_slots.proofs.Lists.{length-moved, take-moved}
-use Rattle.tinyvec_array.specs.ArrayVec.{items_of}
+use Rattle.tinyvec_array.specs.View.{view}
 use Rattle.tinyvec_array.specs.ViewLaws.{one_place}
 use Rattle.tinyvec_array.proofs.RuleLemmas.{rule_freed}
 use Rattle.tinyvec_slots.proofs.BorderLemmas.{take-taken, drop-taken}
@@ -10,10 +10,10 @@ use Rattle.tinyvec_array.proofs.array_vec.edits.ArrayVec+S.remove.Goals as goal
 
 pub returns-clause-becomes : goal.returns-clause-becomes
 returns-clause-becomes g c =
-    let less = length-moved (items_of g.S.Slots c.args.self.now) _ c.args.index c.requires c.move_to_end.ensures.items in
+    let less = length-moved (view g.S.Slots c.args.self.now).items _ c.args.index c.requires c.move_to_end.ensures.items in
     let rule = c.take_last.ensures.becomes.slot_rule in
     record {
-      items = c.take_last.ensures.becomes.items ∙ take-moved (items_of g.S.Slots c.args.self.now) _ c.args.index c.requires c.move_to_end.ensures.items;
+      items = c.take_last.ensures.becomes.items ∙ take-moved (view g.S.Slots c.args.self.now).items _ c.args.index c.requires c.move_to_end.ensures.items;
       place = c.take_last.ensures.becomes.place ∙ one_place refl (search rules) (search rules);
       slot_rule = rw (← less, ← c.move_to_end.ensures.spare) rule;
       fits = c.take_last.ensures.becomes.fits;
@@ -40,4 +40,4 @@ pub returns-clause-value : goal.returns-clause-value
 returns-clause-value g c = grind (arith, common_steps)
 
 pub take_last-requires : goal.take_last-requires
-take_last-requires g c = let long = length-moved (items_of g.S.Slots c.args.self.now) _ c.args.index c.requires c.move_to_end.ensures.items in omega (arith, long, c.requires)
+take_last-requires g c = let long = length-moved (view g.S.Slots c.args.self.now).items _ c.args.index c.requires c.move_to_end.ensures.items in omega (arith, long, c.requires)

@@ -4,13 +4,13 @@ use Rattle.std.proofs.SliceLists.{chained_more}
 use Rattle.std.proofs.iter.Next.{called}
 use Rattle.std.proofs.lemmas.List.{length_push, reverse-append}
 use Rattle.tinyvec_array.proofs.ResizingLemmas.{one_less, first_items, one_more}
-use Rattle.tinyvec_array.specs.ArrayVec.{items_of, spare_of}
+use Rattle.tinyvec_array.specs.View.{view}
 use Rattle.tinyvec_array.proofs.ViewLemmas.{same_lender, SameLender-then}
 use Rattle.tinyvec_array.proofs.array_vec.extending.ArrayVec+S.cut_to_answers.Goals as goal
 
 pub loop-self-init : goal.loop-self-init
 loop-self-init g c =
-    let L = items_of g.S.Slots c.args.self.now in
+    let L = (view g.S.Slots c.args.self.now).items in
     let none : 0 ≡ length L - length L = omega arith in
     record {
       enough = c.requires.shorter;
@@ -26,9 +26,9 @@ loop-self-preserved g c =
     let at = c.loop-self in
     let inv = at.invariant in
     let put = c.replace_last.ensures in
-    let whole = items_of g.S.Slots c.args.self.now in
-    let old = items_of g.S.Slots at.self in
-    let new = items_of g.S.Slots c.replace_last.new.self in
+    let whole = (view g.S.Slots c.args.self.now).items in
+    let old = (view g.S.Slots at.self).items in
+    let new = (view g.S.Slots c.replace_last.new.self).items in
     let y = c.f.result in
     let run = inv.ran in
     let len = c.len.ensures.value in
@@ -41,7 +41,7 @@ loop-self-preserved g c =
       ran = (
         run.0 ++ y ∷ [],
         length_push run.0 y ∙ add-one (length run.0) ∙ ap suc run.1 ∙ one_more whole old new some put.items inv.shorter,
-        put.spare ∙ ap (λ l. y ∷ l) run.2 ∙ ap (λ l. l ++ spare_of g.S.Slots c.args.self.now) (sym (reverse-append run.0 (y ∷ []))),
+        put.spare ∙ ap (λ l. y ∷ l) run.2 ∙ ap (λ l. l ++ (view g.S.Slots c.args.self.now).spare) (sym (reverse-append run.0 (y ∷ []))),
         chained_more (λ f y f'. Called g.F.FnMut f tt y f') _ run.0 at.f y _ run.3 (called g.F.FnMut c.f.ensures refl),
       );
       callable = search of_calls;
@@ -53,8 +53,8 @@ returns-clause-items g c =
     let at = c.loop-self in
     let len = c.len.ensures.value in
     let done = c.loop-self-test.false in
-    let ends : length (items_of g.S.Slots at.self) ≡ c.args.n = omega (arith, at.invariant.enough) in
-    at.invariant.kept ∙ ap (λ n. take n (items_of g.S.Slots c.args.self.now)) ends
+    let ends : length (view g.S.Slots at.self).items ≡ c.args.n = omega (arith, at.invariant.enough) in
+    at.invariant.kept ∙ ap (λ n. take n (view g.S.Slots c.args.self.now).items) ends
 
 pub returns-clause-spare : goal.returns-clause-spare
 returns-clause-spare g c =
@@ -62,5 +62,5 @@ returns-clause-spare g c =
     let run = at.invariant.ran in
     let len = c.len.ensures.value in
     let done = c.loop-self-test.false in
-    let ends : length (items_of g.S.Slots at.self) ≡ c.args.n = omega (arith, at.invariant.enough) in
-    (run.0, (run.0, refl, run.3), run.1 ∙ ap (λ n. length (items_of g.S.Slots c.args.self.now) - n) ends, run.2)
+    let ends : length (view g.S.Slots at.self).items ≡ c.args.n = omega (arith, at.invariant.enough) in
+    (run.0, (run.0, refl, run.3), run.1 ∙ ap (λ n. length (view g.S.Slots c.args.self.now).items - n) ends, run.2)

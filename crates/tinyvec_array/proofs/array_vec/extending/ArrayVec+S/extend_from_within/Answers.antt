@@ -1,7 +1,8 @@
 use Rattle.std.proofs.Common.{length, refl, ap, ◌∙◌, arith, rules}
 use Rattle.tinyvec_slots.specs.Ranges.{items_within}
 use Rattle.tinyvec_slots.proofs.BorderLemmas.{removed_in, clones_added, clones_not_added}
-use Rattle.tinyvec_array.specs.ArrayVec.{view_of, items_of}
+use Rattle.tinyvec_array.specs.ArrayVec.{view_of}
+use Rattle.tinyvec_array.specs.View.{view}
 use Rattle.tinyvec_array.proofs.ViewLemmas.{parts_of}
 use Rattle.tinyvec_array.proofs.array_vec.extending.ArrayVec+S.extend_from_within.Goals as goal
 
@@ -17,7 +18,7 @@ returns-in_err-clone_within g c =
     let h = rw (c.as_slice_mut.ensures.value, range.0, ← written) at c.in_err-clone_within.ensures.refused in
     record {
       lender = record { same_reference = g.S.Slots.name_kept v.slots c.clone_within.new.slots; slot_count = ap length written ∙ c.clone_within.auto.slots ∙ ap length c.as_slice_mut.ensures.value };
-      clones = clones_not_added g.S.Item.Clone (view_of g.S.Slots v) len.result len.ensures.value (items_within (items_of g.S.Slots v) first last) _ c.requires.room _ (search rules) h.0 h.1 h.2;
+      clones = clones_not_added g.S.Item.Clone (view_of g.S.Slots v) len.result len.ensures.value (items_within (view g.S.Slots v).items first last) _ c.requires.room _ (search rules) h.0 h.1 h.2;
     }
 
 pub returns : goal.returns
@@ -32,7 +33,7 @@ returns g c =
     let made = rw (c.as_slice_mut.ensures.value, range.0, ← written) at c.in_ok-clone_within.ensures.ok in
     record {
       lender = record { same_reference = g.S.Slots.name_kept v.slots c.clone_within.new.slots; slot_count = ap length written ∙ c.clone_within.auto.slots ∙ ap length c.as_slice_mut.ensures.value };
-      clones = rw (c.to_len.ensures.number, range.1) (clones_added g.S.Item.Clone (view_of g.S.Slots v) len.result len.ensures.value (items_within (items_of g.S.Slots v) first last) _ c.requires.room _ refl made);
+      clones = rw (c.to_len.ensures.number, range.1) (clones_added g.S.Item.Clone (view_of g.S.Slots v) len.result len.ensures.value (items_within (view g.S.Slots v).items first last) _ c.requires.room _ refl made);
     }
 
 pub clone_within-requires-clause-fits : goal.clone_within-requires-clause-fits

@@ -3,8 +3,7 @@ use Rattle.std.specs.Prelude.{OnOk, OnErr}
 use Rattle.std.specs.List.{AllZip}
 use Rattle.std.proofs.lemmas.List.Elements.{same_from_all_zip}
 use Rattle.std.proofs.lemmas.Result.{on_ok_weaker, on_err_weaker}
-use Rattle.tinyvec_array.specs.ArrayVec.{items_of}
-use Rattle.tinyvec_array.specs.View.{NothingVacated}
+use Rattle.tinyvec_array.specs.View.{view, NothingVacated}
 use Rattle.tinyvec_array.specs.ViewLaws.{used_by}
 use Rattle.tinyvec_array.proofs.array_vec.extending.ArrayVec+S.grow_by_clones.Goals as goal
 
@@ -19,7 +18,7 @@ returns-clause-grown g c =
     let C = g.S.Item.Clone.is_clone in
     let x = c.args.x.now in
     let n = c.args.n in
-    let list = items_of g.S.Slots c.args.self.now in
+    let list = (view g.S.Slots c.args.self.now).items in
     let r = c.put_clones_of.result in
     let put = c.put_clones_of.ensures in
     let all : take n list ≡ list = take_all n list c.requires.longer in

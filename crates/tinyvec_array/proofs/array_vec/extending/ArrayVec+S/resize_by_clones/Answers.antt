@@ -1,5 +1,5 @@
 use Rattle.std.proofs.Common.{length, length-take-le, refl, ap, ◌∙◌, arith}
-use Rattle.tinyvec_array.specs.ArrayVec.{items_of}
+use Rattle.tinyvec_array.specs.View.{view}
 use Rattle.tinyvec_array.proofs.array_vec.extending.ArrayVec+S.resize_by_clones.Goals as goal
 
 pub returns-in-Ok-clause-cut : goal.returns-in-Ok-clause-cut
@@ -10,7 +10,7 @@ returns-in-Ok-clause-cut g c = λ _.
 pub returns-in-Ok-clause-len : goal.returns-in-Ok-clause-len
 returns-in-Ok-clause-len g c =
     let shorter = c.if-new_len-len.true in
-    ap length c.in-Ok.ensures.cut.items ∙ length-take-le c.args.new_len (items_of g.S.Slots c.args.self.now) (omega (arith, c.len-len.ensures.value, shorter))
+    ap length c.in-Ok.ensures.cut.items ∙ length-take-le c.args.new_len (view g.S.Slots c.args.self.now).items (omega (arith, c.len-len.ensures.value, shorter))
 
 pub returns-in-Err-clause-cut : goal.returns-in-Err-clause-cut
 returns-in-Err-clause-cut g c = λ _.

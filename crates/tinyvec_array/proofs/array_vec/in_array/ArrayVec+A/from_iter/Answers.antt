@@ -1,7 +1,6 @@
 use Rattle.std.proofs.Common.{◌-◌, ◌≤◌, ◌++◌, length, take, ap, ◌∙◌, arith, rules, take_all, length-drop}
 use Rattle.std.proofs.lemmas.List.Elements.{All-drop}
-use Rattle.tinyvec_array.specs.ArrayVec.{items_of, spare_of}
-use Rattle.tinyvec_array.specs.View.{NothingVacated}
+use Rattle.tinyvec_array.specs.View.{view, NothingVacated}
 use Rattle.tinyvec_array.specs.ViewLaws.{used_by}
 use Rattle.tinyvec_array.proofs.ViewLemmas.{parts_of}
 use Rattle.tinyvec_array.proofs.array_vec.in_array.ArrayVec+A.from_iter.Goals as goal
@@ -41,10 +40,10 @@ returns-in-Ok-clause-spare g c =
     let made = c.new-vec.ensures.spare in
     let old = c.new-vec.result in
     let new = c.extend.new.self in
-    let n = length (items_of g.A.Slots new) - length (items_of g.A.Slots old) in
+    let n = length (view g.A.Slots new).items - length (view g.A.Slots old).items in
     let none = ap length c.new-vec.ensures.items in
-    let long = length-drop n (spare_of g.A.Slots old) in
-    rw (used_by NothingVacated _ _ _ _ n (omega (arith, none)) (c.in-Ok.ensures.grows.slot_rule)) (omega (arith, none, long, made.0), All-drop g.A.Item.Default.is_default n (spare_of g.A.Slots old) made.1)
+    let long = length-drop n (view g.A.Slots old).spare in
+    rw (used_by NothingVacated _ _ _ _ n (omega (arith, none)) (c.in-Ok.ensures.grows.slot_rule)) (omega (arith, none, long, made.0), All-drop g.A.Item.Default.is_default n (view g.A.Slots old).spare made.1)
 
 -- as many slots as the new vector had
 pub returns-in-Ok-clause-fits : goal.returns-in-Ok-clause-fits

@@ -6,8 +6,8 @@ use Rattle.tinyvec_slots.proofs.BorderLemmas.{list_to, spare_from}
 use Rattle.std.proofs.lemmas.Slice.{between_is}
 use Rattle.tinyvec_array.specs.SliceParts.{with_part}
 use Rattle.tinyvec_array.proofs.PartLemmas.{with_part-as_long}
-use Rattle.tinyvec_array.specs.ArrayVec.{items_of, spare_of, slots_of, SameLender}
-use Rattle.tinyvec_array.specs.View.{NothingVacated}
+use Rattle.tinyvec_array.specs.ArrayVec.{slots_of, SameLender}
+use Rattle.tinyvec_array.specs.View.{view, NothingVacated}
 use Rattle.tinyvec_array.specs.ViewLaws.{becomes, same_place, used_by}
 use Rattle.tinyvec_array.proofs.RuleLemmas.{rule_freed}
 use Rattle.tinyvec_array.specs.Lends.{at_slots}
@@ -16,7 +16,7 @@ use Rattle.tinyvec_array.proofs.array_vec.in_array.ArrayVec+A.split_off.Goals as
 
 pub put_taken-requires : goal.put_taken-requires
 put_taken-requires g c =
-    let L = items_of g.A.Slots c.args.self.now in
+    let L = (view g.A.Slots c.args.self.now).items in
     let slots = slots_of g.A.Slots c.args.self.now in
     let m = c.args.at in
     let n = c.len-len.result in
@@ -34,7 +34,7 @@ set_len-requires g c =
     let n = c.len-len.result in
     let front = length-take-le m slots (omega (arith, c.len-len.ensures.value, c.len-len.ensures.fits, c.requires)) in
     let moved = ap length (c.part_of.ensures.value ∙ between_is slots m n
-    ∙ ap (drop m) (list_to (g.A.Slots.count c.args.self.now.len) slots n c.len-len.ensures.value)) ∙ length-drop m (items_of g.A.Slots c.args.self.now) in
+    ∙ ap (drop m) (list_to (g.A.Slots.count c.args.self.now.len) slots n c.len-len.ensures.value)) ∙ length-drop m (view g.A.Slots c.args.self.now).items in
     let as_long : length left ≡ n - m = omega (arith, c.put_taken.ensures.left.0, moved, c.len-len.ensures.value) in
     let whole : length (slots_of g.A.Slots (at_slots g.A.Slots c.args.self.now (with_part slots m n left))) ≡ length (take m slots) + length tail =
     ap length (g.A.Slots.slots_written c.args.self.now.slots (with_part slots m n left) ∙ sym (with_part-as_long slots left m n as_long) ∙ append_assoc (take m slots) left (drop c.len-len.result slots)) ∙ length-append (take m slots) tail in
@@ -43,7 +43,7 @@ set_len-requires g c =
 pub returns-clause-becomes : goal.returns-clause-becomes
 returns-clause-becomes g c =
     let v = c.args.self.now in
-    let L = items_of g.A.Slots v in
+    let L = (view g.A.Slots v).items in
     let slots = slots_of g.A.Slots v in
     let k = g.A.Slots.count v.len in
     let m = c.args.at in
@@ -79,15 +79,15 @@ returns-clause-tail g c =
 pub returns-clause-tail_spare : goal.returns-clause-tail_spare
 returns-clause-tail_spare g c =
     let v = c.args.self.now in
-    let L = items_of g.A.Slots v in
+    let L = (view g.A.Slots v).items in
     let slots = slots_of g.A.Slots v in
     let m = c.args.at in
     let n = c.len-len.result in
     let long = c.len-len.ensures.value in
-    let old = spare_of g.A.Slots c.new-back.result in
+    let old = (view g.A.Slots c.new-back.result).spare in
     let fresh = c.new-back.ensures.spare in
     let moved = ap length (c.part_of.ensures.value ∙ between_is slots m n
     ∙ ap (drop m) (list_to (g.A.Slots.count v.len) slots n long)) ∙ length-drop m L in
     let left = length-drop (length c.part_of.result.now) old in
-    let more = length-append (items_of g.A.Slots c.new-back.result) c.part_of.result.now in
+    let more = length-append (view g.A.Slots c.new-back.result).items c.part_of.result.now in
     rw (used_by NothingVacated _ _ _ _ (length c.part_of.result.now) (ap length c.put_taken.ensures.becomes.items ∙ more) (c.put_taken.ensures.becomes.slot_rule)) (omega (arith, left, fresh.0, moved), All-drop g.A.Item.Default.is_default (length c.part_of.result.now) old fresh.1)

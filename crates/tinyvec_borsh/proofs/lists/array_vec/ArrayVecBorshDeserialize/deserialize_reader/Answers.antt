@@ -2,7 +2,7 @@ use Rattle.std.proofs.Common.{◌≡◌, ◌∙◌, ◌≤◌, ap, take, inl, ar
 use Rattle.std.proofs.lemmas.List.{length-map}
 use Rattle.std.proofs.lemmas.Result.{err_from_is_err_and}
 use Rattle.tinyvec_slots.specs.Slots.{items_in}
-use Rattle.tinyvec_array.specs.ArrayVec.{items_of}
+use Rattle.tinyvec_array.specs.View.{view}
 use Rattle.tinyvec_borsh.specs.FrontsLaws.{counted-fronts}
 use Rattle.tinyvec_borsh.specs.Items.{IsCount, SpellsItems}
 use Rattle.tinyvec_borsh.specs.TwoParts.{HasParts}
@@ -94,7 +94,7 @@ returns-then-len-count-clause-rest g c =
 pub returns-clause-ok : goal.returns-clause-ok
 returns-clause-ok g c =
     let t = c.in_ok-read_items.ensures.ok in
-    let same : items_of g.A.Slots c.from_array_len.result ≡ t.0 = ap items_in c.from_array_len.ensures.value ∙ ap (take c.min-len.result) (g.A.Slots.slots_written _ _) ∙ t.1 in
+    let same : (view g.A.Slots c.from_array_len.result).items ≡ t.0 = ap items_in c.from_array_len.ensures.value ∙ ap (take c.min-len.result) (g.A.Slots.slots_written _ _) ∙ t.1 in
     let long = length-map t.0 g.A.Item.BorshForm.content_of in
     let full : length t.0 ≡ c.min-len.result = search rules in
     let all : c.in_ok-count.count ≡ c.min-len.result = search rules in
@@ -104,7 +104,7 @@ returns-clause-ok g c =
 pub returns-clause-valid : goal.returns-clause-valid
 returns-clause-valid g c =
     let t = c.in_ok-read_items.ensures.ok in
-    let same : items_of g.A.Slots c.from_array_len.result ≡ t.0 = ap items_in c.from_array_len.ensures.value ∙ ap (take c.min-len.result) (g.A.Slots.slots_written _ _) ∙ t.1 in
+    let same : (view g.A.Slots c.from_array_len.result).items ≡ t.0 = ap items_in c.from_array_len.ensures.value ∙ ap (take c.min-len.result) (g.A.Slots.slots_written _ _) ∙ t.1 in
     let long = length-map t.0 g.A.Item.BorshForm.content_of in
     let full : length t.0 ≡ min c.in_ok-count.count g.A.Array.CAPACITY = search rules in
     rw same (record { few = omega (arith, long, full); counted = omega (arith, long, full, c.in_ok-count.ensures.valid); items = t.3 })
