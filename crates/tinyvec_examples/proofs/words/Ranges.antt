@@ -7,14 +7,14 @@ use Rattle.tinyvec_examples.proofs.words.Shown.{nums}
 pub example-IsRangeOf : IsRangeOf (nums (1 ∷ 2 ∷ 3 ∷ 4 ∷ [])) (Included 1) (Excluded 3)
 example-IsRangeOf = (omega arith, omega arith)
 
-pub example-before : items_before (nums (1 ∷ 2 ∷ 3 ∷ 4 ∷ [])) (Included 1) ≡ 1 ∷ []
-example-before = refl
+pub example-items_before : items_before (nums (1 ∷ 2 ∷ 3 ∷ 4 ∷ [])) (Included 1) ≡ 1 ∷ []
+example-items_before = refl
 
-pub example-removed : items_within (nums (1 ∷ 2 ∷ 3 ∷ 4 ∷ [])) (Included 1) (Excluded 3) ≡ 2 ∷ 3 ∷ []
-example-removed = refl
+pub example-items_within : items_within (nums (1 ∷ 2 ∷ 3 ∷ 4 ∷ [])) (Included 1) (Excluded 3) ≡ 2 ∷ 3 ∷ []
+example-items_within = refl
 
-pub example-after : items_after (nums (1 ∷ 2 ∷ 3 ∷ 4 ∷ [])) (Excluded 3) ≡ 4 ∷ []
-example-after = refl
+pub example-items_after : items_after (nums (1 ∷ 2 ∷ 3 ∷ 4 ∷ [])) (Excluded 3) ≡ 4 ∷ []
+example-items_after = refl
 
 pub example-range_start : range_start (Included 1) ≡ 1
 example-range_start = refl

@@ -1,10 +1,9 @@
 -- Examples of a `SliceVec` v over the slots `[1, 2, 0]`, whose list is `[1, 2]`, and of a generic one.
-use Rattle.std.proofs.Common.{◌≡◌, ℕ, List, [], ◌∷◌, refl, length}
+use Rattle.std.proofs.Common.{◌≡◌, ℕ, List, [], ◌∷◌, refl}
 use Rattle.std.specs.Borrow.{MutBor}
 use Rattle.tinyvec_array.specs.declared.slots.Slots as Storage
 use Rattle.tinyvec_array.specs.declared.array_vec.ArrayVec.{ArrayVec}
 use Rattle.tinyvec_array.specs.ArrayVec.{view_of, slots_of, name_of, SameLender}
-use Rattle.tinyvec_array.specs.View.{view}
 use Rattle.tinyvec_array.specs.SliceVec.{slice_view, slice_items, slice_spare, slice_slots, slice_name}
 use Rattle.tinyvec_array.specs.CutLaws.{CutOf}
 use Rattle.tinyvec_examples.proofs.words.Shown.{D, over}
@@ -28,15 +27,6 @@ module _ (v : ArrayVec (MutBor (List ℕ)) ℕ) (lent : v.slots.now ≡ 1 ∷ 2 
 module _ {B L : Type 0} (g : Storage.Ghosts B ℕ L) (v : ArrayVec B L) (lent : g.slots v.slots ≡ 1 ∷ 2 ∷ 0 ∷ []) (len : g.count v.len ≡ 2) where
   pub example-view_of : view_of g v ≡ over (1 ∷ 2 ∷ []) (0 ∷ [])
   example-view_of = rw (lent, len) refl
-
-  pub example-items_of : (view g v).items ≡ 1 ∷ 2 ∷ []
-  example-items_of = rw (lent, len) refl
-
-  pub example-spare_of : (view g v).spare ≡ 0 ∷ []
-  example-spare_of = rw (lent, len) refl
-
-  pub example-len_of : length (view g v).items ≡ 2
-  example-len_of = rw (lent, len) refl
 
   pub example-slots_of : slots_of g v ≡ 1 ∷ 2 ∷ 0 ∷ []
   example-slots_of = lent
