@@ -1,5 +1,5 @@
 -- What has the same frame: the same vector, and one whose items were written. The slot rule reads no more of a vector.
-use Rattle.std.proofs.Common.{◌≡◌, ◌≤◌, List, length, length-take, drop, refl, sym, ap, ◌∙◌, take_at, arith}
+use Rattle.std.proofs.Common.{◌≡◌, List, length, drop, refl, sym, ap, ◌∙◌, take_at}
 use Rattle.tinyvec_array.specs.CutLaws.{written_of}
 use Rattle.tinyvec_array.specs.SpliceLaws.{kept_count}
 use Rattle.tinyvec_array.specs.Lends.{with_items_of}

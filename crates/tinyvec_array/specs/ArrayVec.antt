@@ -31,16 +31,16 @@ module _ {S T L : Type 0} (g : Storage.Ghosts S T L) where
 -- The same words of a vector in an array.
 module _ {T : Type 0} {n : ℕ} where
   -- the slots, and how many of them hold the list
-  abbrev pub view : ArrayVec (List T) (UpTo n) → Slots T
-  view v = record { slots = v.slots; len = v.len.len }
+  abbrev pub array_view : ArrayVec (List T) (UpTo n) → Slots T
+  array_view v = record { slots = v.slots; len = v.len.len }
 
   -- the list
   abbrev pub items : ArrayVec (List T) (UpTo n) → List T
-  items v = items_in (view v)
+  items v = items_in (array_view v)
 
   -- the spare slots after it
   abbrev pub spare : ArrayVec (List T) (UpTo n) → List T
-  spare v = spare_in (view v)
+  spare v = spare_in (array_view v)
 
   -- the length of the list
   abbrev pub items_len : ArrayVec (List T) (UpTo n) → ℕ

@@ -1,6 +1,6 @@
 -- What a script sees of its vectors.
 use Rattle.std.specs.Prelude.{ℤ}
-use Rattle.tinyvec_array.specs.ArrayVec.{view as array_view, view_of}
+use Rattle.tinyvec_array.specs.ArrayVec.{array_view, view_of}
 use Rattle.tinyvec_array.specs.declared.slots.Slots as Storage
 use Rattle.tinyvec.specs.TinyVec.{tiny_view}
 use Rattle.tinyvec_script.specs.Script.{State}

@@ -1,6 +1,5 @@
 -- What a contract sees of an `ExtractIf`.
-use Rattle.std.specs.Prelude.{◌≡◌, ℕ, ◌+◌, ◌-◌, ◌≤◌, Bool, List, [], ◌∷◌, ◌++◌, length, take, drop, slice_range, Option}
-use Rattle.std.specs.Bool.{MatchBool}
+use Rattle.std.specs.Prelude.{◌≡◌, ℕ, ◌+◌, ◌-◌, ◌≤◌, Bool, List, ◌++◌, length, take, drop, slice_range, Option}
 use Rattle.std.specs.Borrow.{GName, MutBor}
 use Rattle.std.specs.Fn.{CalledAtMut, Mut}
 use Rattle.std.specs.Iterator.Runs.{EveryRun, AllItems}

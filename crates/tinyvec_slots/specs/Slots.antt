@@ -1,5 +1,5 @@
 -- The list and the spare slots, what is a default, and what a change of the list does to the spare slots.
-use Rattle.std.specs.Prelude.{◌≡◌, ℕ, ◌-◌, ◌≤◌, List, ◌++◌, length, take, drop, slice_set, All}
+use Rattle.std.specs.Prelude.{◌≡◌, ℕ, ◌-◌, ◌≤◌, List, ◌++◌, length, take, drop, All}
 
 -- all the slots, and how many of them hold the list
 pub record Slots (T : Type 0) : Type 0 where

@@ -4,7 +4,7 @@ use Rattle.std.proofs.lemmas.Bool.{cases_lt}
 use Rattle.std.proofs.lemmas.List.{drop-drop, same_lists, places}
 use Rattle.tinyvec_slots.specs.Slots.{items_in, spare_in, len_in, split_at}
 use Rattle.tinyvec_slots.proofs.BorderLemmas.{list_to, spare_from}
-use Rattle.tinyvec_array.specs.ArrayVec.{items, items_len, spare, view}
+use Rattle.tinyvec_array.specs.ArrayVec.{items, items_len, spare, array_view}
 use Rattle.tinyvec_array.specs.CutLaws.{written_of}
 use Rattle.tinyvec_array.specs.Lends.{with_items_of}
 use Rattle.tinyvec_array.specs.SpliceLaws.{kept_count}
@@ -66,17 +66,17 @@ pub repeated_further : {T : Type 0} (xs bs cs : List T) (i a k n : ℕ) → a + 
 repeated_further xs bs cs i a k n within le first next = rw (next, first) (same_lists _ _ (search (rules, places)) (λ j d h. grind (arith, places)))
 
 -- n spare slots joined the list of v, which then was written over as a slice
-module _ {k : ℕ} (v mid : ArrayVec (List ℕ) (UpTo k)) (n len : ℕ) (at : len ≡ items_len v) (is : view mid ≡ split_at (len + n) v.slots) where
+module _ {k : ℕ} (v mid : ArrayVec (List ℕ) (UpTo k)) (n len : ℕ) (at : len ≡ items_len v) (is : array_view mid ≡ split_at (len + n) v.slots) where
   pub longer : items mid ≡ items v ++ take n (spare v)
   longer = ap (λ w. items_in w) is ∙ take-add len n v.slots ∙ (λ i. list_to v.len.len v.slots len at i ++ take n (spare_from v.len.len v.slots len at i))
 
   pub filled : (ws xs : List ℕ) → n ≤ length v.slots - items_len v → length ws ≡ items_len mid → ws ≡ xs
-      → AddsBytes (view v) (view (with_items_of (array_slots k) mid ws)) xs
+      → AddsBytes (array_view v) (array_view (with_items_of (array_slots k) mid ws)) xs
   filled ws xs room long put =
       let written = written_of (array_slots k) mid ws long in
-      let size : len_in (view (with_items_of (array_slots k) mid ws)) ≡ items_len v + n =
+      let size : len_in (array_view (with_items_of (array_slots k) mid ws)) ≡ items_len v + n =
       omega (arith, ap length written.0, long, ap length longer, length-append (items v) (take n (spare v)), length-take n (spare v), parts_of (array_slots k) v, room) in
-      let count : n ≡ len_in (view (with_items_of (array_slots k) mid ws)) - items_len v = omega (arith, size) in
+      let count : n ≡ len_in (array_view (with_items_of (array_slots k) mid ws)) - items_len v = omega (arith, size) in
       record {
         items = written.0 ∙ put;
         spare =

@@ -6,8 +6,8 @@ use Rattle.std.specs.Prelude.{Ok}
 use Rattle.tinyvec_slots.specs.Slots.{SlotRule}
 use Rattle.tinyvec_slots.specs.Touches.{touch_count}
 use Rattle.tinyvec_array.proofs.Named.{array_slots}
-use Rattle.tinyvec_array.specs.ArrayVec.{view, items, all_slots}
-use Rattle.tinyvec_array.specs.View.{StaysInPlace, view as slots_view}
+use Rattle.tinyvec_array.specs.ArrayVec.{array_view, items, all_slots}
+use Rattle.tinyvec_array.specs.View.{StaysInPlace, view}
 use Rattle.tinyvec_array.specs.CutLaws.{KeptOf}
 use Rattle.tinyvec_array.specs.declared.slots.Slots as Storage
 use Rattle.tinyvec_array.specs.declared.bound.UpTo.{UpTo}
@@ -60,7 +60,7 @@ module _ (s t : Splice (ArrayVec (List ℕ) (UpTo 5)) (Fuse (List ℕ))) (vec : 
   pub example-SpliceStepsBack : (gives : Fuse (List ℕ) → Option ℕ → Fuse (List ℕ) → Type 0) → SpliceStepsBack items (KeptOf G) gives s (Some 3) t → splice_left items s ≡ splice_left items t ++ 3 ∷ []
   example-SpliceStepsBack gives h = h.0.left
 
-  pub example-SpliceEnds : (iter : Iterator.Ghosts (List ℕ) ℕ) → SpliceEnds items (λ v. length (all_slots v)) (λ v w. StaysInPlace D (slots_view G v) (slots_view G w)) iter s (Ok tt) (array_over (1 ∷ 7 ∷ 4 ∷ []) (0 ∷ 0 ∷ [])) → SlotRule D (view (splice_vec s)) (view (array_over (1 ∷ 7 ∷ 4 ∷ []) (0 ∷ 0 ∷ [])))
+  pub example-SpliceEnds : (iter : Iterator.Ghosts (List ℕ) ℕ) → SpliceEnds items (λ v. length (all_slots v)) (λ v w. StaysInPlace D (view G v) (view G w)) iter s (Ok tt) (array_over (1 ∷ 7 ∷ 4 ∷ []) (0 ∷ 0 ∷ [])) → SlotRule D (array_view (splice_vec s)) (array_view (array_over (1 ∷ 7 ∷ 4 ∷ []) (0 ∷ 0 ∷ [])))
   example-SpliceEnds iter h = h.changes.slot_rule
 
   pub example-SpliceKeeps : SpliceKeeps items (KeptOf G) s t → splice_lender t ≡ splice_lender s

@@ -1,7 +1,7 @@
 //! Bytes of a list that are copied to the heap, or replaced by others, by moves of memory.
 ghost use Rattle.std.specs.Prelude.{◌≡◌, ◌+◌, ◌-◌, ◌*◌, ◌≤◌, ◌++◌, ◌∷◌, [], length, take, drop, false, is_ok, if◌then◌else◌, IsOk, IfOk, OnErr, vec_len, vec_capacity, All};
 ghost use Rattle.tinyvec_slots.specs.Slots.{SlotRule};
-ghost use Rattle.tinyvec_array.specs.ArrayVec.{items, items_len, all_slots, spare, view};
+ghost use Rattle.tinyvec_array.specs.ArrayVec.{items, items_len, all_slots, spare, array_view};
 ghost use Rattle.tinyvec.specs.TinyVec.{tiny_items, tiny_len, tiny_spare, tiny_capacity, is_inline, IsInline, tiny_view};
 ghost use Rattle.tinyvec_text.specs.InlineText.{AddsBytes, ListGrows};
 ghost use Rattle.tinyvec.specs.View.{IsTail, Becomes, Reserved};
@@ -110,7 +110,7 @@ fn cut_few<const N: usize>(v: &mut ArrayVec<[u8; N]>, new_len: usize)
     requires few { items_len v.old - new_len ≤ 16 }
     requires clear { All (λ b. b ≡ 0) (spare v.old) }
     ensures items { items v.new ≡ take new_len (items v.old) }
-    ensures slot_rule { SlotRule (λ b. b ≡ 0) (view v.old) (view v.new) }
+    ensures slot_rule { SlotRule (λ b. b ≡ 0) (array_view v.old) (array_view v.new) }
     ensures slot_count { length (all_slots v.new) ≡ length (all_slots v.old) }
 {
     v.set_len(new_len);
@@ -211,7 +211,7 @@ fn put_byte_slow<const N: usize>(
 fn insert_inline<const N: usize>(v: &mut ArrayVec<[u8; N]>, index: usize, bytes: &[u8])
     requires in_list { index ≤ items_len v.old }
     requires room { length bytes.now ≤ length (all_slots v.old) - items_len v.old }
-    ensures { AddsBytes (view v.old) (view v.new) (take index (items v.old) ++ bytes.now ++ drop index (items v.old)) }
+    ensures { AddsBytes (array_view v.old) (array_view v.new) (take index (items v.old) ++ bytes.now ++ drop index (items v.old)) }
 {
     let len = v.len();
     v.set_len(len + bytes.len());
@@ -356,7 +356,7 @@ fn push_part_slow<const N: usize>(
 fn repeat_inline<const N: usize>(v: &mut ArrayVec<[u8; N]>, start: usize, count: usize)
     requires in_list { start + count ≤ items_len v.old }
     requires room { count ≤ length (all_slots v.old) - items_len v.old }
-    ensures { AddsBytes (view v.old) (view v.new) (items v.old ++ take count (drop start (items v.old))) }
+    ensures { AddsBytes (array_view v.old) (array_view v.new) (items v.old ++ take count (drop start (items v.old))) }
 {
     let len = v.len();
     v.set_len(len + count);
@@ -445,7 +445,7 @@ fn push_slow<const N: usize>(list: &mut TinyVec<[u8; N]>, bytes: &[u8]) -> Resul
 #[inline(always)]
 fn append_inline<const N: usize>(v: &mut ArrayVec<[u8; N]>, bytes: &[u8])
     requires { length bytes.now ≤ length (all_slots v.old) - items_len v.old }
-    ensures { AddsBytes (view v.old) (view v.new) (items v.old ++ bytes.now) }
+    ensures { AddsBytes (array_view v.old) (array_view v.new) (items v.old ++ bytes.now) }
 {
     let len = v.len();
     v.set_len(len + bytes.len());

@@ -1,6 +1,6 @@
 use Rattle.std.proofs.Common.{◌≡◌, ◌+◌, ◌∷◌, [], pos, rules, refl, drop, ap, ◌∙◌}
 use Rattle.tinyvec_slots.proofs.SlotsLemmas.{zeros_are, freed, slots_are}
-use Rattle.tinyvec_array.specs.ArrayVec.{items, spare, view, items_len}
+use Rattle.tinyvec_array.specs.ArrayVec.{items, spare, array_view, items_len}
 use Rattle.tinyvec_array.specs.View.{NothingVacated}
 use Rattle.tinyvec_array.specs.ViewLaws.{used_by, freed_by}
 use Rattle.tinyvec_examples.proofs.ends.popped.Goals as goal
@@ -15,5 +15,5 @@ returns c =
     let behind : spare c.push-2.new.self ≡ pos 0 ∷ pos 0 ∷ [] = second ∙ ap (drop 1) first ∙ rw made refl in
     let last : items c.pop-two.new.self ≡ pos 1 ∷ [] = search rules in
     let fewer : items_len c.push-2.new.self ≡ items_len c.pop-two.new.self + 1 = rw (two, last) refl in
-    let left = freed _ (pos 0) (λ x h. h) 1 (view c.push-2.new.self) (view c.pop-two.new.self) (freed_by (λ x. x ≡ pos 0) _ _ _ _ 1 fewer (c.pop-two.ensures.becomes.slot_rule)) in
-    c.into_inner.ensures.slots ∙ slots_are (view c.pop-two.new.self) ∙ rw (left, last, behind) refl
+    let left = freed _ (pos 0) (λ x h. h) 1 (array_view c.push-2.new.self) (array_view c.pop-two.new.self) (freed_by (λ x. x ≡ pos 0) _ _ _ _ 1 fewer (c.pop-two.ensures.becomes.slot_rule)) in
+    c.into_inner.ensures.slots ∙ slots_are (array_view c.pop-two.new.self) ∙ rw (left, last, behind) refl

@@ -2,7 +2,7 @@ use Rattle.std.proofs.Common.{refl, ◌≡◌, ◌++◌, List, ℕ, [], take, po
 use Rattle.tinyvec_slots.specs.Slots.{spare_in, split_at}
 use Rattle.tinyvec_slots.proofs.SlotsLemmas.{defaults_are}
 use Rattle.tinyvec_script.specs.Script.{start, zeros, State, IsZero}
-use Rattle.tinyvec_array.specs.ArrayVec.{view as array_view, all_slots}
+use Rattle.tinyvec_array.specs.ArrayVec.{array_view, all_slots}
 use Rattle.tinyvec_array.specs.SliceVec.{slice_view}
 use Rattle.tinyvec.specs.TinyVec.{tiny_view}
 use Rattle.std.proofs.KnownBytes.{Appends-nil, Appends-trans, Consumes-nil, Consumes-trans, Consumes-kept}

@@ -1,6 +1,6 @@
 use Rattle.std.proofs.Common.{◌≡◌, ◌++◌, All, length, drop, sym, ap, subst, ◌∙◌}
 use Rattle.tinyvec_slots.specs.Slots.{spare_in as left, items_in as listed}
-use Rattle.tinyvec_array.specs.ArrayVec.{view}
+use Rattle.tinyvec_array.specs.ArrayVec.{array_view}
 use Rattle.tinyvec_array.proofs.Named.{array_slots}
 use Rattle.tinyvec_array.proofs.ViewLemmas.{put_back, slots_of-back}
 use Rattle.tinyvec_text.proofs.Lists.{zero_behind, cut_zero}
@@ -22,4 +22,4 @@ returns-clause-slot_rule g c =
     let at = c.set_len.ensures.value in
     let long : length ws ≡ length (drop n v.slots) = c.clear_few.ensures.len ∙ ap length (seen ∙ ap (λ w. left w) at) in
     let slots = slots_of-back (array_slots g.row.N) mid ws (c.clear_few.ensures.len ∙ ap length seen) ∙ ap (λ w. listed w ++ ws) at in
-    (cut_zero (view v) (view (put_back (array_slots g.row.N) mid ws)) ws n (ap (λ w. w.len) at) slots c.requires.in_list long c.clear_few.ensures.zero c.requires.clear).1
+    (cut_zero (array_view v) (array_view (put_back (array_slots g.row.N) mid ws)) ws n (ap (λ w. w.len) at) slots c.requires.in_list long c.clear_few.ensures.zero c.requires.clear).1

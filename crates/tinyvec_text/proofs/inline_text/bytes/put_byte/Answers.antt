@@ -1,7 +1,7 @@
 use Rattle.std.proofs.Common.{◌≡◌, ◌+◌, ◌-◌, ◌≤◌, ◌∷◌, [], length, length-take, refl, sym, ap, ◌∙◌, arith}
 use Rattle.tinyvec_slots.proofs.Lists.{length-replaced}
 use Rattle.tinyvec_slots.proofs.SlotsLemmas.{slots_used}
-use Rattle.tinyvec_array.specs.ArrayVec.{items, items_len, view}
+use Rattle.tinyvec_array.specs.ArrayVec.{items, items_len, array_view}
 use Rattle.tinyvec.specs.View.{Reserved, in_array}
 use Rattle.tinyvec.specs.PlaceLaws.{place_same}
 use Rattle.tinyvec_text.proofs.inline_text.bytes.put_byte.Goals as goal
@@ -19,7 +19,7 @@ returns-in-Inline g c =
       ok = record {
         items = put.items;
         place = ap in_array put.slot_count ∙ sym (place_same Reserved (items_len v + 1) (in_array (length v.slots)) room);
-        slot_rule = slots_used (λ b. b ≡ 0) (view v) (view new) (items_len new - items_len v) more put.spare;
+        slot_rule = slots_used (λ b. b ≡ 0) (array_view v) (array_view new) (items_len new - items_len v) more put.spare;
         fits = omega (arith, length-take new.len.len new.slots);
       };
       refused = tt;
