@@ -100,11 +100,11 @@ def words_of(file):
 
 
 def arrows(head):
-    """How many arguments a declaration takes that says `(a b : A) : B → {c : C} → D`."""
+    """How many arguments a declaration takes that says `(a b : A) : B → {c : C} (d : D) → E`."""
     own, type_ = contracts.parts_of(f" {head} ", " : ")[:2]
-    taken = contracts.parts_of(type_, " → ")[:-1]
+    taken = [re.sub(r"(?:\{[^{}]*\} ?)+", "", it) for it in contracts.parts_of(type_, " → ")[:-1]]
     names = lambda text: len(" ".join(given_by(text)).split())
-    return names(own) + sum(names(it) or 1 for it in taken if not it.startswith("{"))
+    return names(own) + sum(names(it) or 1 for it in taken if it)
 
 
 def given_by(head):
