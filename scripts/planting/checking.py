@@ -9,10 +9,10 @@ from building import crates, running
 VERDICT = re.compile(r"^fn (\S+): (.*)$", re.M)
 # The last line of a check of a whole crate, and of some functions.
 PROVED = re.compile(r"^(?:logic=proved\b|only=(\d+) proved=\1$)", re.M)
-# What a check says of the written proof of a function: its folder, and the error, which goes on in indented lines. Some errors
-# only follow from others. Of a body that is refused for no other errors, nothing is known but that the proof was written for
-# another: it has a name of the code that is gone, or shows what is not to be shown any more.
-ERROR = re.compile(r"^(?:\./)?proofs/(\S+)/\w+\.antt:\d+:\d+: error: (.*(?:\n  .*)*)$", re.M)
+# What a check says of the written proof of a function: its folder, file and line, and the error, which goes on in indented
+# lines. Some errors only follow from others. Of a body that is refused for no other errors, nothing is known but that the proof
+# was written for another: it has a name of the code that is gone, or shows what is not to be shown any more.
+ERROR = re.compile(r"^(?:\./)?proofs/(\S+)/(\w+)\.antt:(\d+):\d+: error: (.*(?:\n  .*)*)$", re.M)
 FOLLOWS = re.compile(r"which (?:was|were) rejected, (?:was|were) not checked")
 STALE = re.compile(
     r"has no field|is not in scope|has no `|was not admitted|the two types|but this has type|one side reads|≟"
@@ -32,18 +32,31 @@ class Said:
         self.verdicts = dict(VERDICT.findall(text))
         self.is_proved = bool(PROVED.search(text))
         self.is_judged = bool(JUDGED.search(text))
-        self.errors = {}
-        for folder, error in ERROR.findall(text):
+        self.errors, self.places = {}, {}
+        for folder, file, line, error in ERROR.findall(text):
             self.errors.setdefault(folder, []).append(" ".join(error.split()))
+            if file == "Answers":
+                self.places.setdefault(folder, []).append(int(line))
 
     def refusal(self, path):
         """Of which kind the refusal of a function is, or None where it is not refused, or only for another that it calls."""
-        verdict, errors = self.verdicts[path], self.errors.get("/".join(path.split("::")[1:]), [])
+        verdict, errors = self.verdicts[path], self.errors.get(folder_of(path), [])
         told = [it for it in errors if not FOLLOWS.search(it)]
         if not verdict.startswith(("not proved", "no proof")) or HIDDEN.match(verdict) or errors and not told:
             return None
         is_stale = told and all(STALE.search(it) for it in told) and not verdict.startswith("no proof")
         return KINDS[1] if is_stale else KINDS[0]
+
+    def without(self, path, texts):
+        """The file of the written answers of a function, and its text without those of which the check tells an error."""
+        file = f"proofs/{folder_of(path)}/Answers.antt"
+        answers, line, left = texts(file), 1, []
+        for part in answers.split("\n\n"):
+            end = line + part.count("\n") + 1
+            if part.startswith("use ") or not any(line <= it <= end for it in self.places.get(folder_of(path), ())):
+                left.append(part)
+            line = end + 1
+        return file, "\n\n".join(left)
 
     def first_error(self):
         lines = self.text.splitlines()
@@ -73,6 +86,11 @@ class Desk:
             if keeps and said.is_proved:
                 running.replace(copy / "out" / crates.KEPT, self.base.out / crates.KEPT)
         return said
+
+
+def folder_of(path):
+    """Where the proof of a function stands, below proofs/."""
+    return "/".join(path.split("::")[1:])
 
 
 def run(words, folder, env=None):

@@ -10,6 +10,9 @@ from . import checking, edits, functions
 
 # How many edits one check tries: more would leave cores idle at the end.
 MOST = 24
+# How often answers are taken away from the proof of one body.
+TURNS = 3
+SURVIVED = "survived"
 
 
 class Run:
@@ -73,38 +76,74 @@ class Run:
     def paths(self, batch):
         return sorted({it.path() for edit in batch for it in self.owners[edit]})
 
-    def check(self, batch, is_whole=False):
-        """Checks the functions that these edits of a crate change, or all of the crate."""
+    def check(self, batch, is_whole=False, answers=()):
+        """Checks the functions that these edits of a crate change, or all of the crate, with these texts of written answers."""
         crate, paths = batch[0].crate, [] if is_whole else self.paths(batch)
-        return self.desk(crate).check(edits.merged(batch, edits.reader(self.crates[crate].folder)), paths, 1)
+        texts = edits.merged(batch, edits.reader(self.crates[crate].folder)) | dict(answers)
+        return self.desk(crate).check(texts, paths, 1)
 
     def try_round(self, batch):
         began, said = time.monotonic(), self.check(batch)
         # A check that gives no verdict, as of an edit that does not compile, shows none of them.
-        unseen = [it for it in batch if not (said.is_judged and self.takes_refusal(it, said))]
+        kinds = {it: self.kind(it, said) for it in batch if said.is_judged}
+        kinds |= self.kinds_without([it for it in kinds if kinds[it] == checking.KINDS[1]], said)
+        unseen = [it for it in batch if not self.is_noted(it, kinds.get(it))]
         self.unseen += unseen
         running.tell(f"{batch[0].crate}: {len(batch)} edits, {len(unseen)} to be tried alone, {running.duration(began)}")
 
-    def takes_refusal(self, edit, said):
-        """Notes how the edit is refused at a function that it changes, or at a closure in it, where it is."""
-        own = {path for path in said.verdicts for it in self.owners[edit] if it.is_meant(path)}
-        kinds = [it for it in map(said.refusal, own) if it]
-        if not self.owners[edit] and said.is_judged and not said.is_proved:
-            kinds = checking.KINDS[:1]
-        if kinds:
-            self.refused[min(kinds, key=checking.KINDS.index)].append(edit)
-        return bool(kinds)
+    def own(self, edit, said):
+        """The functions that the edit changes, and the closures in them, as the check names them."""
+        return {path for path in said.verdicts for it in self.owners[edit] if it.is_meant(path)}
+
+    def kind(self, edit, said):
+        """How the edit is refused at a function that it changes, or at a closure in it, or None."""
+        if not self.owners[edit]:
+            return checking.KINDS[0] if said.is_judged and not said.is_proved else None
+        kinds = [it for it in map(said.refusal, self.own(edit, said)) if it]
+        return min(kinds, key=checking.KINDS.index, default=None)
+
+    def kind_unrefused(self, edit, said):
+        """An edit survived where what it changes is proved. Else another edit of the round hides it."""
+        is_proved = all(said.verdicts[it].startswith("proved") for it in self.own(edit, said))
+        return SURVIVED if is_proved else checking.KINDS[1]
+
+    def kinds_without(self, batch, said):
+        """How the edits of a crate that only written proofs refuse are refused once the answers that no longer fit are taken
+        away. Others may have stood on them, so that it takes a few turns."""
+        kinds, answers = {}, {}
+        for _ in range(TURNS):
+            if not batch:
+                break
+            texts = edits.reader(self.crates[batch[0].crate].folder)
+            current = lambda file: answers.get(file) or texts(file)
+            for path in {path for it in batch for path in self.own(it, said) if said.refusal(path)}:
+                with contextlib.suppress(edits.BadEdit):
+                    answers |= [said.without(path, current)]
+            said = self.check(batch, answers=answers)
+            if not said.is_judged:
+                break
+            kinds |= {it: self.kind(it, said) or self.kind_unrefused(it, said) for it in batch}
+            batch = [it for it in batch if kinds[it] == checking.KINDS[1]]
+        return kinds
+
+    def is_noted(self, edit, kind):
+        """Notes how an edit is refused, and returns whether it is, or survived."""
+        if kind:
+            (self.survived if kind == SURVIVED else self.refused[kind]).append(edit)
+        return bool(kind)
 
     def try_alone(self, batch):
         """Tries an edit by a check of what it changes, and where that does not refuse it by one of the whole crate."""
         edit, said = batch[0], self.check(batch, not self.owners[batch[0]])
-        is_refused = self.takes_refusal(edit, said)
-        if said.is_judged and self.owners[edit] and not is_refused:
+        kind = self.kind(edit, said)
+        if kind == checking.KINDS[1]:
+            kind = self.kinds_without(batch, said).get(edit, kind)
+        elif said.is_judged and self.owners[edit] and not kind:
             said = self.check(batch, True)
-            is_refused = self.takes_refusal(edit, said)
+            kind = self.kind(edit, said)
         if not said.is_judged:
             self.broken.append(f"{edit}: it does not compile: {said.first_error()}")
-        elif not is_refused:
+        elif not self.is_noted(edit, kind):
             self.survived.append(edit)
 
     def report(self):
