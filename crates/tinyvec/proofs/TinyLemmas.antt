@@ -1,6 +1,6 @@
 -- Lemmas on the list, the spare slots and the place.
 use Rattle.std.specs.Prelude.{IsTrue}
-use Rattle.std.proofs.Common.{Vec, Global, vec_capacity, ◌≡◌, ℕ, ◌+◌, ◌-◌, ◌<◌, ◌≤◌, replicate, [], length, drop, ◌++◌, refl, sym, ap, subst, ◌∙◌, length-set, length-drop, slice_set, All, arith}
+use Rattle.std.proofs.Common.{Vec, Global, vec_capacity, ◌≡◌, ℕ, ◌+◌, ◌-◌, ◌<◌, ◌≤◌, replicate, [], length, drop, length-take, ◌++◌, refl, sym, ap, subst, ◌∙◌, length-set, length-drop, slice_set, All, arith}
 use Rattle.std.specs.Prelude.{OnOk, OnErr, IsErr, Result, Ok, Err}
 use Rattle.std.proofs.lemmas.Result.{IfOk-from_err}
 use Rattle.std.proofs.lemmas.List.{drop-drop}
