@@ -1,6 +1,6 @@
 //! Bytes that are gathered before they are written.
 ghost use Rattle.std.specs.Prelude.{◌≡◌, [], Some};
-ghost use Rattle.tinyvec_array.specs.ArrayVec.{items, array_view};
+ghost use Rattle.tinyvec_array.specs.ArrayVec.{items};
 ghost use Rattle.tinyvec_script.specs.Writes.{Gathers, Sends, gathered_of};
 
 use std::io;
@@ -22,12 +22,12 @@ pub(crate) struct Gathered {
 
 impl Model for Gathered {
     ghost use Rattle.std.specs.Prelude.{List, ℕ, Option};
-    ghost use Rattle.tinyvec_array.specs.ArrayVec.{items, array_view};
+    ghost use Rattle.tinyvec_array.specs.ArrayVec.{items};
     ghost use Rattle.tinyvec_script.specs.Writes.{gathered_of};
 
     ghost Value = { Option (List ℕ) };
 
-    ghost array_view = { λ g. gathered_of g.error (items g.bytes) };
+    ghost view = { λ g. gathered_of g.error (items g.bytes) };
 }
 
 impl Gathered {

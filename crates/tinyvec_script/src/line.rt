@@ -1,6 +1,6 @@
 //! The part of a line that was read so far.
 ghost use Rattle.std.specs.Prelude.{◌≡◌, ◌↔◌, List, ℕ, [], None, Some, MatchOption, IsTrue, if◌then◌else◌, Option};
-ghost use Rattle.tinyvec_array.specs.ArrayVec.{items, array_view};
+ghost use Rattle.tinyvec_array.specs.ArrayVec.{items};
 ghost use Rattle.tinyvec_script.specs.History.{extend_kept};
 
 use std::marker::Model;
@@ -16,7 +16,7 @@ pub struct Line {
 impl Model for Line {
     ghost Value = { Option (List ℕ) };
 
-    ghost array_view = { λ l. if l.is_long then None else Some (items l.bytes) };
+    ghost view = { λ l. if l.is_long then None else Some (items l.bytes) };
 }
 
 impl Line {
