@@ -1,5 +1,6 @@
 -- The call that put one more item into a list: in its array, in its allocation, or after it grew.
-use Rattle.std.proofs.Common.{Vec, Global, vec_capacity, ◌≡◌, ◌==◌, ◌+◌, ◌≤◌, ℕ, max, false, Result, Ok, Err, List, length, sym, ap, ◌∙◌, arith}
+use Rattle.std.proofs.Common.{Vec, Global, vec_capacity, ◌≡◌, ◌==◌, ◌+◌, ◌≤◌, ℕ, false, Result, Ok, Err, List, length, sym, ap, ◌∙◌, arith}
+use Rattle.std.specs.Prelude.{OnOk}
 use Rattle.std.specs.Result.{is_err}
 use Rattle.std.proofs.lemmas.Bool.{false≢true, eqb-false}
 use Rattle.tinyvec_array.specs.ArrayVec.{slots_of}
@@ -12,10 +13,9 @@ use Rattle.tinyvec.specs.View.{Becomes, BecomesIn, NothingVacated, Doubled, plac
 use Rattle.tinyvec.specs.TinyVec.{view}
 use Rattle.tinyvec.specs.declared.tiny_vec.TinyVec.{TinyVec}
 use Rattle.tinyvec.specs.declared.tiny_vec.TinyVec.TheVariants.{Inline, Heap}
-use Rattle.tinyvec.specs.Room.{MovesToHeap}
 use Rattle.tinyvec.proofs.TinyLemmas.{heap_view}
 use Rattle.tinyvec.proofs.FrameLemmas.{inline_becomes, heap_becomes}
-use Rattle.tinyvec.proofs.PlaceLemmas.{had_place, grew_place, out_of_array, heap_doubled}
+use Rattle.tinyvec.proofs.PlaceLemmas.{had_place, grew_place, was_inline}
 
 -- it left the list xs, in room that was there or was made
 abbrev pub Took : {A T L : Type 0} → Storage.Ghosts A T L → (T → Type 0) → List T → TinyVec A T L → TinyVec A T L → Type 0
@@ -34,11 +34,10 @@ module _ {A T L : Type 0} (g : Storage.Ghosts A T L) (D : T → Type 0) (put : L
   took_heap v w was is room items same =
       rw (is, was) (had_place D Doubled (length v.items + 1) (heap_view v) (heap_view w) (put v.items) room (heap_becomes D v w (put v.items) items same))
 
-  pub took_grown : {X F : Type 0} (n : ℕ) (mid : TinyVec A T L) (r : Result X F) → false ≡ is_err r → n ≡ max (length (view g old).items) 1
-      → length (view g old).items ≡ (view g old).place.capacity → MovesToHeap D n (view g old) (view g mid) r
-      → Becomes D (view g mid) (view g new) (put (view g mid).items) → Took g D (put (view g old).items) old new
-  took_grown n mid (Ok x) ok is full made list =
-      grew_place D Doubled (length (view g old).items + 1) (view g old) (view g new) _ _ (view g mid)
-      (made.ok.place ∙ heap_doubled (length (view g old).items) n (view g old).place is full)
-      (λ i. absurd (false≢true (sym (out_of_array (length (view g old).items + n) (view g old).place) ∙ sym (ap (λ p. p.inline) made.ok.place) ∙ i))) (ap put made.ok.items) list
-  took_grown n mid (Err e) ok is full made list = absurd (false≢true ok)
+  pub took_grown : {X F : Type 0} (mid : TinyVec A T L) (r : Result X F) → false ≡ is_err r → length (view g old).items ≡ (view g old).place.capacity
+      → OnOk r (Took g D (view g old).items old mid) → Becomes D (view g mid) (view g new) (put (view g mid).items) → Took g D (put (view g old).items) old new
+  took_grown mid (Ok x) ok full made list =
+      grew_place D Doubled (length (view g old).items + 1) (view g old) (view g new) _ _ (view g mid) made.place
+      (λ i. absurd (omega (arith, full, (was_inline Doubled (length (view g old).items + 1) (view g old).place (sym (ap (λ p. p.inline) made.place) ∙ i)).1)))
+      (ap put made.items) list
+  took_grown mid (Err e) ok full made list = absurd (false≢true ok)

@@ -12,7 +12,9 @@ pub use crate::owned::{OwnsItems, into_items};
 pub use crate::printing::{
     InBinary, InHex, InOctal, InUpperHex, ItemText, Plain, write_items, write_named,
 };
-pub use crate::putting::{put_answers, put_clones_of, put_iter, put_taken, put_until_full};
+pub use crate::putting::{
+    put_answers, put_clones_of, put_iter, put_taken, put_until_full, take_all, take_range,
+};
 pub use crate::range::{resolve_range, subslice};
 pub use crate::splice::splice_over;
 pub use crate::touches::Touches;
@@ -21,4 +23,3 @@ pub use crate::tuned::comparing::{cmp_slices, eq_slices, hash_items, partial_cmp
 pub use crate::tuned::moving::{close_gap, move_to_end, move_within, replace_within};
 pub use crate::tuned::shifting::remove_shifting;
 pub use crate::tuned::sizes::fit_registers;
-pub use crate::tuned::taking::{take_all, take_range};

@@ -17,4 +17,3 @@ pub(crate) mod comparing;
 pub(crate) mod moving;
 pub(crate) mod shifting;
 pub(crate) mod sizes;
-pub(crate) mod taking;

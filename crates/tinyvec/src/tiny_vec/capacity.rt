@@ -2,7 +2,7 @@
 ghost use Rattle.std.specs.Prelude.{IsTrue, ◌≡◌, ◌+◌, ◌*◌, ◌<◌, ◌≤◌, length, max, min, false, OnOk, OnErr, vec_len};
 ghost use Rattle.std.specs.Prelude.{vec_capacity, ◌-◌, ◌↔◌, IsOk, IfOk, IfErr};
 ghost use Rattle.tinyvec.specs.TinyVec.{view};
-ghost use Rattle.tinyvec.specs.View.{BecomesIn, Reserved, Exact, place_for};
+ghost use Rattle.tinyvec.specs.View.{BecomesIn, Doubled, Reserved, Exact, place_for};
 ghost use Rattle.tinyvec.specs.Room.{MovesToHeap};
 ghost use Rattle.std.specs.Box.{boxed_slice_items};
 ghost use Rattle.tinyvec_slots.specs.Slots.{AreDefaults};
@@ -54,6 +54,19 @@ impl<A: Array> TinyVec<A> {
             }
             TinyVec::Heap(v) => grow_heap(v, n),
         }
+    }
+
+    // Doubles the capacity of a full list, or makes room for one item.
+    #[inline(always)]
+    pub(crate) fn grow_full(&mut self) -> Result<(), AllocError>
+        requires { length (view A.Slots self.old).items ≡ (view A.Slots self.old).place.capacity }
+        ensures ok { OnOk result (BecomesIn A.Item.is_default (view A.Slots self.old)
+            (view A.Slots self.new) (view A.Slots self.old).items
+            (place_for Doubled (length (view A.Slots self.old).items + 1) (view A.Slots self.old).place)) }
+        ensures refused { OnErr result (view A.Slots self.new ≡ view A.Slots self.old) }
+    {
+        let n = self.len().max(1);
+        self.grow(n)
     }
 
     /// The same as `reserve`.

@@ -47,8 +47,7 @@ impl<A: Array> TinyVec<A> {
             TinyVec::Inline(v, _) if !is_full(v) => v.push(value),
             TinyVec::Heap(v) if v.len() < v.capacity() => v.push_reserved(value),
             _ => {
-                let n = self.len().max(1);
-                if self.grow(n).is_err() {
+                if self.grow_full().is_err() {
                     return Err(NoMemory(value));
                 }
                 self.push_reserved(value);
@@ -123,8 +122,7 @@ impl<A: Array> TinyVec<A> {
                 let _room_was_there = v.insert(index, element);
             }
             _ => {
-                let n = self.len().max(1);
-                if self.grow(n).is_err() {
+                if self.grow_full().is_err() {
                     return Err(NoMemory(element));
                 }
                 self.insert_reserved(index, element);

@@ -37,25 +37,23 @@ pushed g c =
           (omega (arith, v.ok.0, w.len.ensures, w.capacity.ensures, w.if-len-capacity.true)) w.push_reserved.ensures.items w.push_reserved.ensures.capacity
       | in_default+else-is_err w ↦
           let here : In_default g = record { before = c.before; in_default = w.in_default } in
-          let moved = rw (same_list g here) at w.grow.ensures.moves in
-          let len = rw (same_list g here) at w.len-in_default.ensures in
-          rw w.self-is (took_grown G D (λ xs. xs ++ x ∷ []) old w.push_reserved-in_default.new.self _ w.grow.new.self w.grow.result w.if-is_err.ensures.value
-          (omega (arith, w.max-n.ensures, len.value)) (full g here) moved w.push_reserved-in_default.ensures)
+          rw w.self-is (took_grown G D (λ xs. xs ++ x ∷ []) old w.push_reserved-in_default.new.self w.grow_full.new.self w.grow_full.result w.if-is_err.ensures.value (full g here)
+          (rw (same_list g here) at w.grow_full.ensures.ok) w.push_reserved-in_default.ensures)
     ]
 
 pub returns : goal.returns
 returns g c = record { ok = pushed g c; err = tt; succeeds = λ _. refl }
 
-pub grow-requires : goal.grow-requires
-grow-requires g c =
-    let here = (goal.at.grow-requires g c).In_default in
-    rw (same_list g here) (λ _. omega (arith, full g here, c.max-n.ensures))
+pub grow_full-requires : goal.grow_full-requires
+grow_full-requires g c =
+    let here = (goal.at.grow_full-requires g c).In_default in
+    rw (same_list g here) (full g here)
 
 pub returns-then-is_err : goal.returns-then-is_err
 returns-then-is_err g c =
     let here = (goal.at.returns-then-is_err g c).In_default in
-    let moved = rw (same_list g here) at c.grow.ensures.moves in record {
+    record {
       ok = tt;
-      err = (refl, err_of c.grow.result c.if-is_err.ensures.value moved.refused);
+      err = (refl, err_of c.grow_full.result c.if-is_err.ensures.value (rw (same_list g here) at c.grow_full.ensures.refused));
       succeeds = λ lt. absurd (omega (arith, lt, full g here));
     }
