@@ -6,7 +6,7 @@ pub use crate::can_put::CanPut;
 pub use crate::can_splice::CanSplice;
 pub use crate::drain::drain_held;
 pub use crate::extracting::extract_if;
-pub use crate::filtering::{dedup_by, dedup_by_key, pop_if, retain, retain_mut};
+pub use crate::filtering::{ask_last, dedup_by, dedup_by_key, retain, retain_mut};
 pub use crate::gap::Gap;
 pub use crate::owned::{OwnsItems, into_items};
 pub use crate::printing::{

@@ -1,5 +1,5 @@
 //! Keeping some items of a list: those kept move to its front, in order.
-ghost use Rattle.std.specs.Prelude.{◌≡◌, ◌+◌, ◌-◌, ◌<◌, ◌≤◌, ◌++◌, Some, slice_get, true, length, take, drop};
+ghost use Rattle.std.specs.Prelude.{◌≡◌, ◌+◌, ◌-◌, ◌<◌, ◌≤◌, ◌++◌, Some, None, slice_get, true, false, length, take, drop};
 ghost use Rattle.std.specs.Fn.{FnOnceTakesAtMut, CalledAt, CalledAtMut, CalledAtPairMut, ComparesKeys};
 ghost use Rattle.std.specs.List.Retain.{IsFiltered, RetainsInTurn, IsDeduped, PopsIf};
 ghost use Rattle.tinyvec_slots.specs.Filters.{AsksPair, Shortened, RetainsTo, IsFilteredTo, IsDedupedTo};
@@ -56,36 +56,19 @@ pub fn dedup_by_key<V: CanCut, K: PartialEq + Drop, F: FnMut(&mut V::Item) -> K>
     vec.truncate(kept);
 }
 
-/// Calls `f` on the last item, and removes and returns the item if it returns `true`. Calls nothing if the list is empty.
-pub fn pop_if<V: CanCut, F: FnOnce(&mut V::Item) -> bool>(vec: &mut V, f: F) -> Option<V::Item>
-    requires { (x : V.Item) → slice_get (V.items vec.old) (length (V.items vec.old) - 1) ≡ Some x
-        → FnOnceTakesAtMut F.FnOnce f x }
-    ensures popped { PopsIf F.FnOnce (V.items vec.old) (V.items vec.new) f result }
-    ensures shorter { Shortened V.items V.room V.Truncated vec.old vec.new }
-{
-    let (kept, item) = take_last_if(vec.as_mut_slice(), f);
-    vec.truncate(kept);
-    item
-}
-
-// Takes the last item if `f` returns `true` for it, and counts the items that are left.
-fn take_last_if<T: Default + Drop, F: FnOnce(&mut T) -> bool>(
-    items: &mut [T],
-    f: F,
-) -> (usize, Option<T>)
+/// Calls `f` on the last item, and returns what it returns. Calls nothing and returns `false` if the list is empty.
+pub fn ask_last<T, F: FnOnce(&mut T) -> bool>(items: &mut [T], f: F) -> bool
     requires { (x : T) → slice_get items.old (length items.old - 1) ≡ Some x → FnOnceTakesAtMut F.FnOnce f x }
-    ensures popped { PopsIf F.FnOnce items.old (take result.0 items.new) f result.1 }
-    ensures bound { result.0 ≤ length items.old }
+    ensures goes { result ≡ true → PopsIf F.FnOnce items.old (take (length items.old - 1) items.new) f
+        (slice_get items.new (length items.old - 1)) }
+    ensures some { result ≡ true → 0 < length items.old }
+    ensures stays { result ≡ false → PopsIf F.FnOnce items.old items.new f None }
 {
     let len = items.len();
     if len == 0 {
-        return (0, None);
+        return false;
     }
-    let last = len - 1;
-    if f(&mut items[last]) {
-        return (last, Some(mem::take(&mut items[last])));
-    }
-    (len, None)
+    f(&mut items[len - 1])
 }
 
 // Moves the items for which `f` returns `true` to the front, and counts them.

@@ -13,7 +13,7 @@ use crate::TinyVec;
 use std::ops::RangeBounds;
 use tinyvec_array::Array;
 use tinyvec_slots::ExtractIf;
-use tinyvec_slots::authors::resolve_range;
+use tinyvec_slots::authors::{ask_last, resolve_range};
 
 impl<A: Array> TinyVec<A> {
     /// Calls `f` on each item in turn, and keeps those for which it returns `true`. A kept item is moved at most once.
@@ -96,7 +96,15 @@ impl<A: Array> TinyVec<A> {
         ensures shortens { ShortensInPlace A.Item.is_default (view A.Slots self.old)
             (view A.Slots self.new) }
     {
-        tinyvec_slots::authors::pop_if(self, predicate)
+        match self {
+            TinyVec::Inline(v, _) => v.pop_if(predicate),
+            TinyVec::Heap(v) => {
+                if !ask_last(v.as_mut_slice(), predicate) {
+                    return None;
+                }
+                v.pop()
+            }
+        }
     }
 
     /// Calls `pred` with the items of the range in turn, as far as the iterator is driven, and removes and yields those for

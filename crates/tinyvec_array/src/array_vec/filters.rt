@@ -11,7 +11,7 @@ ghost use Rattle.tinyvec_array.specs.CutLaws.{CutOf};
 use crate::{ArrayVec, Slots};
 use std::ops::RangeBounds;
 use tinyvec_slots::ExtractIf;
-use tinyvec_slots::authors::resolve_range;
+use tinyvec_slots::authors::{ask_last, resolve_range};
 
 impl<S: Slots> ArrayVec<S>
 where
@@ -77,7 +77,10 @@ where
         ensures popped { PopsIf F.FnOnce (view S.Slots self.old).items (view S.Slots self.new).items predicate result }
         ensures shorter { ShortensInPlace S.Item.is_default (view S.Slots self.old) (view S.Slots self.new) }
     {
-        tinyvec_slots::authors::pop_if(self, predicate)
+        if !ask_last(self.as_mut_slice(), predicate) {
+            return None;
+        }
+        self.pop()
     }
 
     /// Calls `pred` with the items of the range in turn, as far as the iterator is driven, and removes and yields those for
