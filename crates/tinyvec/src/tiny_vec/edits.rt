@@ -197,15 +197,15 @@ impl<A: Array> TinyVec<A> {
         ensures { Becomes A.Item.is_default (view A.Slots self.old) (view A.Slots self.new) [] }
     {
         match self {
-            TinyVec::Inline(v, _) => {
-                v.clear();
-                // After these writes LLVM has lost variant and length; setting the length restores both.
-                match self {
-                    TinyVec::Inline(v, _) => v.set_len(0),
-                    TinyVec::Heap(_) => unreachable!(),
-                }
+            TinyVec::Inline(v, _) => v.clear(),
+            TinyVec::Heap(v) => {
+                v.truncate(0);
+                return;
             }
-            TinyVec::Heap(v) => v.truncate(0),
+        }
+        // After these writes LLVM has lost variant and length; setting the length restores both.
+        if let TinyVec::Inline(v, _) = self {
+            v.set_len(0);
         }
     }
 
