@@ -115,10 +115,6 @@ err_of (Ok x) err p = absurd (false≢true (sym err))
 err_of (Err e) err p = p
 
 -- Places on the heap, by where the list was: in the array, or with this room.
-out_side : (b : Bool) (room need : ℕ) → (heap_for need (record { inline = b; capacity = room; lender = tt })).inline ≡ false
-out_side true room need = refl
-out_side false room need = stays_out Reserved need (on_heap room) _ refl refl
-
 enough_side : (b : Bool) (room need : ℕ) → need ≤ (heap_for need (record { inline = b; capacity = room; lender = tt })).capacity
 enough_side true room need = le_refl need
 enough_side false room need = place_enough Reserved need (on_heap room)
@@ -131,9 +127,6 @@ doubled_side : (b : Bool) (room n : ℕ) → n ≡ max room 1 → heap_for (room
 doubled_side true room n is = ap on_heap (omega (arith, is)) ∙ sym (place_grown Doubled (room + 1) (in_array room) (omega arith))
 doubled_side false room n is =
     place_grown Reserved (room + n) (on_heap room) (omega (arith, is)) ∙ ap on_heap (omega (arith, is)) ∙ sym (place_grown Doubled (room + 1) (on_heap room) (omega arith))
-
-pub out_of_array : (need : ℕ) (p : Place) → (heap_for need p).inline ≡ false
-out_of_array need p = out_side p.inline p.capacity need
 
 pub heap_enough : (need : ℕ) (p : Place) → need ≤ (heap_for need p).capacity
 heap_enough need p = enough_side p.inline p.capacity need

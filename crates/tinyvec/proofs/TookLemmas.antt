@@ -1,5 +1,5 @@
 -- The call that put one more item into a list: in its array, in its allocation, or after it grew.
-use Rattle.std.proofs.Common.{Vec, Global, vec_capacity, ◌≡◌, ◌==◌, ◌+◌, ◌≤◌, ℕ, false, Result, Ok, Err, List, length, sym, ap, ◌∙◌, arith}
+use Rattle.std.proofs.Common.{Vec, Global, vec_capacity, ◌≡◌, ◌==◌, ◌+◌, ◌≤◌, false, Result, Ok, Err, List, length, sym, ap, ◌∙◌, arith}
 use Rattle.std.specs.Prelude.{OnOk}
 use Rattle.std.specs.Result.{is_err}
 use Rattle.std.proofs.lemmas.Bool.{false≢true, eqb-false}

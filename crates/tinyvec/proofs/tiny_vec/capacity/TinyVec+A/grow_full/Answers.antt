@@ -1,7 +1,4 @@
-use Rattle.std.proofs.Common.{◌≡◌, ◌∙◌, ◌+◌, Result, Ok, Err}
-use Rattle.std.specs.Prelude.{length, OnOk}
-use Rattle.tinyvec.specs.TinyVec.{view}
-use Rattle.tinyvec.specs.View.{BecomesIn, Doubled, place_for, heap_for}
+use Rattle.std.proofs.Common.{◌∙◌}
 use Rattle.std.proofs.lemmas.Result.{on_ok_weaker}
 use Rattle.tinyvec.proofs.PlaceLemmas.{heap_doubled}
 use Rattle.tinyvec.proofs.tiny_vec.capacity.TinyVec+A.grow_full.Goals as goal

@@ -1,4 +1,4 @@
-use Rattle.std.proofs.Common.{◌≡◌, ◌∙◌, ◌++◌, length, take, drop, ap, sym, take_at}
+use Rattle.std.proofs.Common.{◌∙◌, ◌++◌, length, take, drop, ap, sym, take_at}
 use Rattle.tinyvec.proofs.FrameLemmas.{last_value}
 use Rattle.tinyvec.proofs.tiny_vec.filters.TinyVec+A.pop_if.Goals as goal
 

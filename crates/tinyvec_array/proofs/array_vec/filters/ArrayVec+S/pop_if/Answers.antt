@@ -1,4 +1,4 @@
-use Rattle.std.proofs.Common.{◌≡◌, ◌-◌, ◌∙◌, length, ap, refl, sym, arith, length-take}
+use Rattle.std.proofs.Common.{◌-◌, ◌∙◌, length, ap, refl, arith, length-take}
 use Rattle.tinyvec_slots.proofs.SlotsLemmas.{slots_used}
 use Rattle.tinyvec_array.specs.ArrayVec.{view_of}
 use Rattle.tinyvec_array.specs.View.{view}
