@@ -1,7 +1,10 @@
 -- Growth, reserving room, and moves to the heap. A call and its `try_` form have one word.
 use Rattle.std.specs.Prelude.{◌≡◌, ℕ, ◌+◌, ◌-◌, ◌≤◌, ◌↔◌, max, List, length, IsTrue, if◌then◌else◌, Result, IsOk, OnOk, OnErr}
 use Rattle.tinyvec_slots.specs.Slots.{AreDefaults}
-use Rattle.tinyvec.specs.View.{TinyView, in_array, BecomesIn, heap_for, place_pushed}
+use Rattle.tinyvec_array.specs.declared.slots.Slots as Storage
+use Rattle.tinyvec.specs.View.{TinyView, in_array, Growth, BecomesIn, heap_for, place_for, place_pushed}
+use Rattle.tinyvec.specs.TinyVec.{view}
+use Rattle.tinyvec.specs.declared.tiny_vec.TinyVec.{TinyVec}
 
 module _ {T : Type 0} where
   -- a call that pushes item by item took `old` to `new`
@@ -30,3 +33,11 @@ module _ {T X E : Type 0} where
     pub refused : OnErr result (new ≡ old)
     -- an empty list allocates nothing, nor does one on the heap that has the room
     pub succeeds : length old.items + n ≤ (if old.place.inline then 0 else old.place.capacity) → IsOk result
+
+  -- A call that reserves room for n items more by this growth took `old` to `new`, with this result. A list that has the room, or is
+  -- inline afterwards, is unchanged, and a failure changes nothing that is seen.
+  pub record Reserves {A L : Type 0} (g : Storage.Ghosts A T L) (D : T → Type 0) (how : Growth) (n : ℕ) (old new : TinyVec A T L) (result : Result X E) : Type 0 where
+    pub ok : OnOk result (BecomesIn D (view g old) (view g new) (view g old).items (place_for how (length (view g old).items + n) (view g old).place))
+    pub kept : length (view g old).items + n ≤ (view g old).place.capacity → IsOk result × (new ≡ old)
+    pub stays : IsTrue (view g new).place.inline → new ≡ old
+    pub refused : OnErr result (view g new ≡ view g old)

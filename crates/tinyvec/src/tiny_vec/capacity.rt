@@ -3,7 +3,7 @@ ghost use Rattle.std.specs.Prelude.{IsTrue, ◌≡◌, ◌+◌, ◌*◌, ◌<◌
 ghost use Rattle.std.specs.Prelude.{vec_capacity, ◌-◌, ◌↔◌, IsOk, IfOk, IfErr};
 ghost use Rattle.tinyvec.specs.TinyVec.{view};
 ghost use Rattle.tinyvec.specs.View.{BecomesIn, Doubled, Reserved, Exact, place_for};
-ghost use Rattle.tinyvec.specs.Room.{MovesToHeap};
+ghost use Rattle.tinyvec.specs.Room.{MovesToHeap, Reserves};
 ghost use Rattle.std.specs.Box.{boxed_slice_items};
 ghost use Rattle.tinyvec_slots.specs.Slots.{AreDefaults};
 ghost use Rattle.tinyvec_array.specs.ArrayVec.{slots_of};
@@ -20,15 +20,7 @@ impl<A: Array> TinyVec<A> {
     /// there is room already, it allocates nothing.
     #[inline(always)]
     pub fn reserve(&mut self, additional: usize) -> Result<(), AllocError>
-        ensures ok { OnOk result (BecomesIn A.Item.is_default (view A.Slots self.old)
-            (view A.Slots self.new) (view A.Slots self.old).items
-            (place_for Reserved (length (view A.Slots self.old).items + additional) (view A.Slots self.old).place)) }
-
-        // A list that has room, or is inline after the call, is unchanged.
-        ensures kept { length (view A.Slots self.old).items + additional ≤ (view A.Slots self.old).place.capacity
-            → IsOk result × (self.new ≡ self.old) }
-        ensures stays { IsTrue (view A.Slots self.new).place.inline → self.new ≡ self.old }
-        ensures refused { OnErr result (view A.Slots self.new ≡ view A.Slots self.old) }
+        ensures { Reserves A.Slots A.Item.is_default Reserved additional self.old self.new result }
     {
         if additional <= self.capacity() - self.len() {
             return Ok(());
@@ -71,30 +63,14 @@ impl<A: Array> TinyVec<A> {
 
     /// The same as `reserve`.
     pub fn try_reserve(&mut self, additional: usize) -> Result<(), AllocError>
-        ensures ok { OnOk result (BecomesIn A.Item.is_default (view A.Slots self.old)
-            (view A.Slots self.new) (view A.Slots self.old).items
-            (place_for Reserved (length (view A.Slots self.old).items + additional) (view A.Slots self.old).place)) }
-
-        // A list that has room, or is inline after the call, is unchanged.
-        ensures kept { length (view A.Slots self.old).items + additional ≤ (view A.Slots self.old).place.capacity
-            → IsOk result × (self.new ≡ self.old) }
-        ensures stays { IsTrue (view A.Slots self.new).place.inline → self.new ≡ self.old }
-        ensures refused { OnErr result (view A.Slots self.new ≡ view A.Slots self.old) }
+        ensures { Reserves A.Slots A.Item.is_default Reserved additional self.old self.new result }
     {
         self.reserve(additional)
     }
 
     /// Reserves room for `additional` items more, and on the heap for no further ones.
     pub fn reserve_exact(&mut self, additional: usize) -> Result<(), AllocError>
-        ensures ok { OnOk result (BecomesIn A.Item.is_default (view A.Slots self.old)
-            (view A.Slots self.new) (view A.Slots self.old).items
-            (place_for Exact (length (view A.Slots self.old).items + additional) (view A.Slots self.old).place)) }
-
-        // A list that has room, or is inline after the call, is unchanged.
-        ensures kept { length (view A.Slots self.old).items + additional ≤ (view A.Slots self.old).place.capacity
-            → IsOk result × (self.new ≡ self.old) }
-        ensures stays { IsTrue (view A.Slots self.new).place.inline → self.new ≡ self.old }
-        ensures refused { OnErr result (view A.Slots self.new ≡ view A.Slots self.old) }
+        ensures { Reserves A.Slots A.Item.is_default Exact additional self.old self.new result }
     {
         match self {
             TinyVec::Inline(_, _) => self.reserve(additional),
@@ -109,15 +85,7 @@ impl<A: Array> TinyVec<A> {
 
     /// The same as `reserve_exact`.
     pub fn try_reserve_exact(&mut self, additional: usize) -> Result<(), AllocError>
-        ensures ok { OnOk result (BecomesIn A.Item.is_default (view A.Slots self.old)
-            (view A.Slots self.new) (view A.Slots self.old).items
-            (place_for Exact (length (view A.Slots self.old).items + additional) (view A.Slots self.old).place)) }
-
-        // A list that has room, or is inline after the call, is unchanged.
-        ensures kept { length (view A.Slots self.old).items + additional ≤ (view A.Slots self.old).place.capacity
-            → IsOk result × (self.new ≡ self.old) }
-        ensures stays { IsTrue (view A.Slots self.new).place.inline → self.new ≡ self.old }
-        ensures refused { OnErr result (view A.Slots self.new ≡ view A.Slots self.old) }
+        ensures { Reserves A.Slots A.Item.is_default Exact additional self.old self.new result }
     {
         self.reserve_exact(additional)
     }
