@@ -9,7 +9,7 @@ use Rattle.tinyvec.specs.declared.tiny_vec.TinyVec.{TinyVec}
 use Rattle.tinyvec.specs.declared.tiny_vec.TinyVec.TheVariants.{Inline}
 use Rattle.tinyvec.specs.TinyVec.{view, tiny_items, tiny_spare, is_inline, IsInline, tiny_capacity, tiny_allocator, tiny_view}
 use Rattle.tinyvec.specs.View.{in_array, on_heap, Doubled, Reserved, Exact, takes_need, place_for, place_pushed, heap_for, TinyView, BecomesIn, HoldsInline, IsNew, IsTail, IsTinyClone, IsTinyInfallible}
-use Rattle.tinyvec.specs.Room.{GrowsByPushes, MadeFor, IsCollected, MovesToHeap}
+use Rattle.tinyvec.specs.Room.{GrowsByPushes, MadeFor, IsCollected, MovesToHeap, Reserves}
 use Rattle.tinyvec.specs.Refused.{RefusedFor, ClonesBehind, ClonesRefused}
 use Rattle.tinyvec.specs.Following.{PushesItems}
 use Rattle.tinyvec_slots.specs.Filling.{IntoIterYields}
@@ -119,6 +119,9 @@ module _ (alloc : Global) where
 
   pub example-MovesToHeap : (v : TinyVec (List ℕ) ℕ (UpTo 4)) → MovesToHeap D 2 (tiny_view (inline (1 ∷ []) (0 ∷ 0 ∷ 0 ∷ []))) (tiny_view v) done → tiny_capacity v ≡ 3
   example-MovesToHeap v h = search rules
+
+  pub example-Reserves : (w : TinyVec (List ℕ) ℕ (UpTo 4)) → Reserves G D Reserved 3 (inline (1 ∷ []) (0 ∷ 0 ∷ 0 ∷ [])) w done → w ≡ inline (1 ∷ []) (0 ∷ 0 ∷ 0 ∷ [])
+  example-Reserves w h = (h.kept (search rules)).1
 
   pub example-ClonesBehind : ClonesBehind C (7 ∷ []) 1 (tiny_view (inline (1 ∷ []) (0 ∷ 0 ∷ 0 ∷ []))) (tiny_view (inline (1 ∷ []) (7 ∷ 0 ∷ 0 ∷ [])))
   example-ClonesBehind = λ _. record {
