@@ -21,7 +21,7 @@ class Run:
     def __init__(self, room, known, jobs, broken):
         self.room, self.crates, self.jobs, self.broken = room, known, jobs, broken
         self.refused = {it: [] for it in checking.KINDS}
-        self.survived, self.left = [], []
+        self.survived, self.unshown, self.left = [], [], []
         self.rounds, self.desks = [], {}
         # Only one crate or library is made ready at a time, with all jobs: more would need too much memory.
         self.guard, self.began = threading.Lock(), time.monotonic()
@@ -127,7 +127,11 @@ class Run:
         return kinds
 
     def is_noted(self, edit, kind):
-        """Notes how an edit is refused, and returns whether it is, or survived."""
+        """Notes how an edit is refused, and returns whether it is. One that no answer but a written one refuses is told of, and if it
+        is named it survived."""
+        if kind == SURVIVED and not edit.is_named:
+            self.unshown.append(edit)
+            kind = checking.KINDS[1]
         if kind:
             (self.survived if kind == SURVIVED else self.refused[kind]).append(edit)
         return bool(kind)
@@ -149,7 +153,7 @@ class Run:
     def report(self):
         """Says what survived, what is broken and what shows nothing, and returns the status to end with."""
         shown, rest = checking.KINDS
-        told = {"survived": self.survived, "broken": self.broken, rest: self.refused[rest]}
+        told = {"survived": self.survived, "broken": self.broken, "refused by no clause": self.unshown, rest: self.refused[rest]}
         print("".join(f"{how}: {it}\n" for how, those in told.items() for it in those), end="")
         counts = {shown: self.refused[shown], "survived": self.survived, "left": self.left, rest: self.refused[rest]}
         print("mutants: " + ", ".join(f"{len(those)} {how}" for how, those in counts.items()))
