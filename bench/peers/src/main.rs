@@ -9,6 +9,7 @@ mod dates;
 mod dns_query;
 mod fnv;
 mod form;
+mod graph;
 mod growing;
 mod lines;
 mod node_lines;

@@ -1,6 +1,7 @@
 //! Which rows a peer has, over which types.
 
 use crate::calls::{of_arrayvec, of_smallvec, of_tinyvec_array, of_tinyvec_slice, of_tinyvec_tiny, of_vec};
+use crate::graph::of_graph;
 use crate::nodes::Node;
 use crate::report::Report;
 use crate::rows::{
@@ -34,6 +35,15 @@ macro_rules! nodes {
         let report = $report;
         of_nodes::<$vector!(Node, 4), 4>(&report);
         of_nodes::<$vector!(Node, 16), 16>(&report);
+    }};
+}
+
+/// The rows of a graph.
+macro_rules! graphs {
+    ($report:expr, $vector:ident) => {{
+        let report = $report.with_prefix("tiny_long_");
+        of_graph::<$vector!(u32, 4)>(&report, 64);
+        of_graph::<$vector!(u32, 4)>(&report, 16384);
     }};
 }
 
@@ -92,6 +102,7 @@ pub fn rows_of(peer: Option<&str>, report: Report) -> bool {
             of_forms::<64>(&report);
             of_forms::<16384>(&report);
             of_dates::<tinyvec::TinyVec<[u8; 64]>>(&report);
+            graphs!(report, tinyvec_tiny);
         }
         Some("smallvec") => {
             fixed!(report, smallvec);
@@ -105,6 +116,7 @@ pub fn rows_of(peer: Option<&str>, report: Report) -> bool {
             of_smallvec::<4>(&long, 16384, true);
             of_long_lists::<smallvec::SmallVec<[u64; 4]>>(&long);
             of_dates::<smallvec::SmallVec<[u8; 64]>>(&report);
+            graphs!(report, smallvec);
         }
         Some("arrayvec") => {
             fixed!(report, arrayvec);
@@ -137,6 +149,7 @@ pub fn rows_of(peer: Option<&str>, report: Report) -> bool {
             of_text_calls(&report, 16384);
             of_text_own(&report, 16384);
             of_front_half(&report, 16384);
+            graphs!(report, vec_of);
         }
         _ => return false,
     }

@@ -10,10 +10,15 @@ pub fn scattered<T: Number, const N: usize>() -> [T; N] {
     let mut numbers = std::array::from_fn(|_| T::default());
     let mut state: u64 = 1;
     for slot in numbers.iter_mut() {
-        state = state.wrapping_mul(6364136223846793005).wrapping_add(1442695040888963407);
+        state = state_behind(state);
         *slot = T::of(state / 4294967296);
     }
     numbers
+}
+
+/// A step of Knuth's linear congruential generator.
+pub fn state_behind(state: u64) -> u64 {
+    state.wrapping_mul(6364136223846793005).wrapping_add(1442695040888963407)
 }
 
 /// Numbers that stand twice each.

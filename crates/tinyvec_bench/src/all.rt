@@ -3,6 +3,7 @@ ghost use Rattle.std.specs.Prelude.{◌*◌, ◌^◌, ◌<◌};
 
 use crate::dates::of_dates;
 use crate::form::{of_forms, of_heap_forms};
+use crate::graph::of_graph;
 use crate::long::of_long_lists;
 use crate::nodes::{Node, of_nodes};
 use crate::report::Report;
@@ -40,6 +41,10 @@ pub fn all_rows<R: Report>(report: &mut R, alloc: Global) {
     of_heap_forms(report, alloc, 64);
     of_heap_forms(report, alloc, 16384);
     in_texts(report, alloc);
+    // Last, since it leaves many blocks to the allocator.
+    report.set_prefix("tiny_long_");
+    of_graph(report, alloc, 64);
+    of_graph(report, alloc, 16384);
 }
 
 // Each call, at 64 and 16384 items.

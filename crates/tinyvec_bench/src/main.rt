@@ -11,6 +11,7 @@ mod dates;
 mod edits;
 mod fnv;
 mod form;
+mod graph;
 mod long;
 mod looks;
 mod nodes;

@@ -26,8 +26,8 @@ pub fn scattered<T: Number, const N: usize>() -> [T; N] {
     numbers
 }
 
-// A step of Knuth's linear congruential generator.
-fn state_behind(state: u64) -> u64 {
+/// A step of Knuth's linear congruential generator.
+pub fn state_behind(state: u64) -> u64 {
     state
         .wrapping_mul(6364136223846793005)
         .wrapping_add(1442695040888963407)

@@ -1,0 +1,133 @@
+//! A graph that is built, pruned and walked. Its nodes list those that follow them: most in the array, some on the heap.
+
+use crate::number::Item;
+use crate::report::{Bench, Report, run};
+use crate::sources::state_behind;
+use std::alloc::{AllocError, Global};
+use tinyvec::TinyVec;
+
+/// An edge, by the numbers of its nodes.
+#[derive(Clone, Copy)]
+struct Edge {
+    from: usize,
+    to: u32,
+}
+
+/// The edges of a graph of `count` nodes.
+#[derive(Drop)]
+struct GraphBench<'a> {
+    alloc: Global,
+    edges: &'a [Edge],
+    count: usize,
+}
+
+impl Bench<()> for GraphBench<'_> {
+    #[inline(always)]
+    fn round(&mut self, _benchmark: (), x: u64) -> u64 {
+        match graph(self.alloc, self.edges, self.count, x) {
+            Ok(sum) => sum,
+            Err(AllocError) => 0,
+        }
+    }
+}
+
+/// A graph of so many nodes.
+pub fn of_graph<R: Report>(report: &mut R, alloc: Global, count: usize) {
+    let edges = edges_of(alloc, count);
+    let mut bench = GraphBench {
+        alloc,
+        edges: edges.as_slice(),
+        count,
+    };
+    run(report, "graph", count, (), &mut bench);
+}
+
+// Three edges for each node, from any to any.
+fn edges_of(alloc: Global, count: usize) -> Vec<Edge> {
+    let mut edges = Vec::new(alloc);
+    let nodes = count.max(1) as u64;
+    let mut state: u64 = 1;
+    for _i in 0..count.saturating_mul(3) {
+        state = state_behind(state);
+        let number = state / 4294967296;
+        let _refused = edges.push(Edge {
+            from: (number % nodes) as usize,
+            to: Item::of(number / nodes % nodes),
+        });
+    }
+    edges
+}
+
+// Builds the graph, drops some of its edges, and adds up what is reached.
+#[inline(never)]
+fn graph(alloc: Global, edges: &[Edge], count: usize, x: u64) -> Result<u64, AllocError> {
+    let mut nodes = built(alloc, edges, count)?;
+    prune(nodes.as_mut_slice());
+    walk(alloc, nodes.as_slice(), x)
+}
+
+#[inline(never)]
+fn built(
+    alloc: Global,
+    edges: &[Edge],
+    count: usize,
+) -> Result<Vec<TinyVec<[u32; 4]>>, AllocError> {
+    let mut nodes = Vec::new(alloc);
+    nodes.resize_with(count, || TinyVec::new(alloc))?;
+    for edge in edges {
+        if let Some(node) = nodes.get_mut(edge.from) {
+            node.push(edge.to)?;
+        }
+    }
+    Ok(nodes)
+}
+
+// Drops the edges to every fourth node, and the first of those that are left of a node with more than two.
+#[inline(never)]
+fn prune(nodes: &mut [TinyVec<[u32; 4]>]) {
+    for node in nodes.iter_mut() {
+        node.retain(is_kept);
+        if node.len() > 2 {
+            node.swap_remove(0);
+        }
+    }
+}
+
+fn is_kept(to: &u32) -> bool {
+    *to % 4 != 0
+}
+
+// Goes from a node to those that follow it, and on from these, each once, and mixes their numbers in that order.
+#[inline(never)]
+fn walk(alloc: Global, nodes: &[TinyVec<[u32; 4]>], x: u64) -> Result<u64, AllocError> {
+    let mut marks = Vec::from_elem(alloc, false, nodes.len())?;
+    let mut reached = Vec::with_capacity(alloc, nodes.len())?;
+    reached.push(Item::of(x % 64))?;
+    let mut sum = x;
+    for at in 0..nodes.len() {
+        let Some(node) = reached.get(at) else {
+            break;
+        };
+        sum = sum.rotate_left(5) ^ *node as u64;
+        let Some(follow) = nodes.get(*node as usize) else {
+            break;
+        };
+        for to in follow.as_slice() {
+            if is_first(marks.as_mut_slice(), *to) {
+                reached.push(*to)?;
+            }
+        }
+    }
+    Ok(sum)
+}
+
+// Whether the node has no mark, which it then gets.
+fn is_first(marks: &mut [bool], node: u32) -> bool {
+    match marks.get_mut(node as usize) {
+        Some(mark) if !*mark => {
+            *mark = true;
+            true
+        }
+        _ => false,
+    }
+}
