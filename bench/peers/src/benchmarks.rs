@@ -195,7 +195,7 @@ pub fn replace_range<V: Vector<u64, N>, const N: usize>(vec: &mut V, source: &[u
     if vec.as_slice().len() < 2 * quarter {
         return 0;
     }
-    vec.splice(quarter..2 * quarter, source[2 * quarter..].iter().copied());
+    vec.replace_range(quarter..2 * quarter, &source[2 * quarter..]);
     x.wrapping_add(vec.as_slice().len() as u64)
 }
 
@@ -214,7 +214,7 @@ pub fn editor<V: Vector<u64, N>, const N: usize>(vec: &mut V, source: &[u64], x:
     if vec.as_slice().len() < quarter {
         return 0;
     }
-    vec.splice(quarter..quarter, source[quarter..2 * quarter].iter().copied());
+    vec.replace_range(quarter..quarter, &source[quarter..2 * quarter]);
     cut
 }
 

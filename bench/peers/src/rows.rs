@@ -83,9 +83,9 @@ fn special_cuts<V: Vector<u64, N>, const N: usize>(
         report.row("splice_as_many", n, |x| splice(vec, source, count / 4, x));
         report.row("splice_fewer", n, |x| splice(vec, source, count / 8, x));
         report.row("splice_more", n, |x| splice(vec, source, count / 2, x));
-        report.row("replace_range", n, |x| replace_range(vec, source, x));
-        report.row("editor", n, |x| editor(vec, source, x));
     }
+    report.row("replace_range", n, |x| replace_range(vec, source, x));
+    report.row("editor", n, |x| editor(vec, source, x));
     if V::HAS_EXTRACT {
         report.row("extract_half", n, |x| extract_half(vec, runs, x));
     }

@@ -28,6 +28,7 @@ pub trait Vector<T: Number, const N: usize>: Clone + PartialOrd + Hash + Debug {
     }
 
     fn as_slice(&self) -> &[T];
+    fn as_mut_slice(&mut self) -> &mut [T];
     fn push(&mut self, x: T);
     fn pop(&mut self) -> Option<T>;
     fn insert(&mut self, i: usize, x: T);
@@ -50,6 +51,18 @@ pub trait Vector<T: Number, const N: usize>: Clone + PartialOrd + Hash + Debug {
 
     fn splice(&mut self, _range: Range<usize>, _items: impl Iterator<Item = T>) {}
 
+    /// Puts the items in the place of a range: behind what follows, and turned before it. A `splice` reads its iterator item by
+    /// item, and that of `tinyvec` moves what follows for each.
+    #[inline(always)]
+    fn replace_range(&mut self, range: Range<usize>, items: &[T])
+    where
+        T: Copy,
+    {
+        drop(self.drain(range.clone()));
+        self.extend_from_slice(items);
+        self.as_mut_slice()[range.start..].rotate_right(items.len());
+    }
+
     /// Takes out what `is_taken` says, and returns the sum of the items' values and `x`.
     fn sum_of_extracted(&mut self, _is_taken: impl FnMut(&mut T) -> bool, x: u64) -> u64 {
         x
@@ -65,6 +78,11 @@ macro_rules! shared_calls {
     () => {
         #[inline(always)]
         fn as_slice(&self) -> &[T] {
+            self
+        }
+
+        #[inline(always)]
+        fn as_mut_slice(&mut self) -> &mut [T] {
             self
         }
 
@@ -236,6 +254,15 @@ impl<T: Number, const N: usize> Vector<T, N> for smallvec::SmallVec<[T; N]> {
     #[inline(always)]
     fn dedup(&mut self) {
         self.dedup()
+    }
+
+    #[inline(always)]
+    fn replace_range(&mut self, range: Range<usize>, items: &[T])
+    where
+        T: Copy,
+    {
+        drop(self.drain(range.clone()));
+        self.insert_from_slice(range.start, items)
     }
 }
 
