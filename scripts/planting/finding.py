@@ -4,6 +4,8 @@ import os
 import shutil
 
 from building import crates
+from pages import examples
+from reading import exports
 from . import checking, edits, functions
 
 # Of a hundred edits so many are to be found.
@@ -90,6 +92,7 @@ def tests_of(top):
     answering = set().union(*(below[it] for it in below if it.name.endswith("_cases")))
     yield "random calls", answering | {"tv"}, [top / "tests/random", "--try"]
     yield "rows", answering, [top / "tests/rows/compare", "--try"]
+    yield "examples", set(exports.LIBRARIES), [top / "tests/quick", examples.CRATE]
     for it in sorted(below, key=crates.Crate.has_tests):
         if it.has_tests() or "stdin" in it.files and not it.name.endswith("_cases"):
             yield it.name, below[it], [top / "tests/quick", it.name]

@@ -1,13 +1,14 @@
 //! Values written and read in the Borsh form.
 use crate::streams::Streams;
-use std::fmt::{Display, Write as _};
+use std::fmt::{Debug, Display, Write as _};
 use std::str::FromStr;
 use tinyvec::{Array, ArrayVec, TinyVec};
 use tinyvec_borsh::{BorshDeserialize, BorshError, BorshSerialize};
 use tinyvec_rows::{Out, Words, Wrong, window};
 use tinyvec_text::InlineText;
 
-// A value that is written, or read if there is no word of it. The request for memory of that number is refused.
+// A value that is written, or read if there is no word of it, or a list of slots that are read into. The request for memory
+// of that number is refused.
 #[derive(Drop)]
 struct Case<'c, 's> {
     is_put: bool,
@@ -17,7 +18,7 @@ struct Case<'c, 's> {
     out: &'c mut Out,
 }
 
-/// Writes or reads a value of the type that the next word names.
+/// Writes or reads a value of the type that the next word names. Numbers can be read into slots, which follow then.
 pub(crate) fn answer(
     is_put: bool,
     refused: u16,
@@ -26,7 +27,12 @@ pub(crate) fn answer(
     out: &mut Out,
 ) {
     let name = words.word();
-    let value = if is_put { words.word() } else { "" };
+    let has_slots = !is_put && !words.is_empty();
+    let value = if is_put || has_slots {
+        words.word()
+    } else {
+        ""
+    };
     words.end();
     if !out.accepts(words) {
         return;
@@ -39,6 +45,7 @@ pub(crate) fn answer(
         out,
     };
     match name.split_once('<') {
+        Some(_) if has_slots => case.out.fail(Wrong::Value),
         Some(("TinyVec", held)) => tiny(held, case),
         Some(("ArrayVec", held)) => array(held, case),
         Some(("InlineText", "4>")) => text(case),
@@ -177,17 +184,39 @@ where
     read.unwrap_or_default()
 }
 
-fn of_number<T: BorshSerialize + BorshDeserialize + FromStr + Display + Default + Drop>(
+fn of_number<T: BorshSerialize + BorshDeserialize + FromStr + Display + Debug + Default + Drop>(
     case: &mut Case<'_, '_>,
 )
 where
     T::Err: Drop,
 {
-    if !case.is_put {
-        return get::<T>(case);
+    if case.is_put {
+        let value = parsed::<T>(case.value, case.out);
+        put(&value, case);
+    } else if case.value.is_empty() {
+        get::<T>(case);
+    } else {
+        get_slots::<T>(case);
     }
-    let value = parsed::<T>(case.value, case.out);
-    put(&value, case);
+}
+
+// Of slots that were read into the answer has what they hold then.
+fn get_slots<T: BorshDeserialize + FromStr + Debug + Default + Drop>(case: &mut Case<'_, '_>)
+where
+    T::Err: Drop,
+{
+    let alloc = case.out.alloc();
+    let mut slots = Vec::new(alloc);
+    for word in inside(case.value).split_terminator(',') {
+        if slots.push(parsed::<T>(word, case.out)).is_err() {
+            case.out.fail(Wrong::Memory);
+        }
+    }
+    window::open(alloc, case.refused);
+    let read = T::deserialize_slots(alloc, slots.as_mut_slice(), &mut case.streams.reader);
+    window::close(alloc);
+    tell_done(read, case);
+    let _ = write!(case.out, " {:?}", slots.as_slice());
 }
 
 fn text(case: &mut Case<'_, '_>) {
@@ -247,7 +276,11 @@ fn put<T: BorshSerialize>(value: &T, case: &mut Case<'_, '_>) {
     window::open(alloc, case.refused);
     let written = value.serialize(&mut case.streams.writer);
     window::close(alloc);
-    match written {
+    tell_done(written, case);
+}
+
+fn tell_done(done: Result<(), BorshError>, case: &mut Case<'_, '_>) {
+    match done {
         Ok(()) => case.out.put("ok"),
         Err(error) => tell(&error, case),
     }

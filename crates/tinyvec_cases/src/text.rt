@@ -19,7 +19,7 @@ use tinyvec_vector_cases::vector::Calls;
 type Text = InlineText<4>;
 
 // The calls, and the kinds of their words, as those of vectors. `b` is a text.
-const TEXT_CALLS: [(&str, Name, &str); 41] = [
+const TEXT_CALLS: [(&str, Name, &str); 42] = [
     ("size", Name::Size, ""),
     ("is_char_boundary", Name::IsCharBoundary, "i"),
     ("as_bytes", Name::AsBytes, ""),
@@ -40,6 +40,7 @@ const TEXT_CALLS: [(&str, Name, &str); 41] = [
     ("from_utf8_or_none", Name::FromUtf8OrNone, "s"),
     ("with_capacity", Name::WithCapacity, "i"),
     ("collect", Name::Collect, "b"),
+    ("collect_words", Name::CollectWords, "b"),
     ("push", Name::Push, "b"),
     ("push_reserved", Name::PushReserved, "b"),
     ("push_str", Name::PushStr, "b"),
@@ -163,6 +164,7 @@ fn remake(t: &mut Text, call: &mut Call<u8>, out: &mut Out) {
         Name::FromStr => set_made(t, Text::from_str(alloc, call.text()), out),
         Name::WithCapacity => set_made(t, Text::with_capacity(alloc, call.index), out),
         Name::Collect => set_made(t, call.text().chars().collect::<Text>(alloc), out),
+        Name::CollectWords => set_made(t, call.text().split(' ').collect::<Text>(alloc), out),
         Name::FromUtf8 | Name::FromUtf8OrNone => decode(t, call, out),
         _ => append(t, call, out),
     }
@@ -178,7 +180,10 @@ fn decode(t: &mut Text, call: &mut Call<u8>, out: &mut Out) {
     if let Name::FromUtf8 = call.name {
         match Text::from_utf8(bytes) {
             Ok(made) => set(t, made),
-            Err(error) => say_plain(&error, Name::Plain, out),
+            Err(error) => {
+                say_plain(&error, Name::Plain, out);
+                say_tiny(&error.bytes, out);
+            }
         }
         return;
     }

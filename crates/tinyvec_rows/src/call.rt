@@ -6,7 +6,7 @@ use std::{mem, str};
 
 /// The calls of vectors, and the kinds of their words: an index, a number, an item (`t`), a list, one that is reversed
 /// (`v`), slots, a range, a closure, steps (`w`), bytes; and whether the list has room for many more items.
-pub const VECTOR_CALLS: [(&str, Name, &str); 79] = [
+pub const VECTOR_CALLS: [(&str, Name, &str); 86] = [
     ("pop", Name::Pop, ""),
     ("pop_at", Name::PopAt, "i"),
     ("pop_if", Name::PopIf, "cn"),
@@ -54,7 +54,13 @@ pub const VECTOR_CALLS: [(&str, Name, &str); 79] = [
     ("clone_from", Name::CloneFrom, ""),
     ("into_iter", Name::IntoIter, "w"),
     ("drain_to_vec", Name::DrainToVec, ""),
+    ("try_drain_to_vec", Name::TryDrainToVec, ""),
     ("drain_to_vec_and_reserve", Name::DrainToVecAndReserve, "i"),
+    (
+        "try_drain_to_vec_and_reserve",
+        Name::TryDrainToVecAndReserve,
+        "i",
+    ),
     ("into_vec", Name::IntoVec, ""),
     ("into_boxed_slice", Name::IntoBoxedSlice, ""),
     ("new", Name::New, ""),
@@ -67,14 +73,23 @@ pub const VECTOR_CALLS: [(&str, Name, &str); 79] = [
     ("from_slice", Name::FromSlice, "l"),
     ("from_vec", Name::FromVec, "l"),
     ("from_iter", Name::FromIter, "l"),
+    ("collect", Name::Collect, "l"),
     ("with_capacity", Name::WithCapacity, "i"),
     ("with_initial_len", Name::WithInitialLen, "i"),
     ("reserve", Name::Reserve, "i"),
+    ("try_reserve", Name::TryReserve, "i"),
     ("reserve_exact", Name::ReserveExact, "i"),
+    ("try_reserve_exact", Name::TryReserveExact, "i"),
     ("move_to_the_heap", Name::MoveToTheHeap, ""),
+    ("try_move_to_the_heap", Name::TryMoveToTheHeap, ""),
     (
         "move_to_the_heap_and_reserve",
         Name::MoveToTheHeapAndReserve,
+        "i",
+    ),
+    (
+        "try_move_to_the_heap_and_reserve",
+        Name::TryMoveToTheHeapAndReserve,
         "i",
     ),
     ("shrink_to_fit", Name::ShrinkToFit, ""),

@@ -13,7 +13,7 @@ mod words;
 
 pub use call::{Call, VECTOR_CALLS};
 pub use closure::Closure;
-pub use item::{Item, Read};
+pub use item::{Item, Read, Shy};
 pub use names::{Name, Table, find, named};
 pub use out::{Out, Quoted};
 pub use span::{Span, has_at_most, is_within};

@@ -1,7 +1,10 @@
-//! An `answer_lines` that refuses a line for which there is memory would pass the check: no clause says when memory is refused.
+//! An `answer_lines` that refuses a line for which there is memory would pass the check, also one that says so where its reader or
+//! its writer fails: no clause says when memory is refused.
+use crate::failing::{Closing, Failing};
 use crate::steps::granted_steps;
 use example_lines::{Answer, Failure, answer_lines};
 use std::alloc::{AllocError, Global};
+use std::io::ErrorKind;
 use std::test::Fail;
 use tinyvec_io::Counted;
 
@@ -49,4 +52,47 @@ fn go_on_after_a_refused_line(rt: HostRuntime) -> Result<(), Fail> {
             written.as_slice() == b"abce".as_slice(),
         ],
     )
+}
+
+// The lines before the fault of the reader are answered.
+#[test]
+fn end_where_the_reader_fails(rt: HostRuntime) -> Result<(), Fail> {
+    let mut echo = Echo { lines: 0 };
+    let mut reader = Counted::new(Failing { left: b"ab\nc\nd" });
+    let mut writer = Counted::new(Vec::with_capacity(rt.alloc(), 16)?);
+    let ended = answer_lines(rt.alloc(), &mut echo, &mut reader, &mut writer);
+    let is_refused = matches!(ended, Err(Failure::Memory));
+    let is_told = match ended {
+        Err(Failure::Input(error)) => error.kind() == ErrorKind::TimedOut,
+        _ => false,
+    };
+    let written = writer.into_inner();
+    granted_steps(
+        is_refused,
+        &[
+            is_told,
+            echo.lines == 2,
+            written.as_slice() == b"abc".as_slice(),
+        ],
+    )
+}
+
+// The writer fails at each byte of the answers, and at the flush after them.
+#[test]
+fn end_where_the_writer_fails(rt: HostRuntime) -> Result<(), Fail> {
+    let mut is_refused = false;
+    let mut is_told = true;
+    for room in 0..4 {
+        let mut echo = Echo { lines: 0 };
+        let mut reader = Counted::new(b"ab\nc".as_slice());
+        let mut writer = Counted::new(Closing { room });
+        let ended = answer_lines(rt.alloc(), &mut echo, &mut reader, &mut writer);
+        is_refused |= matches!(ended, Err(Failure::Memory));
+        is_told &= match ended {
+            Err(Failure::Output(error)) => error.kind() == ErrorKind::BrokenPipe,
+            _ => false,
+        };
+        is_told &= writer.into_inner().room == 0;
+    }
+    granted_steps(is_refused, &[is_told])
 }

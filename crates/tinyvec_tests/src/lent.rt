@@ -1,8 +1,8 @@
 //! What the owner of lent slots sees after calls of which no clause says it. A vector over other slots, and a call that writes to
-//! the slots of a slice which it refuses, would pass the check.
+//! the slots of a slice which it refuses, would pass the check. So would a longer list than there are slots: no vector has one.
 use crate::steps::all_steps;
 use std::test::Fail;
-use tinyvec::SliceVec;
+use tinyvec::{SliceVec, Slots};
 
 // Adds 10 to each item.
 fn write(mut v: SliceVec<'_, u8>) {
@@ -51,4 +51,16 @@ fn split_off_parts_write_their_own_slots(rt: HostRuntime) -> Result<(), Fail> {
         is_right &= slots == wanted;
     }
     all_steps(&[is_right])
+}
+
+#[test]
+fn lists_of_up_to_all_slots(rt: HostRuntime) -> Result<(), Fail> {
+    let mut slots = [1, 2, 3];
+    let lent = slots.as_mut_slice();
+    all_steps(&[
+        lent.used(&2) == 2,
+        lent.used(&3) == 3,
+        lent.used(&4) == 3,
+        lent.used(&usize::MAX) == 3,
+    ])
 }

@@ -11,6 +11,8 @@ mod drops;
 #[cfg(test)]
 mod endless;
 #[cfg(test)]
+mod failing;
+#[cfg(test)]
 mod fields;
 #[cfg(test)]
 mod forgotten;

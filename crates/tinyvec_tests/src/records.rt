@@ -1,8 +1,8 @@
 //! A reading that gives up before its reader does would pass the check, as one that is refused memory. So would one that takes
 //! more of a file: of that no bytes are known.
+use crate::failing::Failing;
 use crate::steps::{all_right, granted};
 use example_stream::{StreamError, read_all};
-use std::io::{self, ErrorKind, Read};
 use std::test::Fail;
 use tinyvec_io::Counted;
 
@@ -15,21 +15,6 @@ const STREAM: [u8; 50] = [
 const FIRST_LEN: usize = 27;
 
 const BOTH_LEN: usize = 48;
-
-// Reads these bytes, and then fails.
-#[derive(Drop)]
-struct Failing<'a> {
-    left: &'a [u8],
-}
-
-impl Read for Failing<'_> {
-    fn read(&mut self, buf: &mut [u8]) -> io::Result<usize> {
-        if self.left.is_empty() {
-            return Err(io::Error::from(ErrorKind::TimedOut));
-        }
-        self.left.read(buf)
-    }
-}
 
 // All records before the byte at which the reader fails are kept, and no byte before it is left.
 #[test]

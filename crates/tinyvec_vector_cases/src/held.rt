@@ -6,7 +6,7 @@ use std::hash::Hash;
 use std::io::Write as _;
 use std::{fmt, io};
 use tinyvec::{Array, TinyVec};
-use tinyvec_rows::{Call, Item, Name, Out, Wrong};
+use tinyvec_rows::{Call, Item, Name, Out, Shy, Wrong};
 
 /// What a vector holds.
 pub trait HeldBy<V: Vector<Item = Self>>: Item {
@@ -17,6 +17,8 @@ pub trait HeldBy<V: Vector<Item = Self>>: Item {
 }
 
 impl<V: Vector<Item = Option<Box<i32>>>> HeldBy<V> for Option<Box<i32>> {}
+
+impl<V: Vector<Item = Shy>> HeldBy<V> for Shy {}
 
 impl<V: Copies<Item = i32> + Ord + Hash + fmt::Display + fmt::Debug + InBases> HeldBy<V> for i32 {
     fn call(v: &mut V, other: &mut V, call: &mut Call<i32>, out: &mut Out) {

@@ -139,15 +139,16 @@ fn move_out<T: Item, S: Slots<Item = T>>(v: &mut ArrayVec<S>, call: &mut Call<T>
             v.drain_each(range, &mut |x| given.push(x).unwrap_or(()));
             return out.say(&given.as_slice());
         }
-        Name::DrainToVec => set_made(&mut call.items, v.drain_to_vec(alloc), out),
-        Name::DrainToVecAndReserve => {
-            set_made(
-                &mut call.items,
-                v.drain_to_vec_and_reserve(alloc, call.index),
-                out,
-            );
+        _ => {
+            let made = match call.name {
+                Name::DrainToVec => v.drain_to_vec(alloc),
+                Name::TryDrainToVec => v.try_drain_to_vec(alloc),
+                Name::DrainToVecAndReserve => v.drain_to_vec_and_reserve(alloc, call.index),
+                Name::TryDrainToVecAndReserve => v.try_drain_to_vec_and_reserve(alloc, call.index),
+                _ => return out.fail(Wrong::Place),
+            };
+            set_made(&mut call.items, made, out);
         }
-        _ => return out.fail(Wrong::Place),
     }
     out.say(&(call.items.as_slice(), call.items.capacity()));
 }

@@ -7,7 +7,7 @@ use crate::vector::{Calls, answer};
 use std::alloc::Global;
 use std::fmt;
 use tinyvec::{Array, ArrayVec, SliceVec, Slots, TinyVec};
-use tinyvec_rows::{Item, Name, Read, Words, Wrong};
+use tinyvec_rows::{Item, Name, Read, Shy, Words, Wrong};
 
 type Boxed = Option<Box<i32>>;
 
@@ -28,6 +28,7 @@ pub fn answer_array(held: &str, words: &mut Words<'_>, calls: &mut Calls<'_>) {
         "[i32" => sized!(numbers_in_array, i32, count, words, calls, 0 4 10),
         "[u8" if count == 10 => of_array::<u8, [u8; 10]>(words, calls),
         "[Box" if count == 4 => of_array::<Boxed, [Boxed; 4]>(words, calls),
+        "[Shy" if count == 4 => of_array::<Shy, [Shy; 4]>(words, calls),
         "[f64" if count == 4 => floats_in_array(words, calls),
         _ => calls.out.fail(Wrong::Vector),
     }
@@ -45,6 +46,7 @@ pub fn answer_tiny(held: &str, words: &mut Words<'_>, calls: &mut Calls<'_>) {
         "[i32" => sized!(numbers_in_tiny, i32, count, words, calls, 0 2 4 10),
         "[u8" if count == 4 => of_tiny::<u8, [u8; 4]>(words, calls),
         "[Box" if count == 4 => of_tiny::<Boxed, [Boxed; 4]>(words, calls),
+        "[Shy" if count == 4 => of_tiny::<Shy, [Shy; 4]>(words, calls),
         "[f64" if count == 2 => floats_in_tiny(words, calls),
         _ => calls.out.fail(Wrong::Vector),
     }
@@ -60,6 +62,7 @@ pub fn answer_slice(item: &str, words: &mut Words<'_>, calls: &mut Calls<'_>) {
         "i32>" => lend::<i32>(words, calls),
         "u8>" => lend::<u8>(words, calls),
         "Box>" => lend::<Boxed>(words, calls),
+        "Shy>" => lend::<Shy>(words, calls),
         _ => calls.out.fail(Wrong::Vector),
     }
 }
@@ -281,6 +284,17 @@ impl InSlices for Boxed {
     fn answer<'s>(
         v: &mut SliceVec<'s, Boxed>,
         other: &mut SliceVec<'s, Boxed>,
+        pair: bool,
+        calls: &mut Calls<'_>,
+    ) {
+        answer(v, other, pair, calls);
+    }
+}
+
+impl InSlices for Shy {
+    fn answer<'s>(
+        v: &mut SliceVec<'s, Shy>,
+        other: &mut SliceVec<'s, Shy>,
         pair: bool,
         calls: &mut Calls<'_>,
     ) {

@@ -161,9 +161,13 @@ fn with_room<T: Item, A: Array<Item = T>>(v: &mut TinyVec<A>, call: &mut Call<T>
     let n = call.index;
     match call.name {
         Name::Reserve => out.done(v.reserve(n)),
+        Name::TryReserve => out.done(v.try_reserve(n)),
         Name::ReserveExact => out.done(v.reserve_exact(n)),
+        Name::TryReserveExact => out.done(v.try_reserve_exact(n)),
         Name::MoveToTheHeap => out.done(v.move_to_the_heap()),
+        Name::TryMoveToTheHeap => out.done(v.try_move_to_the_heap()),
         Name::MoveToTheHeapAndReserve => out.done(v.move_to_the_heap_and_reserve(n)),
+        Name::TryMoveToTheHeapAndReserve => out.done(v.try_move_to_the_heap_and_reserve(n)),
         Name::ShrinkToFit => v.shrink_to_fit(),
         Name::ShrinkTo => v.shrink_to(n),
         Name::HasRoom => out.say(&(v.remaining_capacity() >= n)),
@@ -181,6 +185,7 @@ fn remake<T: Item, A: Array<Item = T>>(v: &mut TinyVec<A>, call: &mut Call<T>, o
         Name::FromSlice => set_made(v, TinyVec::from_slice(alloc, call.items.as_slice()), out),
         Name::FromVec => set(v, TinyVec::from_vec(call.take_items())),
         Name::FromIter => set_collected(v, TinyVec::from_iter(alloc, call.take_items()), out),
+        Name::Collect => set_made(v, call.take_items().into_iter().collect(alloc), out),
         Name::FromArray | Name::TryFromArrayLen => {
             remake_of(v, array_of(call.items.as_mut_slice(), out), call, out);
         }
