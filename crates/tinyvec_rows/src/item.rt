@@ -157,10 +157,7 @@ impl Read for Shy {
             Some(both) => both,
             None => (word, "0"),
         };
-        Some(Shy::new(
-            i32::read(alloc, number)?,
-            usize::read(alloc, refused)?,
-        ))
+        Some(Shy::new(i32::read(alloc, number)?, usize::read(alloc, refused)?))
     }
 }
 

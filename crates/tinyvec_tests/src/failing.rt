@@ -48,11 +48,14 @@ impl Write for Closing {
     }
 }
 
-const FLUSHED: &str = "Counted { end: End { inner: Closing { room: 2 }, faults: 0, last_fault: None, flushed: true }, failed: 0 }";
+const FLUSHED: &str =
+    "Counted { end: End { inner: Closing { room: 2 }, faults: 0, last_fault: None, flushed: true }, failed: 0 }";
 
-const WRITTEN: &str = "Counted { end: End { inner: Closing { room: 0 }, faults: 0, last_fault: None, flushed: false }, failed: 0 }";
+const WRITTEN: &str =
+    "Counted { end: End { inner: Closing { room: 0 }, faults: 0, last_fault: None, flushed: false }, failed: 0 }";
 
-const CLOSED: &str = "Counted { end: End { inner: Closing { room: 0 }, faults: 1, last_fault: Some(BrokenPipe), flushed: false }, failed: 1 }";
+const CLOSED: &str =
+    "Counted { end: End { inner: Closing { room: 0 }, faults: 1, last_fault: Some(BrokenPipe), flushed: false }, failed: 1 }";
 
 #[test]
 fn flushes(rt: HostRuntime) -> Result<(), Fail> {
