@@ -156,10 +156,10 @@ def from_utf8(t, new):
         return "None"
 
 
-def collected(t, text):
+def collected(t, parts, are_pushed):
     new = Text()
     new.asked, new.granted = t.asked, t.granted
-    return None if new.adds(text, are_pushed=True) is None else t.is_now(new)
+    return None if new.adds(parts, are_pushed) is None else t.is_now(new)
 
 
 def retained(t, letter):
@@ -181,7 +181,8 @@ for name in ("new", "made_with"):
 calls("from_str T")(lambda t, text: t.made(list(text.encode())))
 calls("from_utf8_or_none SLOTS")(from_utf8)
 calls("with_capacity N")(lambda t, n: t.made([], room=n))
-calls("collect T")(collected)
+calls("collect T")(lambda t, text: collected(t, text, are_pushed=True))
+calls("collect_words T")(lambda t, text: collected(t, text.split(" "), are_pushed=False))
 
 # What appends to it.
 calls("push C")(lambda t, letter: t.adds([letter], are_pushed=True))
