@@ -1,4 +1,4 @@
-"""Scripts whose start is `each byte`: they are also cut, failed and interrupted at each byte.
+"""Scripts whose start is `each byte`: they also fail and are interrupted at each byte, and by `each byte cut` end there.
 
 Where the input of a script fails, its complete lines are answered; where the output fails, its first bytes are written."""
 from rows import rows
