@@ -12,8 +12,10 @@ EACH = 65535
 
 
 class Text(Vector):
-    def __init__(self, slots=SLOTS):
+    def __init__(self, slots=SLOTS, is_long=False):
         super().__init__("TinyVec", slots)
+        # Whether it meets long texts. Then the program that makes the calls needs memory for itself, so no request is counted.
+        self.is_long = is_long
 
     def state(self, spell=None):
         return f"{'inline' if self.is_inline else f'heap {self.on_heap}'} {(spell or told)(self.text())}"
@@ -47,8 +49,8 @@ def hexed(text):
 
 
 def drawn(draw):
-    t = Text()
-    t.list = list(drawn_text(draw).encode())
+    t = Text(is_long=draw.random() < 0.05)
+    t.list = list(drawn_text(draw, t).encode())
     t.is_inline = len(t.list) <= t.slots and draw.random() < 0.6
     t.spare = [0] * (t.slots - len(t.list)) if t.is_inline else []
     # Just the room for a text that is longer than the slots, or at least twice as much.
@@ -57,13 +59,15 @@ def drawn(draw):
     return t
 
 
-def drawn_text(draw):
-    return "".join(draw.choices(LETTERS, k=draw.choice([0, 1, 2, 3, 5, 9, draw.randint(0, 99)])))
+def drawn_text(draw, t):
+    # Bytes move in pieces of up to 8192, of which a long text has more.
+    count = draw.randint(6000, 9000) if t.is_long and draw.random() < 0.5 else draw.choice([0, 1, 2, 3, 5, 9, draw.randint(0, 99)])
+    return "".join(draw.choices(LETTERS, k=count))
 
 
 def drawn_slots(draw, t):
     """Bytes that the slots hold, mostly those of a text, and spare slots of any value."""
-    new = drawn_text(draw).encode()
+    new = drawn_text(draw, t).encode()
     new = new[: draw.randint(0, len(new))] if draw.random() < 0.3 else new
     spare = [draw.randrange(256) for _ in range(t.slots - len(new))]
     return (listed(new, spare).replace(" ", ""), new) if len(new) <= t.slots else None
@@ -75,7 +79,7 @@ OPERANDS = {
     "R": lambda draw, t: ("{}..{}".format(*(span := sorted(draw.choices(t.boundaries(), k=2)))), span),
     "N": lambda draw, _t: (str(n := draw.randint(0, 30)), n),
     "C": lambda draw, _t: (hexed(letter := draw.choice(LETTERS)), letter),
-    "T": lambda draw, _t: (hexed(text := drawn_text(draw)), text),
+    "T": lambda draw, t: (hexed(text := drawn_text(draw, t)), text),
     "SLOTS": drawn_slots,
     "STEPS": lambda draw, _t: (" ".join(steps := draw.choices(["next", "back", "left", "slice", "{:?}"], k=draw.randrange(7))), steps),
 }
@@ -101,7 +105,7 @@ def drawn_call(draw, t, is_refused):
         operands = [OPERANDS[it](draw, t) for it in forms]
         if None in operands:
             continue
-        is_counted = name not in UNCOUNTED
+        is_counted = name not in UNCOUNTED and not t.is_long
         t.asked, t.granted = 0, math.inf
         if is_refused and is_counted and draw.random() < 0.2:
             t.granted = draw.choice([0, 0, 1])

@@ -10,7 +10,7 @@ import re
 from building.crates import text_of
 from pages import naming, reference
 from reading import contracts, exports
-from reading.definitions import COMMENT, code, source_of, words_of
+from reading.definitions import code, source_of, words_of
 
 TOP = exports.TOP
 PAGE = TOP / "docs/reference/WORDS.md"
@@ -80,12 +80,12 @@ class Words:
     def section(self, path):
         crate, _, stem = path.partition(".specs.")
         file = source_of(path)
-        title = COMMENT.match(text_of(file))
+        title = re.match(r"(?:-- .*\n)*", text_of(file))[0].replace("-- ", "").replace("\n", " ").strip()
         rows = [it for it in self.defined if it[0] == path and it in self.cited]
         shown = sorted({self.examples[it][0] for it in rows if it in self.examples})
         links = " and ".join(f"[`{it.relative_to(TOP)}`](../../{it.relative_to(TOP)})" for it in shown)
         place = f"In [`{file.name}`](../../{file.relative_to(TOP)})" + f", examples in {links}" * bool(shown)
-        head = f"\n\n## `{stem}` of `{crate}`\n\n{title[1] if title else ''} {place}.\n"
+        head = f"\n\n## `{stem}` of `{crate}`\n\n{title} {place}.\n"
         return f"{head}\n| Word | Means | For example |\n|---|---|---|\n" + "\n".join(map(self.row, rows))
 
     def example(self, word):

@@ -36,7 +36,7 @@ class Said:
         for folder, file, line, error in ERROR.findall(text):
             self.errors.setdefault(folder, []).append(" ".join(error.split()))
             if file == "Answers":
-                self.places.setdefault(folder, []).append(int(line))
+                self.places.setdefault(folder, {})[int(line)] = error
 
     def refusal(self, path):
         """Of which kind the refusal of a function is, or None where it is not refused, or only for another that it calls."""
@@ -48,12 +48,16 @@ class Said:
         return KINDS[1] if is_stale else KINDS[0]
 
     def without(self, path, texts):
-        """The file of the written answers of a function, and its text without those of which the check tells an error."""
-        file = f"proofs/{folder_of(path)}/Answers.antt"
+        """The file of the written answers of a function, and its text without those of which the check tells an error, and
+        without the imports that it does not find."""
+        file, places = f"proofs/{folder_of(path)}/Answers.antt", self.places.get(folder_of(path), {})
         answers, line, left = texts(file), 1, []
         for part in answers.split("\n\n"):
-            end = line + part.count("\n") + 1
-            if part.startswith("use ") or not any(line <= it <= end for it in self.places.get(folder_of(path), ())):
+            lines = part.split("\n")
+            end = line + len(lines)
+            if part.startswith("use "):
+                left.append("\n".join(filter(None, (found_of(it, places.get(at, "")) for at, it in enumerate(lines, line)))))
+            elif not any(line <= it <= end for it in places):
                 left.append(part)
             line = end + 1
         return file, "\n\n".join(left)
@@ -86,6 +90,13 @@ class Desk:
             if keeps and said.is_proved:
                 running.replace(copy / "out" / crates.KEPT, self.base.out / crates.KEPT)
         return said
+
+
+def found_of(line, error):
+    """An import without the names that an error of it tells of."""
+    head, brace, names = line.rstrip("}").partition(".{")
+    left = [it for it in names.split(", ") if f"`{it}`" not in error]
+    return f"{head}.{{{', '.join(left)}}}" if brace and left else line * (not brace)
 
 
 def folder_of(path):

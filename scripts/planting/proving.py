@@ -11,7 +11,7 @@ from . import checking, edits, functions
 # How many edits one check tries: more would leave cores idle at the end.
 MOST = 24
 # How often answers are taken away from the proof of one body.
-TURNS = 3
+TURNS = 6
 SURVIVED = "survived"
 
 
@@ -124,6 +124,11 @@ class Run:
                 break
             kinds |= {it: self.kind(it, said) or self.kind_unrefused(it, said) for it in batch}
             batch = [it for it in batch if kinds[it] == checking.KINDS[1]]
+        # Where search does not prove the right body without these answers either, its refusal shows nothing.
+        if shown := [it for it in kinds if kinds[it] == checking.KINDS[0]]:
+            said = self.desk(shown[0].crate).check(answers, self.paths(shown), 1)
+            is_proved = lambda it: said.is_judged and all(said.verdicts[path].startswith("proved") for path in self.own(it, said))
+            kinds |= {it: checking.KINDS[1] for it in shown if not is_proved(it)}
         return kinds
 
     def is_noted(self, edit, kind):

@@ -17,7 +17,7 @@ pub enum Failure {
     /// Memory was refused for a line, or for its answer.
     #[error("cannot answer a line: out of memory")]
     Memory,
-    /// `u64::MAX` pieces were read, and the input goes on.
+    /// `u64::MAX` pieces were read, and none was the end.
     #[error("cannot read input: too long")]
     TooLong,
     /// The writer reported a fault.

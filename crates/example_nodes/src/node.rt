@@ -12,7 +12,7 @@ pub enum Node {
     List(Box<Nodes>),
 }
 
-/// Some nodes. Two of them take no memory beside the vector's own.
+/// Some nodes, of which two fit the value.
 pub type Nodes = TinyVec<[Node; 2]>;
 
 impl Default for Node {

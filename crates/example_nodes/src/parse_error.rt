@@ -15,7 +15,7 @@ pub enum Fault {
     NotClosed,
     /// As many brackets are open as may be.
     TooDeep,
-    /// No number, bracket or blank has this byte.
+    /// This byte has no meaning here.
     Byte,
     /// With this digit the number does not fit 64 bits.
     Number,

@@ -100,7 +100,7 @@ abbrev pub HasSamples : List ℕ → Type 0
 HasSamples rest = HasStation rest × ((samples : List ℕ) × AreSamples (word_of (rest_of rest)) samples)
 
 -- The reason of a refusal, by the first word and what is after it. Memory is refused only if it is asked for: for what
--- is a record, or begins with a byte.
+-- is a record, or begins with a byte, or for a copy.
 abbrev pub Tells : (word rest : List ℕ) → CommandError → Type 0
 Tells word rest Text = ⊥
 Tells word rest Unknown = IsCommand word → ⊥

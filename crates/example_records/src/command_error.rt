@@ -16,7 +16,7 @@ pub enum CommandError {
     Station,
     /// The samples are no list of up to eight numbers that fit a `u16`.
     Samples,
-    /// There are no pairs of digits in hex.
+    /// What follows is not all pairs of digits in hex.
     Hex,
     /// The length is no number, or is above that of the stream.
     Length,

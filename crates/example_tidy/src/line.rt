@@ -10,10 +10,10 @@ use crate::words::next_word;
 use std::alloc::{AllocError, Global};
 use tinyvec::TinyVec;
 
-/// The bytes of a line. Up to 80 of them are in the value, and a longer line is on the heap.
+/// The bytes of a line, of which up to 80 fit the value.
 pub type LineText = TinyVec<[u8; 80]>;
 
-/// Lines that are to be written. Up to 4096 bytes of them are in the value.
+/// Lines that are to be written, of which up to 4096 bytes fit the value.
 pub type Output = TinyVec<[u8; 4096]>;
 
 /// Appends the normal form of a line and a line feed. If memory was refused, nothing was appended.

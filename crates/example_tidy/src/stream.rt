@@ -31,7 +31,7 @@ pub enum TidyError {
     /// Memory was refused, for a line that does not fit its place in the program.
     #[error("out of memory")]
     Memory,
-    /// `u64::MAX` pieces were read, and the input goes on.
+    /// `u64::MAX` pieces were read, and none was the end.
     #[error("cannot read input: too long")]
     TooLong,
 }

@@ -1,4 +1,4 @@
--- The words of the crates below that contracts here cite, so that a caller names one crate.
+-- Words of the crates below, so that a caller names one crate.
 pub use Rattle.tinyvec_slots.specs.Slots
 pub use Rattle.tinyvec_slots.specs.Ranges
 pub use Rattle.tinyvec_slots.specs.Ends

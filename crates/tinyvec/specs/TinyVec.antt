@@ -1,4 +1,4 @@
--- What a contract sees of a `TinyVec`: its list, its spare slots, its place, and its capacity.
+-- What a contract sees of a `TinyVec`: its list, its spare slots and its place.
 use Rattle.std.specs.Prelude.{ℕ, List, [], length, take, drop, true, false, vec_capacity, Bool, IsTrue}
 use Rattle.std.specs.Global.{Global}
 use Rattle.std.specs.Vec.{vec_allocator}

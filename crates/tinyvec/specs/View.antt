@@ -1,5 +1,5 @@
--- What all contracts see of a `TinyVec`: its list, the spare slots after it, and its place, which has its capacity; and what calls do to
--- these, in the words that an `ArrayVec` has too. No slots are lent to it, so a `Unit` stands in the place of their name.
+-- What contracts see of a `TinyVec`: its list, the spare slots after it, and its place; and what calls do to these.
+-- An `ArrayVec` has these words too. No slots are lent to a `TinyVec`, so a `Unit` stands in the place of their name.
 use Rattle.std.specs.Prelude.{◌≡◌, ℕ, zero, suc, ◌+◌, ◌-◌, ◌*◌, ◌≤◌, nat_le, max, if◌then◌else◌, List, ◌++◌, [], length, drop, All, Bool, true, false, IsTrue, ◌⊎◌}
 use Rattle.std.specs.List.{AllZip}
 use Rattle.tinyvec_slots.specs.Slots.{AreDefaults}
@@ -69,7 +69,7 @@ module _ {T : Type 0} where
     pub spare : new.spare ≡ old.spare
     pub place : new.place ≡ old.place
 
-  -- v is the list of old from i on, in the place of old: inline before defaults, on the heap with a capacity of its length
+  -- v is the list of old from i on: inline if old is, before defaults, else on the heap with a capacity of its length
   pub record IsTail (D : T → Type 0) (slots i : ℕ) (old v : TinyView T) : Type 0 where
     pub items : v.items ≡ drop i old.items
     pub place : v.place.inline ≡ old.place.inline
@@ -78,8 +78,8 @@ module _ {T : Type 0} where
     pub inline_capacity : IsTrue v.place.inline → old.place.capacity ≡ slots → v.place.capacity ≡ slots
     pub fits : length v.items ≤ v.place.capacity
 
-  -- what `v.clone()` may return: clones of the items and the spare slots in the same place, on the heap with a capacity of
-  -- the length; C is the `is_clone` of the item
+  -- what `v.clone()` may return: clones of the items and the spare slots, inline if v is, else on the heap with a capacity
+  -- of the length; C is the `is_clone` of the item
   pub record IsTinyClone (C : T → T → Type 0) (v w : TinyView T) : Type 0 where
     pub items : AllZip C v.items w.items
     pub len : length w.items ≡ length v.items

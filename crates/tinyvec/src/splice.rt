@@ -204,7 +204,7 @@ fn push_apart<T: Copy>(heap: &mut Vec<T>, from: &[T])
 impl<A: Array> CanSplice for TinyVec<A> {
     ghost use Rattle.tinyvec.specs.SpliceLaws.{frame_refl, frame_then, frame_room, frame_grows, stays_grows, grows_room};
 
-    // No number of touches is promised.
+    // `finish_counted` promises no number of touches.
     ghost counted = { false };
 
     ghost must_end = { true };

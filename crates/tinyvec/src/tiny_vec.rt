@@ -19,6 +19,7 @@ mod extending;
 mod filters;
 mod traits;
 
+use crate::tuned::push_many_clones;
 use std::alloc::{AllocError, Global};
 use std::convert::AsSlice;
 use std::{mem, slice};
@@ -252,6 +253,8 @@ impl<A: Array> TinyVec<A> {
 
     /// A vector of clones of the slice's items, inline if they fit the array. Otherwise room for all is allocated once,
     /// before any is cloned.
+    // Inlined, and with one return for each place, like `clone`.
+    #[inline(always)]
     pub fn from_slice(alloc: Global, slice: &[A::Item]) -> Result<Self, AllocError>
     where
         A::Item: Clone,
@@ -262,9 +265,14 @@ impl<A: Array> TinyVec<A> {
             → (j : ℕ) × RefusedAt A.Item.is_infallible slice.now j) }
         ensures succeeds { length slice.now ≤ A.CAPACITY → All A.Item.is_infallible slice.now → IsOk result }
     {
-        let mut vec = Self::with_capacity(alloc, slice.len())?;
-        vec.extend_reserved(slice)?;
-        Ok(vec)
+        if slice.len() <= A::CAPACITY {
+            let mut inline = ArrayVec::new();
+            inline.extend_from_slice(slice)?;
+            return Ok(TinyVec::Inline(inline, alloc));
+        }
+        let mut heap = Vec::with_capacity(alloc, slice.len())?;
+        push_many_clones(&mut heap, slice)?;
+        Ok(TinyVec::Heap(heap))
     }
 }
 

@@ -10,10 +10,13 @@ ghost use Rattle.tinyvec.specs.OnHeap.{HeapBecomes, PushesClones};
 
 use std::alloc::AllocError;
 use std::mem;
-use tinyvec_slots::authors::{clone_each, fit_registers};
+use tinyvec_slots::authors::{are_bytes, clone_each, fit_registers};
 
 // Appends clones of `from`, if there is room.
-pub(crate) fn push_clones<T: Clone>(heap: &mut Vec<T>, from: &[T]) -> Result<(), AllocError>
+pub(crate) fn push_clones<T: Clone + Default + Drop>(
+    heap: &mut Vec<T>,
+    from: &[T],
+) -> Result<(), AllocError>
     requires room { vec_len heap.old + length from.now ≤ vec_capacity heap.old }
     ensures { PushesClones T.Clone from.now result heap.old heap.new }
 {
@@ -31,7 +34,7 @@ pub(crate) fn push_clones<T: Clone>(heap: &mut Vec<T>, from: &[T]) -> Result<(),
 
 // Appends clones until one fails, if there is room. Returns how many of `from` were cloned.
 #[inline(always)]
-fn push_until_refused<T: Clone>(vec: &mut Vec<T>, from: &[T]) -> usize
+fn push_until_refused<T: Clone + Default + Drop>(vec: &mut Vec<T>, from: &[T]) -> usize
     requires room { vec_len vec.old + length from.now ≤ vec_capacity vec.old }
     ensures within { result ≤ length from.now }
     ensures items { AppendsClones T.is_clone vec.old.items vec.new.items (take result from.now) }
@@ -39,8 +42,15 @@ fn push_until_refused<T: Clone>(vec: &mut Vec<T>, from: &[T]) -> usize
     ensures capacity { vec_capacity vec.new ≡ vec_capacity vec.old }
 {
     let mut done = 0;
-    // Smaller items LLVM moves in longer blocks itself.
-    while 4 <= from.len() - done && fit_registers(from) {
+    // Bytes too: LLVM's own blocks have 32 of them. Items of 2 or 3 bytes are left to it.
+    while 16 <= from.len() - done && are_bytes(from) {
+        let Ok(block) = clone_block::<T, 16>(&from[done..]) else {
+            return done;
+        };
+        push_whole(vec, block);
+        done += 16;
+    }
+    while 4 <= from.len() - done && (are_bytes(from) || fit_registers(from)) {
         let Ok(()) = push_four(vec, &from[done..]) else {
             return done;
         };

@@ -26,8 +26,8 @@ use std::convert::AsSlice;
 use std::{mem, slice};
 
 /// A list in slots: in an array, or in a slice that is lent for writing. The slots after the list are its spare slots: they
-/// hold values too, and vacated ones hold defaults. When a vector in a lent slice is dropped, the owner of the slots sees
-/// the list followed by the spare slots.
+/// hold values too, and vacated ones defaults, unless a call says otherwise. When a vector in a lent slice is dropped, the
+/// owner of the slots sees the list followed by the spare slots.
 #[derive(Drop)]
 pub struct ArrayVec<S: Drop, L: Drop = <S as Slots>::Len> {
     len: L,

@@ -5,8 +5,8 @@ ghost use Rattle.tinyvec_array.specs.UpTo.{up_to, up_to-len};
 
 use crate::UpTo;
 
-/// A number of slots: an array, or a slice that is lent for writing. It asks nothing of an item, so a type can hold itself
-/// through a vector in an array.
+/// A number of slots: an array, or a slice that is lent for writing. It asks only `Drop` of an item, so a type can hold
+/// itself through a vector in an array.
 pub trait Slots: Drop {
     /// What a slot holds.
     type Item: Drop;

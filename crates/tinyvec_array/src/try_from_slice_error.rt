@@ -1,4 +1,4 @@
-//! Why a slice gives no `ArrayVec`.
+//! Why a slice was not taken.
 
 use thiserror::Error;
 
@@ -6,7 +6,7 @@ use thiserror::Error;
 #[derive(Debug, Clone, Copy, PartialEq, Eq, Error)]
 #[error("could not convert slice to ArrayVec")]
 pub enum TryFromSliceError {
-    /// The slice is longer than the array.
+    /// The slice has more items than there is room for.
     TooLong,
     /// A clone of an item failed.
     Memory,

@@ -33,7 +33,9 @@ impl Bench<()> for GraphBench<'_> {
 
 /// A graph of so many nodes.
 pub fn of_graph<R: Report>(report: &mut R, alloc: Global, count: usize) {
-    let edges = edges_of(alloc, count);
+    let Ok(edges) = edges_of(alloc, count) else {
+        return;
+    };
     let mut bench = GraphBench {
         alloc,
         edges: edges.as_slice(),
@@ -43,19 +45,19 @@ pub fn of_graph<R: Report>(report: &mut R, alloc: Global, count: usize) {
 }
 
 // Three edges for each node, from any to any.
-fn edges_of(alloc: Global, count: usize) -> Vec<Edge> {
+fn edges_of(alloc: Global, count: usize) -> Result<Vec<Edge>, AllocError> {
     let mut edges = Vec::new(alloc);
     let nodes = count.max(1) as u64;
     let mut state: u64 = 1;
     for _i in 0..count.saturating_mul(3) {
         state = state_behind(state);
         let number = state / 4294967296;
-        let _refused = edges.push(Edge {
+        edges.push(Edge {
             from: (number % nodes) as usize,
             to: Item::of(number / nodes % nodes),
-        });
+        })?;
     }
-    edges
+    Ok(edges)
 }
 
 // Builds the graph, drops some of its edges, and adds up what is reached.

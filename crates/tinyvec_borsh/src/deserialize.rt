@@ -17,7 +17,7 @@ pub trait BorshDeserialize: BorshForm + Sized {
     // room for, or a text that is not UTF-8, or one that may need an allocation.
     ghost Reason: { BorshError → List ℕ → Type 0 };
 
-    /// Reads the value at the start of the input, and leaves the rest unread. A whole number is read by one call, and a
+    /// Reads the value at the start of the input, and leaves the rest unread. A whole number is read by one `fill`, and a
     /// list of whole numbers in blocks. Allocates only if a `TinyVec` moves to the heap.
     fn deserialize_reader<R: Read>(
         alloc: Global,

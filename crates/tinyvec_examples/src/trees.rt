@@ -4,7 +4,7 @@ ghost use Rattle.std.specs.Prelude.{◌≡◌};
 use std::alloc::{AllocError, Global};
 use tinyvec::TinyVec;
 
-/// A number, or a sum of such terms, the first two of which are in the array of its vector.
+/// A number, or a sum of such terms, of which two fit the array of its vector.
 #[derive(Drop, Debug)]
 pub enum Term {
     Leaf(u32),

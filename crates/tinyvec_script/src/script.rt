@@ -33,13 +33,14 @@ pub enum RunError {
     /// The writer failed.
     #[error("cannot write output")]
     Write,
-    /// `u64::MAX` bytes were read, and the input goes on.
+    /// `u64::MAX` pieces were read, and none was the end.
     #[error("input too long")]
     TooLong,
 }
 
 /// Reads lines, and writes an answer line to each. The answers to all lines read so far are written before more is read, and
-/// the writer is flushed once, at the end of the input. Only the calls of the vectors and of the text allocate.
+/// the writer is flushed once, at the end of the input. Only calls allocate, and the reading of a
+/// splice's line.
 pub fn run<R: Read, W: Write>(
     alloc: Global,
     reader: &mut Counted<R>,
@@ -71,7 +72,7 @@ pub fn run<R: Read, W: Write>(
     ensures write_fault { IsErrOf result RunError.Write
         → Reported writer.old.faults writer.new.faults }
 
-    // An input of this length is not read to its end.
+    // So long an input is not read on.
     ensures too_long { IsErrOf result RunError.TooLong → (input output : List ℕ)
         × Consumes (R.remaining reader.old.inner) (R.remaining reader.new.inner) input
         × (2 ^ 64 - 1 ≤ length input)

@@ -1,5 +1,4 @@
--- What a contract sees of a splice, and what its calls do to it. `items`, `Kept`, `room` and `Grown` are those of the vector's
--- `CanSplice`.
+-- What a contract sees of a splice. `items`, `Kept`, `room` and `Grown` are those of the vector's `CanSplice`.
 use Rattle.std.specs.Prelude.{◌≡◌, ℕ, ◌+◌, ◌≤◌, false, List, length, take, drop, slice_range, Option, Result, IsOk, OnErr, IfErr}
 use Rattle.std.specs.Borrow.{GName, MutBor}
 use Rattle.std.specs.declared.iter.Fuse.{Fuse}

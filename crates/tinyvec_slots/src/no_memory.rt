@@ -1,4 +1,4 @@
-//! What is returned if the allocator refuses.
+//! What is returned if memory is refused.
 ghost use Rattle.std.specs.Prelude.{◌≡◌};
 ghost use Rattle.std.specs.IoError.{error_kind};
 ghost use Rattle.std.specs.declared.io.ErrorKind.TheVariants.{OutOfMemory};
@@ -6,7 +6,7 @@ ghost use Rattle.std.specs.declared.io.ErrorKind.TheVariants.{OutOfMemory};
 use std::alloc::{AllocError, AllocFailed};
 use std::io::Error;
 
-/// The allocator refused. The argument is returned.
+/// The allocator refused, or a clone failed. The argument is returned.
 #[derive(PartialEq, Eq, Debug, Drop)]
 pub struct NoMemory<T>(pub T);
 

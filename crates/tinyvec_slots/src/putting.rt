@@ -1,6 +1,6 @@
 //! Items put behind a list that has room for them, once for all vectors.
 //!
-//! Each loop holds the place itself, and the length is set once, at its end: LLVM makes vector code of a loop over slots only
+//! Each loop holds the place itself, and the length of a list in slots is set once, at its end: LLVM makes vector code only
 //! if no turn writes the length. A `Vec` is best in a local variable of the caller meanwhile.
 ghost use Rattle.std.specs.Prelude.{◌≡◌, ◌+◌, ◌<◌, ◌≤◌, ◌++◌, ◌-◌, ◌^◌, List, length, take, drop, replicate, Some, MatchResult, OnOk, OnErr, IsOk, slice_range, vec_len, vec_capacity};
 ghost use Rattle.std.specs.List.{FoldsTo, AllZip};

@@ -18,7 +18,8 @@ use std::fmt;
 use std::iter::{Fuse, FusedIterator};
 
 /// Yields the items of a range, and puts those of `replacement` in their place. Each item taken from one end is replaced
-/// by one item of `replacement` from that end. A splice must be finished by `finish`, `finish_counted` or `stop`.
+/// by one item of `replacement` from that end, if one is left. A splice must be finished by `finish`, `finish_counted` or
+/// `stop`.
 pub struct Splice<'a, V, I: Drop> {
     vec: &'a mut V,
     gap: Gap,

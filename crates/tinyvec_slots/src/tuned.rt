@@ -6,11 +6,9 @@
 //! - Short runs are moved or written one by one, since a rotation and `memset` cost more than a few items.
 //! - If a constant bounds a length, the branches for longer slices are gone after inlining.
 //! - LLVM moves numbers of 4 to 16 bytes in registers, several at once, if all of a block are read before one is written. It
-//!   does so itself for bytes. A block of larger items would fill the stack, so they are moved one by one.
+//!   does so itself for bytes, 32 at a time. A block of larger items would fill the stack, so they are moved one by one.
 //! - Up to 16 bytes, a move that takes no branch beats a test of whether it is needed.
 //! - Up to 128 bytes, moves one by one beat `memmove`.
-//!
-//! `sizes` has the test of each class of sizes.
 
 pub(crate) mod cloning;
 pub(crate) mod comparing;

@@ -14,6 +14,7 @@ use std::alloc::AllocError;
 use std::boxed::BoxedSlice;
 use tinyvec_array::{Array, ArrayVec};
 use tinyvec_slots::NoMemory;
+use tinyvec_slots::authors::put_taken;
 
 impl<A: Array> TinyVec<A> {
     /// Reserves room for `additional` items more. An inline list whose array has no such room moves to the heap. If
@@ -98,9 +99,7 @@ impl<A: Array> TinyVec<A> {
         ensures slots { length (slots_of A.Slots result) ≡ A.CAPACITY }
     {
         let mut v = ArrayVec::new();
-        for x in heap.drain(..) {
-            v.push(x);
-        }
+        put_taken(&mut v, heap.as_mut_slice());
         v
     }
 

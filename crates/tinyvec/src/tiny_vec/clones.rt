@@ -13,7 +13,7 @@ use tinyvec_array::Array;
 use tinyvec_slots::authors::clone_over;
 
 impl<A: Array> TinyVec<A> {
-    /// Clones the vector, spare slots too. The clone is in the same place.
+    /// Clones the vector, spare slots too. The clone is inline exactly if this one is.
     // Inlined, and with one return for each variant: a shared return copies the whole value once more.
     #[inline(always)]
     pub fn clone(&self) -> Result<Self, AllocError>
@@ -96,7 +96,7 @@ where
 
     ghost is_infallible = { λ v. IsTinyInfallible A.Item.is_infallible (view A.Slots v) };
 
-    /// Clones the vector, spare slots too. The clone is in the same place.
+    /// Clones the vector, spare slots too. The clone is inline exactly if this one is.
     fn clone(&self) -> Result<Self, AllocError> {
         self.clone()
     }

@@ -30,8 +30,8 @@ impl<A: Array> TinyVec<A> {
         }
     }
 
-    /// Appends `value`. A full list first doubles its capacity, which moves an inline one to the heap. If the allocator
-    /// refuses, nothing changes and `value` is returned.
+    /// Appends `value`. A full list first doubles its capacity, to one at least, which moves an inline one to the heap. If
+    /// the allocator refuses, nothing changes and `value` is returned.
     // Inlined, since LLVM otherwise passes items that need a drop, and the result that may hold one, through memory.
     #[inline(always)]
     pub fn push(&mut self, value: A::Item) -> Result<(), NoMemory<A::Item>>
@@ -83,7 +83,14 @@ impl<A: Array> TinyVec<A> {
             (view A.Slots self.new) (take (length (view A.Slots self.old).items - 1) (view A.Slots self.old).items) }
     {
         match self {
-            TinyVec::Inline(v, _) => v.pop(),
+            TinyVec::Inline(v, _) => {
+                let len = v.len();
+                if len == 0 {
+                    return None;
+                }
+                // Its index of 32 bits shows LLVM that no write reaches the variant.
+                Some(v.swap_remove(len - 1))
+            }
             TinyVec::Heap(v) => v.pop(),
         }
     }
@@ -103,8 +110,8 @@ impl<A: Array> TinyVec<A> {
         }
     }
 
-    /// Inserts `element` at `index`, and moves the later items up. A full list first doubles its capacity, which moves
-    /// an inline one to the heap. If the allocator refuses, nothing changes and `element` is returned.
+    /// Inserts `element` at `index`, and moves the later items up. A full list first doubles its capacity, to one at
+    /// least, which moves an inline one to the heap. If the allocator refuses, nothing changes and `element` is returned.
     // Inlined, so that the variant is tested once for this call and the next.
     #[inline(always)]
     pub fn insert(&mut self, index: usize, element: A::Item) -> Result<(), NoMemory<A::Item>>
@@ -209,8 +216,8 @@ impl<A: Array> TinyVec<A> {
         }
     }
 
-    /// Splits the list at `at` and returns the items from `at` on. The result is in the same place. An inline list
-    /// allocates nothing; one on the heap allocates room for those items.
+    /// Splits the list at `at` and returns the items from `at` on. The result is inline exactly if the list is. An
+    /// inline list allocates nothing; one on the heap allocates room for those items.
     pub fn split_off(&mut self, at: usize) -> Result<Self, AllocError>
         requires { at ≤ length (view A.Slots self.old).items }
         ensures becomes { Becomes A.Item.is_default (view A.Slots self.old) (view A.Slots self.new)

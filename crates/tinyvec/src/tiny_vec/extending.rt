@@ -159,6 +159,18 @@ impl<A: Array> TinyVec<A> {
         }
     }
 
+    // Empties a list of defaults. Those of an inline one stay in their slots.
+    #[inline(always)]
+    fn clear_defaults(&mut self)
+        requires { All A.Item.is_default (view A.Slots self.old).items }
+        ensures { Becomes A.Item.is_default (view A.Slots self.old) (view A.Slots self.new) [] }
+    {
+        match self {
+            TinyVec::Inline(v, _) => v.set_len(0),
+            TinyVec::Heap(v) => v.truncate(0),
+        }
+    }
+
     // `append` to a list that has room.
     fn append_reserved(&mut self, other: &mut Self)
         requires { length (view A.Slots self.old).items + length (view A.Slots other.old).items ≤ (view A.Slots self.old).place.capacity }
@@ -167,7 +179,7 @@ impl<A: Array> TinyVec<A> {
         ensures other { Becomes A.Item.is_default (view A.Slots other.old) (view A.Slots other.new) [] }
     {
         self.append_slots(other.as_mut_slice());
-        other.clear();
+        other.clear_defaults();
     }
 
     /// Moves the items of `other` to the end, and leaves `other` empty. Each item moves once. `other` stays in its place.

@@ -6,7 +6,7 @@ ghost use Rattle.tinyvec_slots.specs.Ranges.{Within};
 ghost use Rattle.std.specs.Borrow.{sem};
 ghost use Rattle.std.specs.List.{swap_remove, SwappedAt};
 
-use crate::parts::slot_of;
+use crate::parts::{part_of, slot_of};
 use crate::tuned::indexing::{bounded_index, bounded_len, prefers_shifting_in};
 use crate::tuned::resetting::fill_default;
 use crate::tuned::shifting::{insert_shifting, last_to};
@@ -141,10 +141,20 @@ where
         ensures value { result ≡ slice_get (view S.Slots self.old).items (length (view S.Slots self.old).items - 1) }
         ensures none { IfNone result (self.new ≡ self.old) }
     {
-        if self.is_empty() {
+        let len = self.len();
+        if len == 0 {
             return None;
         }
-        Some(self.take_last())
+        // In a lent slice an index takes an instruction less.
+        if self.slots.most() == usize::MAX {
+            return Some(self.take_last());
+        }
+        let Some(last) = part_of(&mut self.slots, 0, len).last_mut() else {
+            unreachable!();
+        };
+        let item = mem::take(last);
+        self.len = self.slots.to_len(len - 1);
+        Some(item)
     }
 
     // Takes the last item.

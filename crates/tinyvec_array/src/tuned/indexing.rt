@@ -19,8 +19,8 @@ pub(crate) fn bounded_index(i: usize, most: usize) -> usize
     i as u32 as usize
 }
 
-// The same of a length that is stored, and counts down in a loop of pops: in 32 bits too, but of bytes, whose loop LLVM
-// vectorizes otherwise.
+// The same of a length that is stored, and counts down in a loop of pops, if an item takes 4 to 16 bytes: a loop over bytes
+// LLVM vectorizes otherwise.
 #[inline(always)]
 pub(crate) fn bounded_len<T>(slots: &[T], n: usize, most: usize) -> usize
     requires some { 0 < length slots.now }

@@ -4,6 +4,7 @@ ghost use Rattle.tinyvec_slots.specs.Ranges.{Within};
 ghost use Rattle.tinyvec_slots.specs.Slots.{AreDefaults};
 
 use crate::tuned::indexing::prefers_shifting;
+use tinyvec_slots::authors::are_small;
 
 // Writes a default into each slot from `start` up to `end`, which are at most `most`. A constant `most` removes the branches
 // for more slots.
@@ -22,12 +23,16 @@ pub(crate) fn fill_default<T: Default + Drop>(
     fill_at_most(&mut slots[start..end], most);
 }
 
-// Writes a default into each slot. Short slices are written as two overlapping runs, which beats `memset`.
+// Writes a default into each slot. Short slices of small items are written as two overlapping runs, which beats `memset`;
+// larger ones, which may need a drop, are written once.
 fn fill_at_most<T: Default + Drop>(slots: &mut [T], most: usize)
     requires { length slots.old ≤ most }
     ensures { AreDefaults T.is_default (length slots.old) slots.new }
 {
     let count = slots.len();
+    if count > 0 && !are_small(slots) {
+        return fill_each(slots);
+    }
     if most > 32 && count > 32 {
         fill_many(slots);
     } else if most > 16 && count > 16 {
@@ -43,7 +48,7 @@ fn fill_at_most<T: Default + Drop>(slots: &mut [T], most: usize)
     }
 }
 
-// The same, for more than 32 slots. Few bytes are written one by one, which beats `memset`.
+// The same, for more than 32 slots. Up to 128 bytes two runs still beat `memset`.
 fn fill_many<T: Default + Drop>(slots: &mut [T])
     requires { 32 < length slots.old }
     ensures { AreDefaults T.is_default (length slots.old) slots.new }

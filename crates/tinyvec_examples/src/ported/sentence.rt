@@ -1,7 +1,7 @@
 //! A sentence of a receiver of satellite positions, as `$GPGGA,123519,4807.038,N*47`.
 use tinyvec_array::ArrayVec;
 
-/// The fields of a sentence, or `None` if it has no `$` or no `*`, or more than 20 fields.
+/// The fields of a sentence, or `None` if it does not begin with `$`, has no `*`, or more than 20 fields.
 pub fn fields(sentence: &str) -> Option<ArrayVec<[&str; 20]>> {
     let body = sentence.strip_prefix('$')?;
     let (body, _checksum) = body.split_once('*')?;

@@ -13,7 +13,7 @@ pub fn add(alloc: Global, ports: &mut Ports, name: &str, port: u16) -> Result<()
     Ok(())
 }
 
-/// The port of a service, if its name is a key. It allocates nothing, so it cannot fail.
+/// The port of a service, if its name is a key of up to 16 bytes. It allocates nothing, so it cannot fail.
 pub fn port_of(alloc: Global, ports: &Ports, name: &str) -> Option<u16> {
     if name.len() > 16 {
         return None;

@@ -11,7 +11,7 @@ use crate::gap::Gap;
 use crate::touches::Touches;
 
 impl Gap {
-    // Drops the removed items that are left, places what `replacement` yields between what was placed from both ends, and
+    // Places what `replacement` yields over the removed items that are left, between what was placed from both ends, and
     // returns whether that filled the gap. If not, `replacement` is exhausted.
     #[inline(always)]
     pub(crate) fn fill<I: Iterator>(&mut self, slots: &mut [I::Item], replacement: &mut I) -> bool

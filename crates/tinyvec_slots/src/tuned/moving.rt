@@ -23,7 +23,7 @@ pub fn move_to_end<T>(items: &mut [T], start: usize, end: usize)
     rotate(&mut items[start..], end - start);
 }
 
-// Whether moving this many items one by one beats a rotation.
+// Whether swaps of this many items beat a rotation.
 #[inline(always)]
 fn prefers_swaps(count: usize) -> bool {
     count <= 64
@@ -39,7 +39,33 @@ fn rotate<T>(items: &mut [T], count: usize)
         first_to_end(items);
         return;
     }
+    if 512 <= count && 512 <= items.len() - count {
+        rotate_many(items, count);
+        return;
+    }
     items.rotate_left(count);
+}
+
+// The same by swaps of ends, which LLVM vectorizes, and by `rotate_left` once one side is short: a call in it has at most
+// 15 in 16 of the items, so few are on the stack. Not inlined, so that fewer items save no registers.
+#[inline(never)]
+fn rotate_many<T>(items: &mut [T], count: usize)
+    requires { count ≤ length items.old }
+    ensures { items.new ≡ drop count items.old ++ take count items.old }
+{
+    let rest = items.len() - count;
+    let least = (items.len() / 16).max(512);
+    if count < least || rest < least {
+        items.rotate_left(count);
+        return;
+    }
+    if count <= rest {
+        swap_ends(items, count);
+        rotate_many(&mut items[..rest], count);
+    } else {
+        swap_ends(items, rest);
+        rotate_many(&mut items[rest..], count - rest);
+    }
 }
 
 // Whether there are more items than a piece has, of 8 bytes or more. A call for the size alone costs `remove` six instructions.

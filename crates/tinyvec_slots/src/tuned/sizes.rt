@@ -1,4 +1,5 @@
-//! How many bytes an item takes. Each word is a constant once `T` is known, so the other branch is gone.
+//! How many bytes an item takes. Once `T` is known each word is a constant, but for `are_large` of larger items, and
+//! the other branch is gone.
 //!
 //! A word takes the items, since a slice fits in memory, and so the proof knows that no product wraps.
 ghost use Rattle.std.specs.Prelude.{◌<◌, length};
@@ -7,7 +8,7 @@ use std::mem;
 
 /// Whether an item takes one byte.
 #[inline(always)]
-pub(crate) fn are_bytes<T>(items: &[T]) -> bool
+pub fn are_bytes<T>(items: &[T]) -> bool
     requires some { 0 < length items.now }
 {
     items[..1].len() * mem::size_of::<T>() == 1
@@ -24,7 +25,7 @@ pub fn fit_registers<T>(items: &[T]) -> bool
 
 /// Whether an item takes up to 16 bytes.
 #[inline(always)]
-pub(crate) fn are_small<T>(items: &[T]) -> bool
+pub fn are_small<T>(items: &[T]) -> bool
     requires some { 0 < length items.now }
 {
     items[..1].len() * mem::size_of::<T>() <= 16

@@ -284,8 +284,8 @@ impl<const N: usize> InlineText<N> {
         c
     }
 
-    /// Splits the text at the byte `at`, where a character begins or the text ends, and returns what follows, in the same
-    /// place. An inline text allocates nothing; one on the heap allocates room for what follows.
+    /// Splits the text at the byte `at`, where a character begins or the text ends, and returns what follows, inline exactly
+    /// if the text is. An inline text allocates nothing; one on the heap allocates room for what follows.
     pub fn split_off(&mut self, at: usize) -> Result<Self, AllocError>
         requires { IsBoundary (text_chars self.old) at }
         ensures bytes { OnOk result (self.new.bytes ≡ take at self.old.bytes) }

@@ -1,4 +1,4 @@
-use Rattle.std.proofs.Common.{◌+◌, ◌-◌, ◌++◌, take, drop, length, length-take, length-drop, refl, sym, ap, ◌∙◌, arith, rules}
+use Rattle.std.proofs.Common.{◌+◌, ◌-◌, ◌++◌, take, drop, length, length-take, length-drop, length-append, refl, sym, ap, ◌∙◌, arith, rules}
 use Rattle.std.proofs.Math.Seq.{take-add}
 use Rattle.std.proofs.lemmas.List.{take_rest}
 use Rattle.tinyvec.proofs.CloneLemmas.{appends_of_next, appends_join, appends_len, refused_at}
@@ -7,21 +7,41 @@ use Rattle.tinyvec.proofs.tuned.push_until_refused.Goals as goal
 
 pub returns-in_default-clause-refused : goal.returns-in_default-clause-refused
 returns-in_default-clause-refused g c = λ _.
-    let I = g.T.Clone.is_infallible in
-    let from = c.args.from.now in
-    let at = c.in_default.ensures.refused in
-    refused_later I from c.loop-done.done (at.0, refused_in_front I (take (length from - c.loop-done.done) (drop c.loop-done.done from)) 4 at.0 at.1)
+    refused_later g.T.Clone.is_infallible c.args.from.now c.loop-done.done c.in_default.ensures.refused
 
 pub loop-done-preserved : goal.loop-done-preserved
 loop-done-preserved g c =
     let at = c.loop-done in
     let from = c.args.from.now in
-    let put = c.in-Ok.ensures in
+    let put = c.push_whole.ensures in
+    let made = c.in-Ok.ensures in
+    let part = take (length from - at.done) (drop at.done from) in
+    record {
+      within = omega (arith, c.loop-done-test.true, at.invariant.within);
+      cloned = appends_join g.T.Clone.is_clone c.args.vec.now.items at.vec.items c.push_whole.new.vec.items (take at.done from) (take 16 part) (take (at.done + 16) from)
+          (ap (λ l. take at.done from ++ take 16 l) (take_rest from at.done) ∙ sym (take-add at.done 16 from))
+          at.invariant.cloned (c.in-Ok.block, put.items, made.cloned);
+      room = omega (arith, c.push_whole.new.vec.ok.0, at.vec.ok.0, ap length put.items, length-append at.vec.items c.in-Ok.block, made.len, put.capacity, at.invariant.room, c.loop-done-test.true, at.invariant.within);
+      capacity = put.capacity ∙ at.invariant.capacity;
+    }
+
+pub returns-in_default-push_four-clause-refused : goal.returns-in_default-push_four-clause-refused
+returns-in_default-push_four-clause-refused g c = λ _.
+    let I = g.T.Clone.is_infallible in
+    let from = c.args.from.now in
+    let at = c.in_default-push_four.ensures.refused in
+    refused_later I from c.loop-done-2.done (at.0, refused_in_front I (take (length from - c.loop-done-2.done) (drop c.loop-done-2.done from)) 4 at.0 at.1)
+
+pub loop-done-2-preserved : goal.loop-done-2-preserved
+loop-done-2-preserved g c =
+    let at = c.loop-done-2 in
+    let from = c.args.from.now in
+    let put = c.in-Ok-push_four.ensures in
     let part = take (length from - at.done) (drop at.done from) in
     let cloned = appends_join g.T.Clone.is_clone c.args.vec.now.items at.vec.items c.push_four.new.vec.items (take at.done from) (take 4 part) (take (at.done + 4) from)
     (ap (λ l. take at.done from ++ take 4 l) (take_rest from at.done) ∙ sym (take-add at.done 4 from)) at.invariant.cloned put.items in
     record {
-      within = omega (arith, c.loop-done-test.true, at.invariant.within);
+      within = omega (arith, c.loop-done-2-test.true, at.invariant.within);
       cloned = cloned;
       room = omega (
         arith,
@@ -34,7 +54,7 @@ loop-done-preserved g c =
         put.capacity,
         at.invariant.room,
         at.invariant.within,
-        c.loop-done-test.true,
+        c.loop-done-2-test.true,
       );
       capacity = put.capacity ∙ at.invariant.capacity;
     }
