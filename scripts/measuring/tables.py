@@ -70,11 +70,11 @@ def print_table(first, columns, rows):
     print(flush=True)
 
 
-def print_programs(measured):
-    """A line for each program, by unit: what it takes, and how much of the plain Rust program's that is."""
-    names = next(iter(measured.values()))["here"]
-    cells = ((f"`{name}`", [cell(it, ["plain Rust"], name) for it in measured.values()]) for name in names)
-    print_table("Program, over plain Rust", [*measured], cells)
+def print_programs(measured, peers):
+    """A line for each program that the peers have, by unit: what it takes, and how much of theirs that is."""
+    names = next(iter(measured.values()))[peers[0]]
+    cells = ((f"`{name}`", [cell(it, peers, name) for it in measured.values()]) for name in names)
+    print_table(f"Program, over {', '.join(name_of(it, '') for it in peers)}", [*measured], cells)
 
 
 def print_groups(counted):

@@ -1,4 +1,4 @@
-"""Whole programs, each beside a plain Rust program that writes the same: the instructions, the time and the peak of memory."""
+"""Whole programs, each beside Rust programs that write the same: the instructions, the time and the peak of memory."""
 import concurrent.futures
 import os
 import pathlib
@@ -11,7 +11,9 @@ from measuring import inputs, instructions, programs
 from rows import refusing
 
 NAMES = list(inputs.MAKERS)
-SIDES = ("here", "plain Rust")
+# A program of the benchmark's own is beside the same over each crate of Rust's that grows.
+ROWS, PLAIN, CRATES = ("graph", "editor"), ["plain Rust"], ["tinyvec", "smallvec", "vec"]
+BUILT = [it for it in NAMES if it not in ROWS]
 
 
 def measure(lines, runs, cores):
@@ -21,36 +23,41 @@ def measure(lines, runs, cores):
         for name, source in sources.items():
             inputs.write(source, name, lines)
             check_answers(name, source)
+        of_each = lambda measured, name: {side: measured(it, sources[name]) for side, it in sides(name).items()}
         with concurrent.futures.ThreadPoolExecutor(os.cpu_count()) as pool:
-            count = lambda name: [instructions.of_run(it, sources[name]) / 1000000 for it in sides(name)]
-            counts = [*pool.map(count, sources)]
+            count = lambda it, source: instructions.of_run(it, source) / 1000000
+            counts = [*pool.map(lambda name: of_each(count, name), sources)]
         os.sched_setaffinity(0, cores)
         times = [least_times(name, source, runs) for name, source in sources.items()]
-        peaks = [[refusing.peak(it, [pathlib.Path(source).read_bytes()]) for it in sides(name)] for name, source in sources.items()]
+        peaks = [of_each(lambda it, source: refusing.peak(it, [pathlib.Path(source).read_bytes()]), name) for name in sources]
     units = {"Million instructions": counts, "Milliseconds": times, "KiB at most": peaks}
-    return {unit: {side: dict(zip(sources, it)) for side, it in zip(SIDES, zip(*of))} for unit, of in units.items()}
+    of_side = lambda side, of: {name: it[side] for name, it in zip(sources, of) if side in it}
+    return {unit: {side: of_side(side, of) for side in ["here", *PLAIN, *CRATES]} for unit, of in units.items()}
 
 
 def sides(name):
-    """A program of this repository, and the plain Rust program of that name."""
-    return [programs.program(name)], [programs.PEERS, name]
+    """By side, how a program is called that writes the same."""
+    if name in ROWS:
+        return {"here": [programs.program(programs.BENCH), name]} | {it: [programs.PEERS, name, it] for it in CRATES}
+    return {"here": [programs.program(name)], PLAIN[0]: [programs.PEERS, name]}
 
 
 def check_answers(name, source):
-    """Stops if the two programs write different lines."""
+    """Stops if two of the programs write different lines."""
     given = pathlib.Path(source).read_bytes()
-    here, there = (subprocess.run(it, input=given, stdout=subprocess.PIPE, check=True).stdout for it in sides(name))
-    if here != there:
-        sys.exit(f"{name} and the plain Rust program write different lines")
+    written = {subprocess.run(it, input=given, stdout=subprocess.PIPE, check=True).stdout for it in sides(name).values()}
+    if len(written) > 1:
+        sys.exit(f"{name} and a Rust program of that name write different lines")
 
 
 def least_times(name, source, runs):
     """The least milliseconds of each side, in turns."""
-    times = [], []
-    for run in range(runs):
-        for side in (run % 2, (run + 1) % 2):
-            times[side].append(milliseconds_of(sides(name)[side], source))
-    return [*map(min, times)]
+    commands = [*sides(name).items()]
+    times = {side: [] for side, _ in commands}
+    for turn in (run % len(commands) for run in range(runs)):
+        for side, command in commands[turn:] + commands[:turn]:
+            times[side].append(milliseconds_of(command, source))
+    return {side: min(it) for side, it in times.items()}
 
 
 def milliseconds_of(command, source):

@@ -18,6 +18,11 @@ pub fn of_graph<V: Growing<u32, 4>>(report: &Report, count: usize) {
     report.row("graph", count, |x| graph::<V>(&edges, count, x));
 }
 
+/// What a walk through a graph of so many nodes adds up to.
+pub fn graph_of<V: Growing<u32, 4>>(count: usize) -> u64 {
+    graph::<V>(&edges_of(count), count, 0)
+}
+
 // Three edges for each node, from any to any.
 fn edges_of(count: usize) -> Vec<Edge> {
     let nodes = count as u64;

@@ -44,6 +44,12 @@ pub fn of_graph<R: Report>(report: &mut R, alloc: Global, count: usize) {
     run(report, "graph", count, (), &mut bench);
 }
 
+/// What a walk through a graph of so many nodes adds up to.
+pub fn graph_of(alloc: Global, count: usize) -> Result<u64, AllocError> {
+    let edges = edges_of(alloc, count)?;
+    graph(alloc, edges.as_slice(), count, 0)
+}
+
 // Three edges for each node, from any to any.
 fn edges_of(alloc: Global, count: usize) -> Result<Vec<Edge>, AllocError> {
     let mut edges = Vec::new(alloc);

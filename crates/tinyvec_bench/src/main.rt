@@ -1,5 +1,5 @@
 //! Benchmarks of the vectors. Each runs for few rounds and prints a checksum. With the words `rows ROUNDS` each prints its
-//! name, capacity, rounds, nanoseconds and checksum.
+//! name, capacity, rounds, nanoseconds and checksum. With the word `graph` or `editor` it is a program that answers lines.
 #![tactic(auto)]
 
 mod all;
@@ -17,6 +17,7 @@ mod looks;
 mod nodes;
 mod number;
 mod prints;
+mod programs;
 mod report;
 mod rows;
 mod slices;
@@ -33,6 +34,7 @@ mod tiny_own;
 mod vector;
 
 use crate::all::all_rows;
+use crate::programs::{answer_edits, answer_graphs};
 use crate::report::Printer;
 use std::{env, io};
 
@@ -42,7 +44,13 @@ const FEW_ROUNDS: u64 = 20;
 fn main(rt: HostRuntime) -> io::Result<()> {
     let mut args = env::args(&rt)?;
     let _program = args.next();
-    let _rows = args.next();
+    if let Some(word) = args.next() {
+        match word.as_str() {
+            "graph" => return answer_graphs(&rt, rt.alloc()),
+            "editor" => return answer_edits(&rt, rt.alloc()),
+            _ => (),
+        }
+    }
     let mut report = match args.next() {
         None => Printer::new(&rt, FEW_ROUNDS, false),
         Some(rounds) => Printer::new(&rt, rounds_of(rounds.as_str())?, true),
