@@ -80,7 +80,8 @@ where
         if !ask_last(self.as_mut_slice(), predicate) {
             return None;
         }
-        self.pop()
+        // By an index: the list is known to have an item.
+        Some(self.take_last())
     }
 
     /// Calls `pred` with the items of the range in turn, as far as the iterator is driven, and removes and yields those for

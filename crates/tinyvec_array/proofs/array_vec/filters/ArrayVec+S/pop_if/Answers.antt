@@ -1,4 +1,5 @@
-use Rattle.std.proofs.Common.{◌-◌, ◌∙◌, length, ap, refl, arith, length-take}
+use Rattle.std.proofs.Common.{◌<◌, ◌-◌, ◌∙◌, length, ap, refl, arith, length-take}
+use Rattle.std.proofs.lemmas.Option.{slice_get_read}
 use Rattle.tinyvec_slots.proofs.SlotsLemmas.{slots_used}
 use Rattle.tinyvec_array.specs.ArrayVec.{view_of}
 use Rattle.tinyvec_array.specs.View.{view}
@@ -28,17 +29,20 @@ returns-clause-popped g c =
     let written = written_of g.S.Slots c.args.self.now c.ask_last.new.items (c.ask_last.auto.items ∙ ap length shown) in
     let long = c.ask_last.auto.items in
     let goes = rw (← long) at c.ask_last.ensures.goes c.if-not-ask_last.false in
-    rw (c.pop.ensures.becomes.items, c.pop.ensures.value, written.0, ← shown) goes
+    let items = (view g.S.Slots (with_items_of g.S.Slots c.args.self.now c.ask_last.new.items)).items in
+    let pos : length items - 1 < length items = omega (arith, ap length written.0, long, c.ask_last.ensures.some c.if-not-ask_last.false) in
+    let value = slice_get_read items (length items) (length items - 1) c.take_last.result refl pos c.take_last.ensures.value in
+    rw (c.take_last.ensures.becomes.items, ← value, written.0, ← shown) goes
 
 pub returns-clause-shorter : goal.returns-clause-shorter
 returns-clause-shorter g c =
     let v = c.args.self.now in
     let mid = with_items_of g.S.Slots v c.ask_last.new.items in
     let items = (view g.S.Slots mid).items in
-    let cut = c.pop.ensures.becomes in
+    let cut = c.take_last.ensures.becomes in
     let written = written_of g.S.Slots v c.ask_last.new.items (c.ask_last.auto.items ∙ ap length c.as_mut_slice.ensures.value) in
     record {
       bound = omega (arith, ap length cut.items, written.1.1.1, length-take (length items - 1) items);
-      frame = changed_around g.S.Slots g.S.Item.Default.is_default v mid c.pop.new.self c.pop.new.self written.1
-          (record { items = refl; place = cut.place; slot_rule = cut.slot_rule; fits = cut.fits }) (kept_refl g.S.Slots c.pop.new.self);
+      frame = changed_around g.S.Slots g.S.Item.Default.is_default v mid c.take_last.new.self c.take_last.new.self written.1
+          (record { items = refl; place = cut.place; slot_rule = cut.slot_rule; fits = cut.fits }) (kept_refl g.S.Slots c.take_last.new.self);
     }
