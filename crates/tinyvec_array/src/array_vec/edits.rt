@@ -224,19 +224,29 @@ where
         ensures { Becomes S.Item.is_default (view S.Slots self.old) (view S.Slots self.new)
             (take new_len (view S.Slots self.old).items) }
     {
-        let len = self.len();
-        if new_len < len {
-            let most = self.slots.most();
-            fill_default(self.slots.as_slice_mut(), new_len, len, most);
-            self.len = self.slots.to_len(new_len);
+        if new_len < self.len() {
+            self.cut_to(new_len);
         }
+    }
+
+    // Keeps the first `new_len` items, and resets the slots of the others.
+    #[inline(always)]
+    fn cut_to(&mut self, new_len: usize)
+        requires { new_len ≤ length (view S.Slots self.old).items }
+        ensures { Becomes S.Item.is_default (view S.Slots self.old) (view S.Slots self.new)
+            (take new_len (view S.Slots self.old).items) }
+    {
+        let len = self.len();
+        let most = self.slots.most();
+        fill_default(self.slots.as_slice_mut(), new_len, len, most);
+        self.len = self.slots.to_len(new_len);
     }
 
     /// Empties the list. Each vacated slot is reset to a default.
     pub fn clear(&mut self)
         ensures { Becomes S.Item.is_default (view S.Slots self.old) (view S.Slots self.new) [] }
     {
-        self.truncate(0);
+        self.cut_to(0);
     }
 
     // `replace_range` of a list that has room.

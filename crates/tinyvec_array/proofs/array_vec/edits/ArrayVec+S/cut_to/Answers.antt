@@ -3,17 +3,17 @@ use Rattle.std.proofs.lemmas.Grind.{common_steps}
 use Rattle.tinyvec_slots.proofs.BorderLemmas.{spare_from, within}
 use Rattle.tinyvec_array.specs.ViewLaws.{one_place}
 use Rattle.tinyvec_array.proofs.RuleLemmas.{rule_freed}
-use Rattle.tinyvec_array.proofs.array_vec.edits.ArrayVec+S.truncate.Goals as goal
+use Rattle.tinyvec_array.proofs.array_vec.edits.ArrayVec+S.cut_to.Goals as goal
 
-pub returns-then-new_len-len : goal.returns-then-new_len-len
-returns-then-new_len-len g c =
+pub returns : goal.returns
+returns g c =
     let v = c.args.self.now in
     let slots = g.S.Slots.slots v.slots in
     let m = c.args.new_len in
     let n = c.len-len.result in
     let long = c.len-len.ensures.value in
     let made = c.fill_default.ensures in
-    let le : m ≤ length slots = omega (arith, c.if-new_len-len.true, within (g.S.Slots.count v.len) slots n long) in
+    let le : m ≤ length slots = omega (arith, c.requires, within (g.S.Slots.count v.len) slots n long) in
     let behind = ap (drop m) (append_assoc (take m slots) made.0 (drop n slots))
     ∙ drop_at (take m slots) (made.0 ++ drop n slots) m (length-take-le m slots le)
     ∙ ap (λ l. made.0 ++ l) (spare_from (g.S.Slots.count v.len) slots n long) in
