@@ -22,9 +22,9 @@ impl<A: Array> OwnsItems for TinyVec<A> {
 
     #[inline]
     fn take_at(&mut self, i: usize) -> A::Item {
-        // Each variant for itself: LLVM then knows that a write to the heap changes neither variant nor indices.
+        // Each variant for itself: LLVM then knows that a write changes neither variant nor indices.
         match self {
-            TinyVec::Inline(_, _) => self.take_at(i),
+            TinyVec::Inline(v, _) => v.take_at(i),
             TinyVec::Heap(v) => mem::take(&mut v.as_mut_slice()[i]),
         }
     }
