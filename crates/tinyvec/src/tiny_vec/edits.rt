@@ -2,12 +2,12 @@
 ghost use Rattle.std.specs.Prelude.{IsTrue, length, ◌==◌};
 ghost use Rattle.tinyvec_array.specs.View.{view as slots_view};
 ghost use Rattle.std.specs.Prelude.{◌≡◌, ◌+◌, ◌-◌, ◌<◌, ◌↔◌, [], ◌∷◌, ◌++◌, take, drop, slice_get, IsSome, IfSome, IsOk};
-ghost use Rattle.std.specs.Prelude.{OnOk, OnErr, IfErr, ◌≤◌, if◌then◌else◌, is_ok, insert, remove, slice_index_or, vec_len};
+ghost use Rattle.std.specs.Prelude.{OnOk, OnErr, IfErr, ◌≤◌, if◌then◌else◌, is_ok, insert, remove, slice_index_or, slice_range, vec_len};
 ghost use Rattle.std.specs.Prelude.{vec_capacity, IfOk, IfNone};
 ghost use Rattle.tinyvec.specs.TinyVec.{view};
 ghost use Rattle.tinyvec.specs.View.{IsTail, Becomes, BecomesIn, Doubled, place_for};
 ghost use Rattle.tinyvec.specs.OnHeap.{HeapBecomes};
-ghost use Rattle.std.specs.List.{swap_remove};
+ghost use Rattle.std.specs.List.{swap_remove, remove_range};
 ghost use Rattle.std.specs.Borrow.{sem};
 
 use crate::TinyVec;
@@ -265,7 +265,10 @@ fn is_full<A: Array>(v: &ArrayVec<A>) -> bool
 }
 
 // Up to this many items, shifting one by one beats a rotation, and `Vec::remove`.
-const FEW: usize = 16;
+const FEW: usize = 4;
+
+// From more items than this on, `move_to_end` goes by pieces, which is worth its call.
+const ONE_PIECE: usize = 257;
 
 // `remove` of a list on the heap.
 #[inline(always)]
@@ -276,12 +279,34 @@ fn remove_on_heap<T: Default + Drop>(heap: &mut Vec<T>, i: usize) -> T
 {
     let len = heap.len();
     if len - i > FEW {
-        move_to_end(heap.as_mut_slice(), i, i + 1);
+        few_to_end(heap.as_mut_slice(), i, i + 1);
         return heap.pop().unwrap();
     }
     let item = remove_shifting(heap.as_mut_slice(), i, len);
     heap.truncate(len - 1);
     item
+}
+
+// `move_to_end`, but up to a piece in its caller.
+#[inline(always)]
+fn few_to_end<T>(items: &mut [T], start: usize, end: usize)
+    requires { (start ≤ end) × (end ≤ length items.old) }
+    ensures { items.new ≡ remove_range items.old start end ++ slice_range items.old start end }
+{
+    if items.len() - start > ONE_PIECE {
+        move_to_end(items, start, end);
+        return;
+    }
+    first_to_end(&mut items[start..], end - start);
+}
+
+// Moves the first `count` items to the end.
+#[inline(always)]
+fn first_to_end<T>(items: &mut [T], count: usize)
+    requires { count ≤ length items.old }
+    ensures { items.new ≡ drop count items.old ++ take count items.old }
+{
+    items.rotate_left(count);
 }
 
 // `split_off` on the heap.
