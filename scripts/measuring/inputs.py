@@ -56,13 +56,13 @@ def record(chance):
     return chance.choice([*[add] * 6, "read", "read", "copy", "hex 520700", f"cut {chance.randint(0, 60)}", "cut 0", "nonsense"])
 
 
-def items(chance):
-    """How many items there are."""
-    return chance.randint(1, 64)
+def number(chance):
+    """How many items a list has, or a third of the edges of a graph."""
+    return chance.randint(1, 1000)
 
 
 # By the program that reads them.
 MAKERS = {
     "tv": command, "example_tidy": text, "example_dns_query": question, "example_nodes": nodes, "example_records": record,
-    "graph": items, "editor": items,
+    "graph": number, "editor": number,
 }

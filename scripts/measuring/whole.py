@@ -11,8 +11,8 @@ from measuring import inputs, instructions, programs
 from rows import refusing
 
 NAMES = list(inputs.MAKERS)
-# A program of the benchmark's own is beside the same over each crate of Rust's that grows.
-ROWS, PLAIN, CRATES = ("graph", "editor"), ["plain Rust"], ["tinyvec", "smallvec", "vec"]
+# A program of the benchmark's own is beside the same over each crate of Rust's that grows. It takes long for a line.
+ROWS, PLAIN, CRATES, SHARE = ("graph", "editor"), ["plain Rust"], ["tinyvec", "smallvec", "vec"], 20
 BUILT = [it for it in NAMES if it not in ROWS]
 
 
@@ -21,7 +21,7 @@ def measure(lines, runs, cores):
     with tempfile.TemporaryDirectory() as folder:
         sources = {name: f"{folder}/{name}" for name in NAMES}
         for name, source in sources.items():
-            inputs.write(source, name, lines)
+            inputs.write(source, name, lines // (SHARE if name in ROWS else 1))
             check_answers(name, source)
         of_each = lambda measured, name: {side: measured(it, sources[name]) for side, it in sides(name).items()}
         with concurrent.futures.ThreadPoolExecutor(os.cpu_count()) as pool:

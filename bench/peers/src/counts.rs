@@ -1,20 +1,25 @@
-//! Two rows as programs: each line of standard input is a number of items, and is answered by what one round at it returns.
+//! Two rows as programs: each line of standard input is a number, and is answered by what one round returns.
 
 use crate::benchmarks::editor;
 use crate::calls::runs_of;
-use crate::graph::graph_of;
+use crate::graph::{edges_of, graph};
 use crate::growing::Growing;
 use std::io;
 
-/// Answers each line by the walk through a graph of so many nodes.
+/// A graph has so many nodes, and a list up to so many items.
+const MOST: usize = 1000;
+
+/// Answers each line by the walk through a graph with three times as many edges.
 pub fn answer_graphs<V: Growing<u32, 4>>() -> io::Result<()> {
-    answer(graph_of::<V>)
+    let edges = edges_of(MOST);
+    answer(|number| graph::<V>(&edges[..edges.len().min(3 * number)], MOST, 0))
 }
 
 /// Answers each line by an edit of a list of so many items. One list serves all lines.
 pub fn answer_edits<V: Growing<u64, 4>>() -> io::Result<()> {
+    let source = runs_of(MOST);
     let mut list = V::empty();
-    answer(|count| editor(&mut list, &runs_of(count), count as u64))
+    answer(|number| editor(&mut list, &source[..source.len().min(number)], number as u64))
 }
 
 fn answer(mut answer_to: impl FnMut(usize) -> u64) -> io::Result<()> {

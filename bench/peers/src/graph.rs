@@ -7,7 +7,7 @@ use crate::sources::state_behind;
 
 /// An edge, by the numbers of its nodes.
 #[derive(Clone, Copy)]
-struct Edge {
+pub struct Edge {
     from: usize,
     to: u32,
 }
@@ -18,13 +18,8 @@ pub fn of_graph<V: Growing<u32, 4>>(report: &Report, count: usize) {
     report.row("graph", count, |x| graph::<V>(&edges, count, x));
 }
 
-/// What a walk through a graph of so many nodes adds up to.
-pub fn graph_of<V: Growing<u32, 4>>(count: usize) -> u64 {
-    graph::<V>(&edges_of(count), count, 0)
-}
-
-// Three edges for each node, from any to any.
-fn edges_of(count: usize) -> Vec<Edge> {
+/// Three edges for each node, from any to any.
+pub fn edges_of(count: usize) -> Vec<Edge> {
     let nodes = count as u64;
     let mut state: u64 = 1;
     let mut next = || {
@@ -35,9 +30,9 @@ fn edges_of(count: usize) -> Vec<Edge> {
     (0..3 * count).map(|_| next()).collect()
 }
 
-// Builds the graph, drops some of its edges, and adds up what is reached.
+/// Builds a graph of so many nodes, drops some of its edges, and adds up what is reached.
 #[inline(never)]
-fn graph<V: Growing<u32, 4>>(edges: &[Edge], count: usize, x: u64) -> u64 {
+pub fn graph<V: Growing<u32, 4>>(edges: &[Edge], count: usize, x: u64) -> u64 {
     let mut nodes = built::<V>(edges, count);
     prune(&mut nodes);
     walk(&nodes, x)

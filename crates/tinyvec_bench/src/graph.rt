@@ -8,7 +8,7 @@ use tinyvec::TinyVec;
 
 /// An edge, by the numbers of its nodes.
 #[derive(Clone, Copy)]
-struct Edge {
+pub struct Edge {
     from: usize,
     to: u32,
 }
@@ -44,14 +44,8 @@ pub fn of_graph<R: Report>(report: &mut R, alloc: Global, count: usize) {
     run(report, "graph", count, (), &mut bench);
 }
 
-/// What a walk through a graph of so many nodes adds up to.
-pub fn graph_of(alloc: Global, count: usize) -> Result<u64, AllocError> {
-    let edges = edges_of(alloc, count)?;
-    graph(alloc, edges.as_slice(), count, 0)
-}
-
-// Three edges for each node, from any to any.
-fn edges_of(alloc: Global, count: usize) -> Result<Vec<Edge>, AllocError> {
+/// Three edges for each node, from any to any.
+pub fn edges_of(alloc: Global, count: usize) -> Result<Vec<Edge>, AllocError> {
     let mut edges = Vec::new(alloc);
     let nodes = count.max(1) as u64;
     let mut state: u64 = 1;
@@ -66,9 +60,9 @@ fn edges_of(alloc: Global, count: usize) -> Result<Vec<Edge>, AllocError> {
     Ok(edges)
 }
 
-// Builds the graph, drops some of its edges, and adds up what is reached.
+/// Builds a graph of so many nodes, drops some of its edges, and adds up what is reached.
 #[inline(never)]
-fn graph(alloc: Global, edges: &[Edge], count: usize, x: u64) -> Result<u64, AllocError> {
+pub fn graph(alloc: Global, edges: &[Edge], count: usize, x: u64) -> Result<u64, AllocError> {
     let mut nodes = built(alloc, edges, count)?;
     prune(nodes.as_mut_slice());
     walk(alloc, nodes.as_slice(), x)

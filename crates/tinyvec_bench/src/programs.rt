@@ -1,37 +1,43 @@
-//! Two rows as programs: each line of standard input is a number of items, and is answered by what one round at it returns.
+//! Two rows as programs: each line of standard input is a number, and is answered by what one round returns.
 
 use crate::calls::runs_of;
-use crate::graph::graph_of;
+use crate::graph::{edges_of, graph};
 use crate::splicing::editor;
 use std::alloc::Global;
 use std::io;
 use std::rt::Runtime;
 use tinyvec::TinyVec;
 
-/// Answers each line by the walk through a graph of so many nodes.
+/// A graph has so many nodes, and a list up to so many items.
+const MOST: usize = 1000;
+
+/// Answers each line by the walk through a graph with three times as many edges.
 pub fn answer_graphs<R: Runtime>(rt: &R, alloc: Global) -> io::Result<()> {
+    let edges = edges_of(alloc, MOST)?;
     for line in rt.lines(rt.alloc()) {
-        let count = count_of(line?.as_str());
-        println!(rt; "{}", graph_of(alloc, count)?)?;
+        let count = number_of(line?.as_str()).saturating_mul(3);
+        let some = &edges.as_slice()[..count.min(edges.len())];
+        println!(rt; "{}", graph(alloc, some, MOST, 0)?)?;
     }
     Ok(())
 }
 
 /// Answers each line by an edit of a list of so many items. One list serves all lines.
 pub fn answer_edits<R: Runtime>(rt: &R, alloc: Global) -> io::Result<()> {
+    let source = runs_of(alloc, MOST);
     let mut list = TinyVec::<[u64; 4]>::new(alloc);
     for line in rt.lines(rt.alloc()) {
-        let count = count_of(line?.as_str());
-        let source = runs_of(alloc, count);
-        println!(rt; "{}", editor(&mut list, source.as_slice(), count as u64))?;
+        let count = number_of(line?.as_str());
+        let some = &source.as_slice()[..count.min(source.len())];
+        println!(rt; "{}", editor(&mut list, some, count as u64))?;
     }
     Ok(())
 }
 
 // The number of a line, or one.
-fn count_of(line: &str) -> usize {
+fn number_of(line: &str) -> usize {
     match line.parse() {
-        Ok(count) => count,
+        Ok(number) => number,
         Err(_) => 1,
     }
 }
