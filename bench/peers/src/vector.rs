@@ -51,16 +51,20 @@ pub trait Vector<T: Number, const N: usize>: Clone + PartialOrd + Hash + Debug {
 
     fn splice(&mut self, _range: Range<usize>, _items: impl Iterator<Item = T>) {}
 
-    /// Puts the items in the place of a range: behind what follows, and turned before it. A `splice` reads its iterator item by
-    /// item, and that of `tinyvec` moves what follows for each.
+    /// Puts the items in the place of a range, by block copies. A `splice` reads its iterator item by item, and that of `tinyvec`
+    /// moves what follows for each; a rotation costs more at some lengths than at others.
     #[inline(always)]
     fn replace_range(&mut self, range: Range<usize>, items: &[T])
     where
         T: Copy,
     {
-        drop(self.drain(range.clone()));
+        let start = range.start;
+        drop(self.drain(range));
+        let len = self.as_slice().len();
         self.extend_from_slice(items);
-        self.as_mut_slice()[range.start..].rotate_right(items.len());
+        let list = self.as_mut_slice();
+        list.copy_within(start..len, start + items.len());
+        list[start..start + items.len()].copy_from_slice(items);
     }
 
     /// Takes out what `is_taken` says, and returns the sum of the items' values and `x`.
