@@ -50,15 +50,14 @@ def faults_of_requests(signatures):
 
 def faults_of_bench(calls):
     counts, named = tables.counts(tables.read(tables.RESULTS / "rust.md")), []
-    printed = (exports.TOP / "crates/tinyvec_bench/stdout").read_text(encoding="utf-8").splitlines()
-    measured, costs = {tuple(it.split()[:2]) for it in printed}, dict(reference.costs())
+    costs = dict(reference.costs())
     for kind, how, names, reason in exports.lines_of(BENCH):
         yield from [f"bench/calls.txt: no reason why {names} have no row"] * (how == "none" and not reason)
         for call, _, row in (it.partition("=") for it in names.split()):
             named.append(f"{kind}::{call}")
-            for size, prefixes in zip(("64", "16384"), PREFIXES[kind] if how != "none" else ()):
+            for size, prefixes in zip((64, 16384), PREFIXES[kind] if how != "none" else ()):
                 its = [row if row.startswith("borsh_") else prefix + (row or call) for prefix in prefixes.split(" ")]
-                if not any((it, size) in measured for it in its):
+                if not any((it, size) in counts for it in its):
                     yield f"no row of the benchmarks is {its[-1]} {size}, which bench/calls.txt names"
             few, many = (counts.get((its[-1], it), 0) for it in (64, 16384)) if how != "none" and not row else (0, 0)
             if costs.get(named[-1], ("",))[0] == "constant" and many > few + CONSTANT:

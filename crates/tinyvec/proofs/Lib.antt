@@ -7,3 +7,4 @@ pub mod FrameLemmas
 pub mod ReplacingLemmas
 pub mod PlaceLemmas
 pub mod TookLemmas
+mod CutOutLemmas

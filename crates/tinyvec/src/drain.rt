@@ -1,5 +1,6 @@
 //! What moves a range of items out of a vector.
 ghost use Rattle.std.specs.Prelude.{◌≡◌, ◌++◌, length, codes, ◌≤◌, ◌+◌, vec_len, vec_capacity};
+ghost use Rattle.std.specs.List.{FoldsTo};
 ghost use Rattle.tinyvec_slots.specs.Ranges.{IsRangeOf, items_before, items_within, items_after};
 ghost use Rattle.tinyvec.specs.TinyVec.{view};
 ghost use Rattle.tinyvec.specs.View.{Becomes};
@@ -8,7 +9,9 @@ use crate::TinyVec;
 use std::ops::RangeBounds;
 use tinyvec_array::Array;
 use tinyvec_slots::Drain;
-use tinyvec_slots::authors::{CanDrain, close_gap, drain_held, resolve_range, take_range};
+use tinyvec_slots::authors::{
+    CanDrain, close_gap, drain_held, resolve_range, take_each, take_range,
+};
 
 /// Yields the items of a range. When it is dropped, the list is what preceded and followed the range, in its place.
 pub type TinyVecDrain<'a, A> = Drain<'a, TinyVec<A>>;
@@ -36,6 +39,30 @@ impl<A: Array> TinyVec<A> {
     {
         let part = resolve_range(range, self.len());
         drain_held(self, part.start, part.end)
+    }
+
+    /// Removes the range, and calls `f` with each of its items, in order. It asks once where the items are, a loop over
+    /// `drain` at each item.
+    ///
+    /// `not_exhausted` fails only for a `RangeInclusive` that was iterated to its end.
+    // Inlined, so that what the closure changes stays in registers.
+    #[inline(always)]
+    pub fn drain_each<R: RangeBounds<usize>, F: FnMut(A::Item)>(&mut self, range: R, f: &mut F)
+        requires not_exhausted { R.has_bounds range }
+        requires in_list { IsRangeOf (view A.Slots self.old).items (R.start_bound range) (R.end_bound range) }
+        requires callable { F.IsAlwaysCallable f.old }
+        ensures becomes { Becomes A.Item.is_default (view A.Slots self.old) (view A.Slots self.new)
+            (items_before (view A.Slots self.old).items (R.start_bound range) ++ items_after
+            (view A.Slots self.old).items (R.end_bound range)) }
+
+        // One call an item, and no more.
+        ensures given { FoldsTo (λ p x q. F.step p x tt q) f.old
+            (items_within (view A.Slots self.old).items (R.start_bound range) (R.end_bound range)) f.new }
+        ensures still_callable { F.IsAlwaysCallable f.new }
+    {
+        let part = resolve_range(range, self.len());
+        take_each(self.as_mut_slice(), part.start, part.end, f);
+        self.end_drain(part.start, part.end - part.start);
     }
 
     /// Moves the items of the range to the end of `out`, which has room for them.

@@ -3,6 +3,7 @@ pub mod PartLemmas
 pub mod ViewLemmas
 pub mod InsertedLemmas
 pub mod AppendsLemmas
+mod CutOutLemmas
 pub mod Named
 pub mod IntoIterLemmas
 mod ResizingLemmas

@@ -10,7 +10,9 @@ use crate::{ArrayVec, Slots};
 use std::alloc::{AllocError, Global};
 use std::ops::RangeBounds;
 use tinyvec_slots::Drain;
-use tinyvec_slots::authors::{CanDrain, drain_held, resolve_range, take_all, take_range};
+use tinyvec_slots::authors::{
+    CanDrain, drain_held, resolve_range, take_all, take_each, take_range,
+};
 
 /// Yields the items of a range, which the list no longer has. When it is dropped, their slots hold defaults.
 pub type ArrayVecDrain<'a, S> = Drain<'a, ArrayVec<S>>;
@@ -122,6 +124,8 @@ where
     /// left.
     ///
     /// `not_exhausted` fails only for a `RangeInclusive` that was iterated to its end.
+    // Inlined, so that what the closure changes stays in registers.
+    #[inline(always)]
     pub fn drain_each<R: RangeBounds<usize>, F: FnMut(S::Item)>(&mut self, range: R, f: &mut F)
         requires not_exhausted { R.has_bounds range }
         requires in_list { IsRangeOf (view S.Slots self.old).items (R.start_bound range) (R.end_bound range) }
@@ -135,9 +139,8 @@ where
             (items_within (view S.Slots self.old).items (R.start_bound range) (R.end_bound range)) f.new }
         ensures still_callable { F.IsAlwaysCallable f.new }
     {
-        for x in self.drain(range) {
-            f(x);
-        }
+        let count = self.cut_out(range);
+        take_each(self.grab_spare_slice_mut(), 0, count, f);
     }
 
     /// Moves the items of the range to the end of `out`, which has room for them. A caller that names `SliceVec` knows

@@ -104,6 +104,13 @@ impl<const N: usize> Words<N> for ArrayVec<[u64; N]> {
     }
 
     #[inline(always)]
+    fn drain_each(&mut self, start: usize, end: usize, x: u64) -> u64 {
+        let mut sum = x;
+        self.drain_each(start..end, &mut |y| sum = sum.wrapping_add(y));
+        sum
+    }
+
+    #[inline(always)]
     fn drain_dropped(&mut self, start: usize, end: usize) {
         drop(self.drain(start..end));
     }

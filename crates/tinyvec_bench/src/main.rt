@@ -1,5 +1,6 @@
-//! Benchmarks of the vectors. Each runs for few rounds and prints a checksum. With the words `rows ROUNDS` each prints its
-//! name, capacity, rounds, nanoseconds and checksum. With the word `graph` or `editor` it is a program that answers lines.
+//! Benchmarks of the vectors. Each runs for few rounds, and one checksum is printed. With the word `rows` each prints its name,
+//! capacity and checksum, with `rows ROUNDS` also rounds and nanoseconds. With `graph` or `editor` it is a program that answers
+//! lines.
 #![tactic(auto)]
 
 mod all;
@@ -35,7 +36,7 @@ mod vector;
 
 use crate::all::all_rows;
 use crate::programs::{answer_edits, answer_graphs};
-use crate::report::Printer;
+use crate::report::{Printed, Printer};
 use std::{env, io};
 
 /// So often a benchmark runs for its checksum alone.
@@ -44,16 +45,17 @@ const FEW_ROUNDS: u64 = 20;
 fn main(rt: HostRuntime) -> io::Result<()> {
     let mut args = env::args(&rt)?;
     let _program = args.next();
+    let mut what = Printed::Whole;
     if let Some(word) = args.next() {
         match word.as_str() {
             "graph" => return answer_graphs(&rt, rt.alloc()),
             "editor" => return answer_edits(&rt, rt.alloc()),
-            _ => (),
+            _ => what = Printed::Rows,
         }
     }
     let mut report = match args.next() {
-        None => Printer::new(&rt, FEW_ROUNDS, false),
-        Some(rounds) => Printer::new(&rt, rounds_of(rounds.as_str())?, true),
+        None => Printer::new(&rt, FEW_ROUNDS, what),
+        Some(rounds) => Printer::new(&rt, rounds_of(rounds.as_str())?, Printed::Times),
     };
     all_rows(&mut report, rt.alloc());
     report.finish()

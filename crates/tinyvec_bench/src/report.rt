@@ -1,4 +1,4 @@
-//! The rounds of a row, and the line that it prints.
+//! The rounds of a row, and what is printed of them.
 
 use std::io;
 use std::rt::Runtime;
@@ -14,7 +14,7 @@ pub trait Report {
     /// instructions between the two can be counted.
     fn begin_rounds(&mut self, capacity: usize) -> u64;
 
-    /// Ends the row, and prints its line.
+    /// Ends the row.
     fn end_rounds(&mut self, name: &str, capacity: usize, sum: u64);
 }
 
@@ -26,7 +26,7 @@ pub trait Bench<B: Copy> {
     fn round(&mut self, benchmark: B, x: u64) -> u64;
 }
 
-/// Runs a benchmark as often as the row has rounds, with the number of each, and prints the row's line.
+/// Runs a benchmark as often as the row has rounds, with the number of each.
 #[inline(always)]
 pub fn run<R: Report, B: Copy, S: Bench<B>>(
     report: &mut R,
@@ -43,7 +43,7 @@ pub fn run<R: Report, B: Copy, S: Bench<B>>(
     report.end_rounds(name, capacity, sum);
 }
 
-// A line for each row.
+// Runs each row.
 macro_rules! rows {
     ($report:ident, $n:ident, $list:ident: $($name:literal $benchmark:expr,)+) => {
         $($crate::report::run($report, $name, $n, $benchmark, $list);)+
@@ -58,15 +58,28 @@ fn mixed(sum: u64, answer: u64) -> u64 {
     sum.rotate_left(5) ^ answer
 }
 
-/// Prints the lines. If one cannot be printed, none follows.
+/// What is printed.
+#[derive(Clone, Copy)]
+pub enum Printed {
+    /// One checksum of all rows.
+    Whole,
+    /// A line for each row, with its checksum.
+    Rows,
+    /// The same, with times.
+    Times,
+}
+
+/// Prints the rows. If one cannot be printed, none follows.
 #[derive(Drop)]
 pub struct Printer<'r, R: Runtime> {
     rt: &'r R,
     prefix: &'static str,
+    what: Printed,
     // Of a short list.
     rounds: u64,
-    is_timed: bool,
     begun: Begun,
+    // The checksums so far.
+    whole: u64,
     printed: io::Result<()>,
 }
 
@@ -78,25 +91,34 @@ struct Begun {
 }
 
 impl<'r, R: Runtime> Printer<'r, R> {
-    /// Prints checksums, and times too if `is_timed`.
-    pub fn new(rt: &'r R, rounds: u64, is_timed: bool) -> Self {
+    pub fn new(rt: &'r R, rounds: u64, what: Printed) -> Self {
         Printer {
             rt,
             prefix: "",
+            what,
             rounds,
-            is_timed,
             begun: Begun {
                 rounds,
                 start: None,
             },
+            whole: 0,
             printed: Ok(()),
         }
     }
 
-    /// Whether every line was printed.
+    /// Prints what is left, and returns whether all was printed.
     pub fn finish(self) -> io::Result<()> {
-        let Printer { printed, .. } = self;
-        printed
+        let Printer {
+            rt,
+            what,
+            whole,
+            printed,
+            ..
+        } = self;
+        match what {
+            Printed::Whole => println!(rt; "{whole}"),
+            _ => printed,
+        }
     }
 
     fn print(&self, name: &str, capacity: usize, sum: u64) -> io::Result<()> {
@@ -118,7 +140,7 @@ impl<R: Runtime> Report for Printer<'_, R> {
     // Long lists have fewer rounds.
     #[inline(never)]
     fn begin_rounds(&mut self, capacity: usize) -> u64 {
-        if self.is_timed {
+        if let Printed::Times = self.what {
             match Instant::now(self.rt) {
                 Ok(start) => {
                     self.begun = Begun {
@@ -135,17 +157,20 @@ impl<R: Runtime> Report for Printer<'_, R> {
                 }
             }
         }
-        // For a checksum, two of the longest are enough.
-        if capacity > 1024 && !self.is_timed {
-            return 2;
+        match self.what {
+            Printed::Times => self.begun.rounds,
+            // For a checksum, two of the longest are enough.
+            _ if capacity > 1024 => 2,
+            _ => self.begun.rounds,
         }
-        self.begun.rounds
     }
 
     #[inline(never)]
     fn end_rounds(&mut self, name: &str, capacity: usize, sum: u64) {
-        if self.printed.is_ok() {
-            self.printed = self.print(name, capacity, sum);
+        match self.what {
+            Printed::Whole => self.whole = mixed(self.whole, sum),
+            _ if self.printed.is_ok() => self.printed = self.print(name, capacity, sum),
+            _ => (),
         }
     }
 }

@@ -75,7 +75,7 @@ pub fn editor<V: Words<N>, const N: usize>(vec: &mut V, source: &[u64], x: u64) 
     if replace_range(vec, source, x) == 0 || vec.len() < 3 * quarter {
         return 0;
     }
-    let cut = vec.drain_taken(quarter, 3 * quarter, x);
+    let cut = vec.drain_each(quarter, 3 * quarter, x);
     if vec.len() < quarter || !vec.replace_range(quarter, quarter, &source[quarter..2 * quarter]) {
         return 0;
     }

@@ -77,6 +77,11 @@ pub trait Words<const N: usize>: Vector<u64, N> {
         requires start_le_end { start ≤ end }
         requires in_bounds { end ≤ length (Self.items self.old) };
 
+    /// The same, by a closure.
+    fn drain_each(&mut self, start: usize, end: usize, x: u64) -> u64
+        requires start_le_end { start ≤ end }
+        requires in_bounds { end ≤ length (Self.items self.old) };
+
     /// Drops a part.
     fn drain_dropped(&mut self, start: usize, end: usize)
         requires start_le_end { start ≤ end }

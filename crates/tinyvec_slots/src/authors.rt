@@ -4,7 +4,7 @@ pub use crate::can_cut::CanCut;
 pub use crate::can_drain::CanDrain;
 pub use crate::can_put::CanPut;
 pub use crate::can_splice::CanSplice;
-pub use crate::drain::drain_held;
+pub use crate::drain::{drain_held, take_each};
 pub use crate::extracting::extract_if;
 pub use crate::filtering::{ask_last, dedup_by, dedup_by_key, retain, retain_mut};
 pub use crate::gap::Gap;

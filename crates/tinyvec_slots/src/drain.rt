@@ -1,13 +1,15 @@
 //! The drain of each vector, over `CanDrain`: what moves a range of items out of a list.
-ghost use Rattle.std.specs.Prelude.{◌≡◌, length, Some, IfSome};
+ghost use Rattle.std.specs.Prelude.{◌≡◌, ◌-◌, ◌++◌, List, length, take, drop, slice_range, Some, IfSome};
+ghost use Rattle.std.specs.List.{FoldsTo};
 ghost use Rattle.std.specs.Fmt.{debug_list, debug_variant};
 ghost use Rattle.std.specs.Iterator.{at_most, UpTo};
 ghost use Rattle.std.specs.Iterator.SizeHint.{IsWithinCount};
 ghost use Rattle.tinyvec_slots.specs.Ranges.{Within};
+ghost use Rattle.tinyvec_slots.specs.Slots.{AreDefaults};
 
 use crate::authors::{CanDrain, subslice, write_named};
-use std::fmt;
 use std::iter::FusedIterator;
+use std::{fmt, mem};
 
 /// Yields the items of a range from both ends. When it is dropped, the list is what preceded and followed the range.
 pub struct Drain<'a, V: CanDrain> {
@@ -33,6 +35,33 @@ pub fn drain_held<V: CanDrain>(vec: &mut V, start: usize, end: usize) -> Drain<'
         gap: end - start,
         front: start,
         back: end,
+    }
+}
+
+/// Calls `f` with each item from `start` up to `end`, in order, and leaves defaults. Through a drain a loop asks for the place
+/// of the items at each turn.
+#[inline(always)]
+pub fn take_each<T: Default, F: FnMut(T)>(slots: &mut [T], start: usize, end: usize, f: &mut F)
+    requires in_bounds { Within start end (length slots.old) }
+    requires callable { F.IsAlwaysCallable f.old }
+    ensures given { FoldsTo (λ p x q. F.step p x tt q) f.old (slice_range slots.old start end) f.new }
+    ensures still_callable { F.IsAlwaysCallable f.new }
+    ensures emptied { (ds : List T) × AreDefaults T.is_default (end - start) ds
+        × (slots.new ≡ take start slots.old ++ ds ++ drop end slots.old) }
+{
+    give_all(&mut slots[start..end], f);
+}
+
+// The same of all slots.
+#[inline(always)]
+fn give_all<T: Default, F: FnMut(T)>(slots: &mut [T], f: &mut F)
+    requires callable { F.IsAlwaysCallable f.old }
+    ensures given { FoldsTo (λ p x q. F.step p x tt q) f.old slots.old f.new }
+    ensures still_callable { F.IsAlwaysCallable f.new }
+    ensures emptied { AreDefaults T.is_default (length slots.old) slots.new }
+{
+    for i in 0..slots.len() {
+        f(mem::take(&mut slots[i]));
     }
 }
 

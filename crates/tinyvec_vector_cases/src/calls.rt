@@ -104,6 +104,11 @@ macro_rules! ranged {
                 $v.drain_into($call.range, &mut $call.items);
                 $out.say(&$call.items.as_slice());
             }
+            Name::DrainEach if is_within && has_room => {
+                let mut given = $call.take_items();
+                $v.drain_each($call.range, &mut |x| given.push(x).unwrap_or(()));
+                $out.say(&given.as_slice());
+            }
             Name::Splice => $spliced($v, $call, $out),
             Name::SpliceAll if is_within => {
                 $crate::calls::say_spliced($v.splice_all($call.range, $call.take_items()), $out);

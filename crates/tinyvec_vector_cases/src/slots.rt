@@ -131,25 +131,14 @@ fn spliced<T: Item, S: Slots<Item = T>>(v: &mut ArrayVec<S>, call: &mut Call<T>,
 // Moves items into the list of the call.
 fn move_out<T: Item, S: Slots<Item = T>>(v: &mut ArrayVec<S>, call: &mut Call<T>, out: &mut Out) {
     let alloc = out.alloc();
-    match call.name {
-        Name::DrainEach
-            if is_within(call.range, v.len())
-                && v.len() <= call.items.capacity() - call.items.len() => {
-            let (range, mut given) = (call.range, call.take_items());
-            v.drain_each(range, &mut |x| given.push(x).unwrap_or(()));
-            return out.say(&given.as_slice());
-        }
-        _ => {
-            let made = match call.name {
-                Name::DrainToVec => v.drain_to_vec(alloc),
-                Name::TryDrainToVec => v.try_drain_to_vec(alloc),
-                Name::DrainToVecAndReserve => v.drain_to_vec_and_reserve(alloc, call.index),
-                Name::TryDrainToVecAndReserve => v.try_drain_to_vec_and_reserve(alloc, call.index),
-                _ => return out.fail(Wrong::Place),
-            };
-            set_made(&mut call.items, made, out);
-        }
-    }
+    let made = match call.name {
+        Name::DrainToVec => v.drain_to_vec(alloc),
+        Name::TryDrainToVec => v.try_drain_to_vec(alloc),
+        Name::DrainToVecAndReserve => v.drain_to_vec_and_reserve(alloc, call.index),
+        Name::TryDrainToVecAndReserve => v.try_drain_to_vec_and_reserve(alloc, call.index),
+        _ => return out.fail(Wrong::Place),
+    };
+    set_made(&mut call.items, made, out);
     out.say(&(call.items.as_slice(), call.items.capacity()));
 }
 
