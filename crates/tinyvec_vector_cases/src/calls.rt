@@ -105,8 +105,8 @@ macro_rules! ranged {
                 $out.say(&$call.items.as_slice());
             }
             Name::DrainEach if is_within && has_room => {
-                let mut given = $call.take_items();
-                $v.drain_each($call.range, &mut |x| given.push(x).unwrap_or(()));
+                let (range, mut given) = ($call.range, $call.take_items());
+                $v.drain_each(range, &mut |x| given.push(x).unwrap_or(()));
                 $out.say(&given.as_slice());
             }
             Name::Splice => $spliced($v, $call, $out),
