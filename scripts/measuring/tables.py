@@ -97,17 +97,6 @@ def print_means(unit, measured):
     print_table(f"{unit} of", [*CAPACITIES, f"cells above {LIMIT}"], rows)
 
 
-def print_disagreements(times, counted):
-    """Where one measure has this library well behind a peer, and the other before it."""
-    print(f"Rows of which the time is above {LIMIT} of a peer's and the instructions below 1.0, or the other way round\n")
-    rows = []
-    for row, capacity, peer in ((*key, it) for key in times["here"] for it in times if it != "here" and key in times[it]):
-        time, count = (ratio(it, peer, (row, capacity)) for it in (times, counted))
-        if max(time, count) > LIMIT and min(time, count) < 1.0:
-            rows.append((row, [capacity, name_of(peer, group_of(row)), text_of(time), text_of(count)]))
-    print_table("Row", ["Capacity", "Peer", "Time", "Instructions"], rows)
-
-
 def cell(measured, peers, key):
     here = measured["here"].get(key)
     if here is None:

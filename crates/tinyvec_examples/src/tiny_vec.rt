@@ -103,15 +103,6 @@ pub fn push_if_room<A: Array>(v: &mut TinyVec<A>, x: A::Item)
     }
 }
 
-/// An emptied list is inline again, where the array has the room that is to be kept.
-pub fn emptied_inline(v: &mut TinyVec<[u8; 16]>)
-    ensures items { tiny_items v.new ≡ [] }
-    ensures place { IsInline v.new }
-{
-    v.clear();
-    v.shrink_to(16);
-}
-
 /// The list, taken out. What is left is empty and inline.
 pub fn taken<A: Array>(v: &mut TinyVec<A>) -> Result<TinyVec<A>, AllocError>
     ensures taken { IfOk result (λ out. out ≡ v.old) }
