@@ -124,8 +124,6 @@ where
     /// left.
     ///
     /// `not_exhausted` fails only for a `RangeInclusive` that was iterated to its end.
-    // Inlined, so that what the closure changes stays in registers.
-    #[inline(always)]
     pub fn drain_each<R: RangeBounds<usize>, F: FnMut(S::Item)>(&mut self, range: R, f: &mut F)
         requires not_exhausted { R.has_bounds range }
         requires in_list { IsRangeOf (view S.Slots self.old).items (R.start_bound range) (R.end_bound range) }
