@@ -7,7 +7,7 @@ ghost use Rattle.std.specs.Borrow.{sem};
 ghost use Rattle.tinyvec_array.specs.ArrayVec.{view_of, slots_of, SameLender};
 ghost use Rattle.tinyvec_array.specs.View.{view};
 ghost use Rattle.tinyvec_array.specs.Lends.{lends_items, lends_inner, lends_spare};
-ghost use Rattle.tinyvec_slots.specs.Filling.{Iterates, IteratesMut};
+ghost use Rattle.tinyvec_slots.specs.Filling.{Iterates};
 
 mod edits;
 mod extending;
@@ -169,26 +169,11 @@ impl<S: Slots> ArrayVec<S> {
         self.slots.as_slice_mut()
     }
 
-    ghost use Rattle.tinyvec_array.specs.IterMut.{lends_iter};
-    ghost use Rattle.tinyvec_array.specs.Lends.{with_items_of};
-
     /// Iterates over the items, in order or from the back.
     pub fn iter(&self) -> slice::Iter<'_, S::Item>
         ensures { Iterates (view S.Slots self.now).items result }
     {
         self.as_slice().iter()
-    }
-
-    /// Iterates over the items for writing, in order or from the back. After a loop over it a proof knows the length and the
-    /// spare slots, and after one over `as_mut_slice().iter_mut()` the items too.
-    pub fn iter_mut(&mut self) -> slice::IterMut<'_, S::Item>
-        ensures* writes_back { sem 𝓛 (lends_iter S.row S.Len.row S.Item.row S.Slots self.entry result) }
-        ensures yields { IteratesMut (view S.Slots self.old).items result }
-
-        // Whatever is written, the list is as long as it was.
-        ensures keeps_len { (ws : List S.Item) → length (view S.Slots (with_items_of S.Slots self.old ws)).items ≡ length (view S.Slots self.old).items }
-    {
-        self.as_mut_slice().iter_mut()
     }
 }
 
