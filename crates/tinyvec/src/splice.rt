@@ -30,6 +30,8 @@ pub type TinyVecSplice<'a, A, I> = Splice<'a, TinyVec<A>, I>;
 impl<A: Array> TinyVec<A> {
     ghost use Rattle.tinyvec_slots.specs.Splice.{splice_view, splice_len, splice_replacement, splice_vec, splice_lender};
     ghost use Rattle.tinyvec_slots.specs.Splice.{SpliceCanStep};
+    ghost use Rattle.tinyvec.specs.FrameLaws.{FrameOf};
+    ghost use Rattle.tinyvec_array.specs.SplicesByWord.{SplicesFromEnds};
 
     /// Removes the range, yields its items from both ends, and puts those of `replacement` in their place.
     ///
@@ -51,6 +53,8 @@ impl<A: Array> TinyVec<A> {
         ensures same_reference { splice_lender result ≡ self.entry.ghost_name }
         ensures ready { SpliceCanStep (λ v. (view A.Slots v).items) result }
         ensures inline_capacity { IsTrue (view A.Slots self.old).place.inline → (view A.Slots self.old).place.capacity ≡ A.CAPACITY }
+        // However its calls follow one another.
+        ensures both_ends { SplicesFromEnds (λ v. (view A.Slots v).items) (FrameOf A.Slots) I.IntoIter.next_gives result }
     {
         let part = resolve_range(range, self.len());
         splice_over(self, part.start, part.end, replacement.into_iter())

@@ -9,3 +9,4 @@ pub mod IntoIterLemmas
 mod ResizingLemmas
 mod Walks
 mod PartWalks
+pub mod SplicesByWordLemmas

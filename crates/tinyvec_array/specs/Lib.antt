@@ -30,3 +30,4 @@ pub mod DrainLaws
 pub mod ToVec
 pub mod SpliceLaws
 pub mod UpTo
+pub mod SplicesByWord

@@ -9,6 +9,8 @@ ghost use Rattle.tinyvec_slots.specs.Filling.{IntoIterYields, ShowsItems};
 ghost use Rattle.tinyvec_slots.specs.Fused.{FusedCan, fused_rest};
 ghost use Rattle.tinyvec_slots.specs.Replacing.{PutsBetween};
 ghost use Rattle.tinyvec_slots.specs.AnySplice.{SpliceBegins};
+ghost use Rattle.tinyvec_array.specs.CutLaws.{KeptOf};
+ghost use Rattle.tinyvec_array.specs.SplicesByWord.{SplicesFromEnds};
 
 use crate::{ArrayVec, CapacityError, Slots};
 use std::iter::Fuse;
@@ -46,6 +48,8 @@ where
         ensures slots { splice_vec result ≡ self.old }
         ensures same_reference { splice_lender result ≡ self.entry.ghost_name }
         ensures ready { SpliceCanStep (λ v. (view S.Slots v).items) result }
+        // However its calls follow one another.
+        ensures both_ends { SplicesFromEnds (λ v. (view S.Slots v).items) (KeptOf S.Slots) I.IntoIter.next_gives result }
     {
         let part = resolve_range(range, self.len());
         splice_over(self, part.start, part.end, replacement.into_iter())
