@@ -1,6 +1,6 @@
 //! Calls of an `InlineText`.
 ghost use Rattle.std.specs.Prelude.{◌≤◌, IfSome};
-ghost use Rattle.tinyvec_text.specs.InlineText.{text_chars, IsBoundary};
+ghost use Rattle.std.specs.String.Boundary.{IsSplitPoint};
 
 use std::convert::{AsSlice, AsStr};
 use std::default::MadeWith;
@@ -271,8 +271,8 @@ fn drain(t: &mut Text, call: &Call<u8>, out: &mut Out) {
 
 // The ends of a range, if they are boundaries.
 fn cut(t: &Text, range: Span) -> Option<(usize, usize)>
-    ensures { IfSome result (λ ends. (ends.0 ≤ ends.1) × IsBoundary (text_chars t.now) ends.0
-        × IsBoundary (text_chars t.now) ends.1) }
+    ensures { IfSome result (λ ends. (ends.0 ≤ ends.1) × IsSplitPoint t.now.bytes ends.0
+        × IsSplitPoint t.now.bytes ends.1) }
 {
     let start = match range.0 {
         Bound::Included(start) => start,

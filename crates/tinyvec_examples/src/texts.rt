@@ -1,7 +1,7 @@
 //! Callers of an `InlineText`.
 ghost use Rattle.std.specs.Prelude.{◌≡◌, ◌+◌, ◌++◌, length, drop, IsTrue, IfOk, IsOk, IfErr, OnOk, IsUtf8};
+ghost use Rattle.std.specs.String.Boundary.{IsSplitPoint};
 ghost use Rattle.tinyvec.specs.TinyVec.{tiny_items};
-ghost use Rattle.tinyvec_text.specs.InlineText.{text_chars, IsBoundary};
 
 use std::alloc::AllocError;
 use tinyvec::TinyVec;
@@ -29,7 +29,7 @@ pub fn from_outside(bytes: TinyVec<[u8; 8]>) -> Result<InlineText<8>, FromUtf8Er
 
 /// The first `n` bytes replaced.
 pub fn with_front(text: &mut InlineText<8>, n: usize, front: &str) -> Result<(), AllocError>
-    requires { IsBoundary (text_chars text.old) n }
+    requires { IsSplitPoint text.old.bytes n }
     ensures { OnOk result (text.new.bytes ≡ front.now ++ drop n text.old.bytes) }
 {
     text.replace_range(..n, front)

@@ -7,34 +7,17 @@ use Rattle.std.proofs.CharBoundary.{IsUtf8-take-drop}
 use Rattle.std.proofs.lemmas.Str.{chars-append, encodes-chars, encodes-append, IsUtf8-append, scalars-chars, IsCharBoundary-at_seam, chars_past_char, chars-nil, IsUtf8-from_ascii, encode_ascii}
 use Rattle.std.proofs.lemmas.Bool.{and_parts}
 use Rattle.std.proofs.lemmas.List.{drop-drop, append_cancel_right}
-use Rattle.tinyvec_text.specs.InlineText.{IsBoundary, IsFirstChar}
+use Rattle.tinyvec_text.specs.InlineText.{IsFirstChar}
 
 -- the characters on each side of a cut
 pub chars_cut : (bs : List ℕ) → IsUtf8 bs → (i : ℕ) → IsSplitPoint bs i → chars bs ≡ chars (take i bs) ++ chars (drop i bs)
 chars_cut bs u i p =
     ap chars (sym (take-append-drop i bs)) ∙ chars-append (take i bs) (drop i bs) (IsUtf8-take-drop bs u i p).0
 
-pub boundary_from_split : (bs : List ℕ) → IsUtf8 bs → (i : ℕ) → IsSplitPoint bs i → IsBoundary (chars bs) i
-boundary_from_split bs u i p = (
-  chars (take i bs),
-  chars (drop i bs),
-  chars_cut bs u i p,
-  ap length (encodes-chars (take i bs) (IsUtf8-take-drop bs u i p).0) ∙ length-take-le i bs p.0,
-)
-
 -- the last characters of a text are characters
 scalars_behind : (front rest : List ℕ) → all_scalars (front ++ rest) ≡ true → all_scalars rest ≡ true
 scalars_behind [] rest h = h
 scalars_behind (c ∷ cs) rest h = scalars_behind cs rest (and_parts _ _ h).1
-
-pub split_from_boundary : (bs : List ℕ) → IsUtf8 bs → (i : ℕ) → IsBoundary (chars bs) i → IsSplitPoint bs i
-split_from_boundary bs u i (front, rest, parts, size) =
-    let whole : bs ≡ encode_utf8_all front ++ encode_utf8_all rest =
-    sym (encodes-chars bs u) ∙ ap encode_utf8_all parts ∙ encodes-append front rest in
-    let scalars = scalars_behind front rest (sym (ap all_scalars parts) ∙ scalars-chars bs u) in
-    let seam = IsCharBoundary-at_seam bs (encode_utf8_all front) (encode_utf8_all rest) whole (rest, (scalars, refl)) in
-    let split : IsSplitPoint bs (length (encode_utf8_all front)) = (seam.0, λ _. seam.1) in
-    rw size at split
 
 -- the first byte of a text is no later byte of a character
 pub first_byte : (bs : List ℕ) → IsUtf8 bs → 0 < length bs → 128 ≤ slice_index bs 0 → 192 ≤ slice_index bs 0

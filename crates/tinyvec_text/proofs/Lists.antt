@@ -21,8 +21,7 @@ use Rattle.tinyvec.proofs.PlaceLemmas.{was_inline}
 use Rattle.tinyvec.specs.declared.tiny_vec.TinyVec.TheVariants.{Inline, Heap}
 use Rattle.std.specs.String.Boundary.{IsSplitPoint}
 use Rattle.tinyvec.proofs.TinyLemmas.{tiny_items-with, tiny_framed-with}
-use Rattle.tinyvec_text.specs.InlineText.{Text, Bytes, IsText, ListGrows, text_of, text_chars, text_len, TextBecomes, TextStaysInPlace, TextGrows, char_growth, IsBoundary}
-use Rattle.tinyvec_text.proofs.Boundaries.{split_from_boundary}
+use Rattle.tinyvec_text.specs.InlineText.{Text, Bytes, IsText, ListGrows, text_of, text_len, TextBecomes, TextStaysInPlace, TextGrows, char_growth}
 
 -- the range of bs with these ends, which is that of xs, goes from p up to q, and both are boundaries
 pub record CutsAt (bs xs : List ℕ) (start end : Bound ℕ) (p q : ℕ) : Type 0 where
@@ -38,10 +37,8 @@ pub text_utf8 : {k : ℕ} (v : Bytes k) → IsText v → IsUtf8 (tiny_items v)
 text_utf8 v is = IsUtf8-had _ is.0
 
 -- a boundary of the text is one of its bytes
-pub text_cut : {k : ℕ} (v : Bytes k) (t : Text) → text_of v ≡ t → IsText v → (i : ℕ) → IsBoundary (text_chars t) i
-    → IsSplitPoint (tiny_items v) i
-text_cut v t same is i cut =
-    split_from_boundary (tiny_items v) (text_utf8 v is) i (subst (λ (u : Text). IsBoundary (text_chars u) i) (sym same) cut)
+pub text_cut : {k : ℕ} (v : Bytes k) (t : Text) → text_of v ≡ t → (i : ℕ) → IsSplitPoint t.bytes i → IsSplitPoint (tiny_items v) i
+text_cut v t same i = subst (λ (u : Text). IsSplitPoint u.bytes i) (sym same)
 
 -- what a call leaves in the list of a text: spare slots that it vacates are zero
 zero_spare : {k : ℕ} (old new : Bytes k) → (IsInline new → IsInline old) → SpareRule (λ b. b ≡ 0) (tiny_view old) (tiny_view new)
@@ -122,12 +119,12 @@ text_shrunk {k} n (Heap v) new is items kept spare = text_made n new (subst IsUt
 
 -- the range of a text, which was resolved to p and q
 pub text_range : {k : ℕ} (v : Bytes k) (t : Text) → text_of v ≡ t → IsText v → (start end : Bound ℕ) → range_start start ≤ range_end end (text_len t)
-    → IsBoundary (text_chars t) (range_start start) → IsBoundary (text_chars t) (range_end end (text_len t))
+    → IsSplitPoint t.bytes (range_start start) → IsSplitPoint t.bytes (range_end end (text_len t))
     → (p q n : ℕ) → p ≡ range_start start → q ≡ range_end end n → n ≡ tiny_len v → CutsAt (tiny_items v) t.bytes start end p q
 text_range v t same is start end order first last p q n starts ends count =
     let at : q ≡ range_end end (text_len t) = ends ∙ ap (range_end end) (count ∙ ap text_len same) in
-    let a = text_cut v t same is (range_start start) first in
-    let b = text_cut v t same is (range_end end (text_len t)) last in
+    let a = text_cut v t same (range_start start) first in
+    let b = text_cut v t same (range_end end (text_len t)) last in
     let bytes = ap (λ (u : Text). u.bytes) same in
     rw (starts, at) (record {
       order = order;

@@ -151,7 +151,3 @@ pub record IsFirstChar (bytes : List ℕ) (c n : ℕ) : Type 0 where
   pub scalar : IsScalar c
   pub positive : 0 < n
   pub in_bounds : n ≤ length bytes
-
--- i is the length of the bytes of some first characters
-abbrev pub IsBoundary : List ℕ → ℕ → Type 0
-IsBoundary cs i = (front : List ℕ) × (rest : List ℕ) × (cs ≡ front ++ rest) × (length (encode_utf8_all front) ≡ i)

@@ -3,7 +3,7 @@ ghost use Rattle.std.specs.Prelude.{◌≡◌, ◌+◌, ◌-◌, ◌%◌, ◌<�
 ghost use Rattle.std.specs.Char.{IsScalar};
 ghost use Rattle.tinyvec.specs.View.{Reserved, Exact};
 ghost use Rattle.tinyvec.specs.TinyVec.{tiny_items, tiny_spare, tiny_view};
-ghost use Rattle.tinyvec_text.specs.InlineText.{text_chars, text_len, TextGrows, TextPushes, TextReserves, TextShrinks, TextStaysInPlace, TextBecomes, TextKeepsFront, TextMadeFor, IsTextTail, IsFirstChar, IsBoundary};
+ghost use Rattle.tinyvec_text.specs.InlineText.{text_chars, text_len, TextGrows, TextPushes, TextReserves, TextShrinks, TextStaysInPlace, TextBecomes, TextKeepsFront, TextMadeFor, IsTextTail, IsFirstChar};
 ghost use Rattle.tinyvec_slots.specs.Ranges.{range_start, range_end, items_before, items_within, items_after};
 ghost use Rattle.std.specs.String.Boundary.{IsSplitPoint};
 
@@ -160,14 +160,14 @@ impl<const N: usize> InlineText<N> {
 
     /// Whether the bytes before `index` are those of some first characters.
     pub fn is_char_boundary(&self, index: usize) -> bool
-        ensures { IsTrue result ↔ IsBoundary (text_chars self.now) index }
+        ensures { IsTrue result ↔ IsSplitPoint self.now.bytes index }
     {
         splits_at(&self.list, index)
     }
 
     /// Keeps the first `new_len` bytes, which end at a character. Does not allocate, and the text stays in its place.
     pub fn truncate(&mut self, new_len: usize)
-        requires { IsBoundary (text_chars self.old) new_len }
+        requires { IsSplitPoint self.old.bytes new_len }
         ensures { TextKeepsFront new_len self.old self.new }
     {
         cut_off(&mut self.list, new_len);
@@ -182,7 +182,7 @@ impl<const N: usize> InlineText<N> {
 
     /// Puts `ch` at the byte `index`, where a character begins or the text ends. Allocates only if the bytes don't fit.
     pub fn insert(&mut self, index: usize, ch: char) -> Result<(), AllocError>
-        requires { IsBoundary (text_chars self.old) index }
+        requires { IsSplitPoint self.old.bytes index }
         ensures { TextGrows Reserved (text_len self.old + length (encode_utf8 ch)) self.old self.new
             (take index self.old.bytes ++ encode_utf8 ch ++ drop index self.old.bytes)
             (chars (take index self.old.bytes) ++ ch ∷ [] ++ chars (drop index self.old.bytes)) result }
@@ -197,7 +197,7 @@ impl<const N: usize> InlineText<N> {
     // `insert` of a character that takes more than a byte. A call of its own, since most are ASCII.
     #[inline(never)]
     fn insert_wide(&mut self, index: usize, ch: char) -> Result<(), AllocError>
-        requires { IsBoundary (text_chars self.old) index }
+        requires { IsSplitPoint self.old.bytes index }
         ensures { TextGrows Reserved (text_len self.old + length (encode_utf8 ch)) self.old self.new
             (take index self.old.bytes ++ encode_utf8 ch ++ drop index self.old.bytes)
             (chars (take index self.old.bytes) ++ ch ∷ [] ++ chars (drop index self.old.bytes)) result }
@@ -209,7 +209,7 @@ impl<const N: usize> InlineText<N> {
     // `insert` of an ASCII character.
     #[inline(always)]
     fn insert_ascii(&mut self, index: usize, ch: char) -> Result<(), AllocError>
-        requires boundary { IsBoundary (text_chars self.old) index }
+        requires boundary { IsSplitPoint self.old.bytes index }
         requires ascii { ch < 128 }
         ensures { TextGrows Reserved (text_len self.old + length (encode_utf8 ch)) self.old self.new
             (take index self.old.bytes ++ encode_utf8 ch ++ drop index self.old.bytes)
@@ -222,7 +222,7 @@ impl<const N: usize> InlineText<N> {
     // Inlined, so that LLVM knows how many bytes there are.
     #[inline(always)]
     pub fn insert_str(&mut self, index: usize, string: &str) -> Result<(), AllocError>
-        requires { IsBoundary (text_chars self.old) index }
+        requires { IsSplitPoint self.old.bytes index }
         ensures { TextGrows Reserved (text_len self.old + length string.now) self.old self.new
             (take index self.old.bytes ++ string.now ++ drop index self.old.bytes)
             (chars (take index self.old.bytes) ++ chars string.now ++ chars (drop index self.old.bytes)) result }
@@ -238,8 +238,8 @@ impl<const N: usize> InlineText<N> {
     ) -> Result<(), AllocError>
         requires not_exhausted { R.has_bounds range }
         requires start_le_end { range_start (R.start_bound range) ≤ range_end (R.end_bound range) (text_len self.old) }
-        requires start_boundary { IsBoundary (text_chars self.old) (range_start (R.start_bound range)) }
-        requires end_boundary { IsBoundary (text_chars self.old) (range_end (R.end_bound range) (text_len self.old)) }
+        requires start_boundary { IsSplitPoint self.old.bytes (range_start (R.start_bound range)) }
+        requires end_boundary { IsSplitPoint self.old.bytes (range_end (R.end_bound range) (text_len self.old)) }
         ensures { TextGrows Reserved (text_len self.old - (range_end (R.end_bound range) (text_len self.old)
             - range_start (R.start_bound range)) + length replace_with.now) self.old self.new
             (items_before self.old.bytes (R.start_bound range) ++ replace_with.now ++ items_after self.old.bytes (R.end_bound range))
@@ -258,8 +258,8 @@ impl<const N: usize> InlineText<N> {
     pub fn extend_from_within<R: RangeBounds<usize>>(&mut self, range: R) -> Result<(), AllocError>
         requires not_exhausted { R.has_bounds range }
         requires start_le_end { range_start (R.start_bound range) ≤ range_end (R.end_bound range) (text_len self.old) }
-        requires start_boundary { IsBoundary (text_chars self.old) (range_start (R.start_bound range)) }
-        requires end_boundary { IsBoundary (text_chars self.old) (range_end (R.end_bound range) (text_len self.old)) }
+        requires start_boundary { IsSplitPoint self.old.bytes (range_start (R.start_bound range)) }
+        requires end_boundary { IsSplitPoint self.old.bytes (range_end (R.end_bound range) (text_len self.old)) }
         ensures { TextGrows Reserved
             (text_len self.old + length (items_within self.old.bytes (R.start_bound range) (R.end_bound range))) self.old self.new
             (self.old.bytes ++ items_within self.old.bytes (R.start_bound range) (R.end_bound range))
@@ -271,7 +271,7 @@ impl<const N: usize> InlineText<N> {
 
     /// Removes and returns the character at the byte `index`. Does not allocate, and the text stays in its place.
     pub fn remove(&mut self, index: usize) -> char
-        requires boundary { IsBoundary (text_chars self.old) index }
+        requires boundary { IsSplitPoint self.old.bytes index }
         requires in_bounds { index < text_len self.old }
         ensures bytes { (rest : List ℕ) × (drop index self.old.bytes ≡ encode_utf8 result ++ rest)
             × (self.new.bytes ≡ take index self.old.bytes ++ rest) }
@@ -287,7 +287,7 @@ impl<const N: usize> InlineText<N> {
     /// Splits the text at the byte `at`, where a character begins or the text ends, and returns what follows, inline exactly
     /// if the text is. An inline text allocates nothing; one on the heap allocates room for what follows.
     pub fn split_off(&mut self, at: usize) -> Result<Self, AllocError>
-        requires { IsBoundary (text_chars self.old) at }
+        requires { IsSplitPoint self.old.bytes at }
         ensures bytes { OnOk result (self.new.bytes ≡ take at self.old.bytes) }
         ensures tail { IfOk result (IsTextTail N at self.old) }
         ensures text { IfOk result (λ t. text_chars self.old ≡ text_chars self.new ++ text_chars t) }

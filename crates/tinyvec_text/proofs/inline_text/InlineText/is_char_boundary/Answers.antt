@@ -1,6 +1,7 @@
 use Rattle.std.proofs.Common.{subst, rules}
-use Rattle.tinyvec_text.specs.InlineText.{Text, text_chars, IsBoundary}
-use Rattle.tinyvec_text.proofs.Boundaries.{boundary_from_split, first_byte}
+use Rattle.std.specs.String.Boundary.{IsSplitPoint}
+use Rattle.tinyvec_text.specs.InlineText.{Text}
+use Rattle.tinyvec_text.proofs.Boundaries.{first_byte}
 use Rattle.tinyvec_text.proofs.Lists.{text_utf8, text_cut}
 use Rattle.tinyvec_text.proofs.inline_text.InlineText.is_char_boundary.Goals as goal
 
@@ -11,6 +12,6 @@ pub returns : goal.returns
 returns g c =
     let i = c.args.index in
     let utf8 = text_utf8 c.self.inside.list c.self.invariant in (
-      λ yes. subst (λ (t : Text). IsBoundary (text_chars t) i) c.self.view_is (boundary_from_split _ utf8 i (c.splits_at.ensures.0 yes)),
-      λ cut. c.splits_at.ensures.1 (text_cut c.self.inside.list c.args.self.now c.self.view_is c.self.invariant i cut),
+      λ yes. subst (λ (t : Text). IsSplitPoint t.bytes i) c.self.view_is (c.splits_at.ensures.0 yes),
+      λ cut. c.splits_at.ensures.1 (text_cut c.self.inside.list c.args.self.now c.self.view_is i cut),
     )

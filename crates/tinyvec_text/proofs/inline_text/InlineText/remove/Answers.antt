@@ -9,7 +9,7 @@ use Rattle.tinyvec_text.proofs.inline_text.InlineText.remove.Goals.{After-as_sli
 use Rattle.tinyvec_text.proofs.inline_text.InlineText.remove.Goals as goal
 
 cut : (g : _) (c : After-as_slice g) → IsSplitPoint (tiny_items c.self.inside.list) c.args.index
-cut g c = text_cut c.self.inside.list c.args.self.now c.self.view_is c.self.invariant c.args.index c.requires.boundary
+cut g c = text_cut c.self.inside.list c.args.self.now c.self.view_is c.args.index c.requires.boundary
 
 here : (g : _) (c : After-first_char-c g) → IsFirstChar (drop c.args.index (tiny_items c.self.inside.list)) c.first_char-c.result.0 c.first_char-c.result.1
 here g c = subst (λ xs. IsFirstChar xs c.first_char-c.result.0 c.first_char-c.result.1) (from_there _ _ c.args.index c.as_slice.ensures) c.first_char-c.ensures

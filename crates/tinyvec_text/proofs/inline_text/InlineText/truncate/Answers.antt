@@ -9,14 +9,14 @@ use Rattle.tinyvec_text.proofs.inline_text.InlineText.truncate.Goals as goal
 pub invariant_of-self : goal.invariant_of-self
 invariant_of-self g c =
     let list = c.self.inside.list in
-    let cut = text_cut list c.args.self.now c.self.view_is c.self.invariant c.args.new_len c.requires in
+    let cut = text_cut list c.args.self.now c.self.view_is c.args.new_len c.requires in
     let front = (IsUtf8-take-drop (tiny_items list) (text_utf8 list c.self.invariant) c.args.new_len cut).0 in
     text_stays c.self.inside.list c.cut_off.new.list _ c.cut_off.ensures c.self.invariant front
 
 pub returns : goal.returns
 returns g c =
     let list = c.self.inside.list in
-    let cut = text_cut list c.args.self.now c.self.view_is c.self.invariant c.args.new_len c.requires in
+    let cut = text_cut list c.args.self.now c.self.view_is c.args.new_len c.requires in
     let rest = chars (drop c.args.new_len (tiny_items list)) in
     record {
       bytes = search rules;
@@ -27,5 +27,5 @@ returns g c =
 
 pub cut_off-requires : goal.cut_off-requires
 cut_off-requires g c =
-    let cut = text_cut c.self.inside.list c.args.self.now c.self.view_is c.self.invariant c.args.new_len c.requires in
+    let cut = text_cut c.self.inside.list c.args.self.now c.self.view_is c.args.new_len c.requires in
     (search rules, (search rules, (cut.0, c.self.invariant.1)))
