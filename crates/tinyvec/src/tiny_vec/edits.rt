@@ -255,7 +255,7 @@ fn is_full<A: Array>(v: &ArrayVec<A>) -> bool
     ensures value { result ≡ (length (slots_view A.Slots v.now).spare == 0) }
 {
     let slots = v.as_inner().as_slice();
-    if slots.len() * mem::size_of::<A::Item>() / 16 > slots.len() {
+    if slots.len() * mem::size_of::<A::Item>() / 8 > slots.len() {
         return v.is_full();
     }
     if v.len() < v.capacity() {

@@ -20,7 +20,7 @@ pub fn fit_registers<T>(items: &[T]) -> bool
     requires some { 0 < length items.now }
 {
     let size = items[..1].len() * mem::size_of::<T>();
-    4 <= size && size <= 16
+    4 <= size && size <= 8
 }
 
 /// Whether an item takes up to 16 bytes.
@@ -28,12 +28,12 @@ pub fn fit_registers<T>(items: &[T]) -> bool
 pub fn are_small<T>(items: &[T]) -> bool
     requires some { 0 < length items.now }
 {
-    items[..1].len() * mem::size_of::<T>() <= 16
+    items[..1].len() * mem::size_of::<T>() <= 8
 }
 
 /// Whether an item takes more than 16 bytes, also of a slice that may be empty. A short slice of items that take few more
 /// counts as small.
 #[inline(always)]
 pub(crate) fn are_large<T>(items: &[T]) -> bool {
-    items.len() * mem::size_of::<T>() / 16 > items.len()
+    items.len() * mem::size_of::<T>() / 8 > items.len()
 }
