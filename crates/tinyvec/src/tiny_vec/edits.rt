@@ -50,7 +50,10 @@ impl<A: Array> TinyVec<A> {
                 if self.grow_full().is_err() {
                     return Err(NoMemory(value));
                 }
-                self.push_reserved(value);
+                let TinyVec::Heap(v) = self else {
+                    unreachable!();
+                };
+                v.push_reserved(value);
             }
         }
         Ok(())

@@ -1,10 +1,11 @@
 use Rattle.std.specs.Prelude.{length}
 use Rattle.std.proofs.Common.{rules, ◌≡◌, [], ◌∷◌, ◌++◌, refl, arith}
 use Rattle.tinyvec.specs.TinyVec.{view}
-use Rattle.tinyvec.proofs.FrameLemmas.{full_inline, full_heap}
+use Rattle.tinyvec.specs.declared.tiny_vec.TinyVec.TheVariants.{Heap}
+use Rattle.tinyvec.proofs.FrameLemmas.{full_inline, full_heap, heap_becomes}
 use Rattle.tinyvec.proofs.PlaceLemmas.{err_of}
 use Rattle.tinyvec.proofs.TookLemmas.{Took, took_inline, took_heap, took_grown}
-use Rattle.tinyvec.proofs.tiny_vec.edits.TinyVec+A.push.Goals.{In_default, in-Inline, in-Heap, in_default+else-is_err, in_default-via-in-Inline+else-not-is_full, in_default-via-in-Heap+else-len-capacity}
+use Rattle.tinyvec.proofs.tiny_vec.edits.TinyVec+A.push.Goals.{In_default, in-Inline, in-Heap, in_default+else-is_err+in-Heap-self, in_default-via-in-Inline+else-not-is_full, in_default-via-in-Heap+else-len-capacity}
 use Rattle.tinyvec.proofs.tiny_vec.edits.TinyVec+A.push.Goals as goal
 
 -- the list is as it was there, and full
@@ -35,10 +36,12 @@ pushed g c =
           let v = w.in-Heap.v in
           took_heap G D (λ xs. xs ++ x ∷ []) old _ v w.push_reserved.new.self w.in-Heap.is w.self-is
           (omega (arith, v.ok.0, w.len.ensures, w.capacity.ensures, w.if-len-capacity.true)) w.push_reserved.ensures.items w.push_reserved.ensures.capacity
-      | in_default+else-is_err w ↦
+      | in_default+else-is_err+in-Heap-self w ↦
           let here : In_default g = record { before = c.before; in_default = w.in_default } in
-          rw w.self-is (took_grown G D (λ xs. xs ++ x ∷ []) old w.push_reserved-in_default.new.self w.grow_full.new.self w.grow_full.result w.if-is_err.ensures.value (full g here)
-          (rw (same_list g here) at w.grow_full.ensures.ok) w.push_reserved-in_default.ensures)
+          let v = w.in-Heap-self.v in
+          rw w.self-is (took_grown G D (λ xs. xs ++ x ∷ []) old (Heap w.push_reserved-in_default.new.self) w.grow_full.new.self w.grow_full.result w.if-is_err.ensures.value (full g here)
+          (rw (same_list g here) at w.grow_full.ensures.ok)
+          (rw w.in-Heap-self.is (heap_becomes D v w.push_reserved-in_default.new.self (v.items ++ x ∷ []) w.push_reserved-in_default.ensures.items w.push_reserved-in_default.ensures.capacity)))
     ]
 
 pub returns : goal.returns
