@@ -19,7 +19,9 @@ pub use crate::range::{resolve_range, subslice};
 pub use crate::splice::splice_over;
 pub use crate::touches::Touches;
 pub use crate::tuned::cloning::{clone_each, clone_over, clone_over_from};
-pub use crate::tuned::comparing::{cmp_slices, eq_slices, hash_items, partial_cmp_slices};
+pub use crate::tuned::comparing::{
+    cmp_short_slices, cmp_slices, eq_slices, hash_items, partial_cmp_slices,
+};
 pub use crate::tuned::moving::{close_gap, move_to_end, move_within, replace_within};
 pub use crate::tuned::shifting::remove_shifting;
 pub use crate::tuned::sizes::{are_bytes, are_small, fit_registers};

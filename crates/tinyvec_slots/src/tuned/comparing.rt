@@ -125,6 +125,32 @@ pub fn cmp_slices<T: Ord>(a: &[T], b: &[T]) -> Ordering
     order_at(a, b, first)
 }
 
+/// What `a.cmp(b)` returns, of slices that are mostly short and differ early: the first pair decides without a loop, then pair
+/// by pair up to 16 items.
+#[inline(always)]
+pub fn cmp_short_slices<T: Ord>(a: &[T], b: &[T]) -> Ordering
+    ensures { result ≡ slice_cmp T.cmp a.now b.now }
+{
+    let both = a.len().min(b.len());
+    if differ_at_once(&a[..both], &b[..both]) {
+        return order_at(a, b, 0);
+    }
+    if both > 16 {
+        return cmp_long_slices(a, b);
+    }
+    let first = difference_before(&a[..both], &b[..both], 1, both);
+    order_at(a, b, first)
+}
+
+// What `a.cmp(b)` returns, in a call of its own: short slices then save no registers.
+#[cold]
+#[inline(never)]
+fn cmp_long_slices<T: Ord>(a: &[T], b: &[T]) -> Ordering
+    ensures { result ≡ slice_cmp T.cmp a.now b.now }
+{
+    a.cmp(b)
+}
+
 // The same, if `first` is the first pair that is not equal, or how many pairs there are.
 #[inline(always)]
 fn order_at<T: Ord>(a: &[T], b: &[T], first: usize) -> Ordering

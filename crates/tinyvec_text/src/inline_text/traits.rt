@@ -18,6 +18,7 @@ use std::default::{Emptied, MadeWith};
 use std::fmt;
 use std::hash::{Hash, Hasher};
 use std::ops::DerefStr;
+use tinyvec_slots::authors::cmp_short_slices;
 
 /// So that `map.entry(k)?.or_default()` makes an empty text, as `new` does.
 impl<const N: usize> MadeWith<Global> for InlineText<N> {
@@ -105,7 +106,7 @@ impl<const N: usize> Ord for InlineText<N> {
     ghost matches_eq = { λ s t. texts_ties s.bytes t.bytes };
 
     fn cmp(&self, other: &Self) -> Ordering {
-        self.list.as_slice().cmp(other.list.as_slice())
+        cmp_short_slices(self.list.as_slice(), other.list.as_slice())
     }
 }
 
