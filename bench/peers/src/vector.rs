@@ -58,13 +58,22 @@ pub trait Vector<T: Number, const N: usize>: Clone + PartialOrd + Hash + Debug {
     where
         T: Copy,
     {
-        let start = range.start;
-        drop(self.drain(range));
-        let len = self.as_slice().len();
-        self.extend_from_slice(items);
+        let (start, end, len, new) = (range.start, range.end, self.as_slice().len(), items.len());
+        let old = end - start;
+        if new <= old {
+            let list = self.as_mut_slice();
+            list[start..start + new].copy_from_slice(items);
+            if new < old {
+                list.copy_within(end.., start + new);
+                self.truncate(len - (old - new));
+            }
+            return;
+        }
+        let more = new - old;
+        self.extend_from_slice(&items[..more]);
         let list = self.as_mut_slice();
-        list.copy_within(start..len, start + items.len());
-        list[start..start + items.len()].copy_from_slice(items);
+        list.copy_within(end..len, end + more);
+        list[start..start + new].copy_from_slice(items);
     }
 
     /// Takes out what `is_taken` says, and returns the sum of the items' values and `x`.
@@ -260,14 +269,6 @@ impl<T: Number, const N: usize> Vector<T, N> for smallvec::SmallVec<[T; N]> {
         self.dedup()
     }
 
-    #[inline(always)]
-    fn replace_range(&mut self, range: Range<usize>, items: &[T])
-    where
-        T: Copy,
-    {
-        drop(self.drain(range.clone()));
-        self.insert_from_slice(range.start, items)
-    }
 }
 
 impl<T: Number, const N: usize> Vector<T, N> for arrayvec::ArrayVec<T, N> {
