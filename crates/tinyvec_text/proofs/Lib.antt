@@ -2,5 +2,4 @@ pub mod Boundaries
 pub mod Extending
 pub mod Filters
 pub mod Lists
-pub mod Moving
 pub mod Wide
