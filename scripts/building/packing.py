@@ -51,10 +51,14 @@ def add(tar, path, text):
 
 def check(file, wanted, sum_wanted=None):
     """Whether the file has what was proved of these very crates, by this kit."""
+    if not pathlib.Path(file).is_file():
+        raise Unfit(f"there is no file {file}")
     with open(file, "rb") as pack:
         found = hashlib.file_digest(pack, "sha256").hexdigest()
     if sum_wanted not in (None, found):
-        raise Unfit(f"{file} has the sum {found}")
+        raise Unfit(f"{file} has the sum {found}, and not the one that was given")
+    if subprocess.run([*ZSTD, "-t", str(file)], stderr=subprocess.DEVNULL).returncode:
+        raise Unfit(f"{file} is no whole pack")
     with opened(file) as tar:
         head, here = json.load(tar.extractfile(tar.next())), head_of(wanted)
     if head["what"] != here["what"]:

@@ -80,7 +80,11 @@ def run_main(main):
     signals = [it for it in (signal.SIGINT, signal.SIGTERM, signal.SIGHUP) if signal.getsignal(it) != signal.SIG_IGN]
     for it in signals:
         signal.signal(it, interrupt)
-    sys.exit(main())
+    try:
+        sys.exit(main())
+    except OSError as error:
+        # A file or a folder that is not there, or may not be written, is the caller's to mend.
+        sys.exit(f"{os.path.basename(sys.argv[0])}: {error}")
 
 
 def say(text):
