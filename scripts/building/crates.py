@@ -118,6 +118,19 @@ class Crate:
     def is_found_good(self):
         (self.out / "good").write_text(self.verdict(), encoding="utf-8")
 
+    def whole_sum(self):
+        """Differs where anything differs that the program, or that of the tests, is made from or judged by."""
+        return sum_of(kit(), self.row, self.files, [it.sum for it in self.uses])
+
+    def is_run_by_ci(self):
+        """Notes that `rt ci` has just built and run what it runs, and removed what `./check` noted."""
+        self.out.mkdir(exist_ok=True)
+        (self.out / "run").write_text(self.whole_sum(), encoding="utf-8")
+
+    def is_run(self):
+        """Whether its program, or that of its tests, is of these very files, and ran well."""
+        return self.is_good() or text_of(self.out / "run") == self.whole_sum()
+
     def is_now_built(self):
         """Notes of what rt has just made that it was made from these sources, and what it states."""
         if not self.is_program:

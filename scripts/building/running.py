@@ -5,6 +5,7 @@ in turn. Here each is proved in a copy inside its out/, a repository of the crat
 keeps others out of the folders themselves. An edit made meanwhile is seen by the next run, and a run that is cut off leaves
 nothing half-made.
 """
+import argparse
 import concurrent.futures
 import contextlib
 import fcntl
@@ -23,6 +24,33 @@ LIMIT = 300
 
 # What was started, and whether this process is told to end, or a step failed.
 GUARD, STARTED, STOPPED = threading.RLock(), [], threading.Event()
+
+
+class Words(argparse.ArgumentParser):
+    """What a command is given: `--help` prints the head of its script, and a wrong word is told in one line."""
+
+    def __init__(self, head):
+        super().__init__(add_help=False, allow_abbrev=False)
+        self.head = head.strip()
+
+    def error(self, message):
+        say(f"{self.prog}: {message}")
+        sys.exit(2)
+
+    def read(self):
+        if {"-h", "--help"} & {*sys.argv[1:]}:
+            print(self.head)
+            sys.exit()
+        return self.parse_args()
+
+    def names(self, what, known):
+        """The words that are no options, each of which is one of those known."""
+        self.add_argument("names", nargs="*")
+        asked = self.read()
+        for it in asked.names:
+            if it not in known:
+                self.error(f"there is no {what} {it}, but {', '.join(known)}")
+        return asked
 
 
 class NotProved(Exception):

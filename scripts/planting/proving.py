@@ -21,10 +21,10 @@ class Run:
     def __init__(self, room, known, jobs, broken):
         self.room, self.crates, self.jobs, self.broken = room, known, jobs, broken
         self.refused = {it: [] for it in checking.KINDS}
-        self.survived, self.unshown, self.left = [], [], []
+        self.survived, self.unshown = [], []
         self.rounds, self.desks = [], {}
         # Only one crate or library is made ready at a time, with all jobs: more would need too much memory.
-        self.guard, self.began = threading.Lock(), time.monotonic()
+        self.guard = threading.Lock()
 
     def plan(self, found):
         """Puts the edits into rounds of a crate, the named ones first, in none of which two change one function. One outside every
@@ -39,24 +39,17 @@ class Run:
                 self.rounds.append(home := [])
             home.append(edit)
 
-    def go(self, minutes, seed):
-        """Tries the rounds that begin in so many minutes, and then alone what they did not show."""
-        until = self.began + 60 * (float("inf") if minutes is None else minutes)
+    def go(self):
+        """Tries the rounds, and then alone what they did not show."""
         # The crates take turns by chance, so that one is made ready while edits of another are tried.
-        random.Random(seed).shuffle(self.rounds)
+        random.Random(0).shuffle(self.rounds)
         self.rounds.sort(key=lambda it: not it[0].is_named)
-        self.side_by_side(self.try_round, self.rounds, until)
+        self.side_by_side(self.try_round, self.rounds)
         hidden, self.unseen = self.unseen, []
-        self.side_by_side(self.try_alone, [[it] for it in hidden], until)
+        self.side_by_side(self.try_alone, [[it] for it in hidden])
 
-    def side_by_side(self, do, batches, until):
-        def begin(batch):
-            if time.monotonic() > until:
-                self.left += batch
-            else:
-                do(batch)
-
-        running.do_all([running.Step(lambda _, it=it: begin(it)) for it in batches], self.jobs)
+    def side_by_side(self, do, batches):
+        running.do_all([running.Step(lambda _, it=it: do(it)) for it in batches], self.jobs)
 
     def desk(self, crate):
         """The crate's desk, where all that its edits change is proved as it stands."""
@@ -160,6 +153,6 @@ class Run:
         shown, rest = checking.KINDS
         told = {"survived": self.survived, "broken": self.broken, "refused by no clause": self.unshown, rest: self.refused[rest]}
         print("".join(f"{how}: {it}\n" for how, those in told.items() for it in those), end="")
-        counts = {shown: self.refused[shown], "survived": self.survived, "left": self.left, rest: self.refused[rest]}
+        counts = {shown: self.refused[shown], "survived": self.survived, rest: self.refused[rest]}
         print("mutants: " + ", ".join(f"{len(those)} {how}" for how, those in counts.items()))
         return 1 if self.survived or self.broken else 0
