@@ -38,9 +38,6 @@ OVER = re.compile(r"^over (\w+) (\w+)$", re.M)
 
 
 class Crate:
-    # What rt is given besides to build it.
-    flags = ()
-
     def __init__(self, name, row, uses):
         self.name, self.row, self.uses, self.is_used = name, row, uses, False
         self.of_kit = [it for it in row.partition("#")[0].partition(":")[2].split() if it not in [one.name for one in uses]]

@@ -250,10 +250,8 @@ def link(source, target):
 def build(crate, jobs):
     """Proves and builds a crate over those below it. Returns whether it is proved."""
     with Copy(crate) as copy:
-        # The program is run too, on no input: its status tells nothing, but rt's mark does, which a flag has it leave out.
-        words = ["run" if crate.is_program else "lib", "--jobs", str(jobs), *crate.flags]
-        if copy.rt(words, "build.log") == 0 and crate.flags:
-            (copy.out / crate.mark).write_text(crate.sum, encoding="utf-8")
+        # The program is run too, on no input. Its status tells nothing, but rt's mark does.
+        copy.rt(["run" if crate.is_program else "lib", "--jobs", str(jobs)], "build.log")
         is_proved = all((copy.out / it).exists() for it in [*crate.made, crate.mark])
         if is_proved:
             (crate.out / "built").unlink(missing_ok=True)
