@@ -1,7 +1,8 @@
 """Tables in Markdown of what is measured: here, and how much of each peer's that is. Documents quote them: a table after a
-comment with the name of the results whose first one it is, and a number before a comment that names its cell, by a row, its
-capacity and the peer, as 3.7<!-- rust tiny_long_push 64 tinyvec -->, or by a line of means and a capacity, as 0.6<!-- rust
-ArrayVec over tinyvec 4 -->. There `least` and `most` stand for those over all capacities."""
+comment with the name of the results whose first one it is, or with `means`, of the least and the most of each vector over each
+peer; and a number before a comment that names its cell, by a row, its capacity and the peer, as 3.7<!-- rust tiny_long_push 64
+tinyvec -->, or by a line of means and a capacity, as 0.6<!-- rust ArrayVec over tinyvec 4 -->. There `least` and `most` stand for
+those over all capacities."""
 import functools
 import re
 import statistics
@@ -39,7 +40,10 @@ TABLE = re.compile(rf"^\*\*.*\*\*: {OVER}(.*)\n\n(.*)\n.*\n((?:\|.*\n)+)", re.M)
 MEANS = re.compile(r"^\| Instructions of (.*)\n.*\n((?:\|.*\n)+)", re.M)
 
 # What documents quote.
-PLACE = re.compile(r"^<!-- (programs|rust) -->\n(?:\|.*\n)*", re.M)
+PLACE = re.compile(r"^<!-- (programs|rust|means) -->\n(?:\|.*\n)*", re.M)
+# Groups of few users, and the columns of `means`: a crate, with its other types and std's.
+FEW = ("`TinyVec` on its way to the heap", "`TinyVec` out of four slots", "Borsh form")
+PEERS = {"`tinyvec`": ["tinyvec"], "`arrayvec`": ["arrayvec", "ArrayString"], "`smallvec`": ["smallvec"], "`Vec`, `String`": ["Vec", "String"]}
 QUOTED = re.compile(r"(?:\d+(?:\.(\d+))?|\?)<!-- rust (.+?) -->")
 
 
@@ -145,6 +149,18 @@ def quotable():
     return found
 
 
+def means():
+    """A table of a line for each vector: between which means over its rows it lies, for each peer."""
+    rows = []
+    for group in (it for it in GROUPS if it not in FEW):
+        label = group.replace("`", "")
+        bounds = lambda it, end: quotable().get(f"{label} over {it} {end}")
+        cells = [next((it for it in peers if bounds(it, "least")), None) for peers in PEERS.values()]
+        ends = [[f"{bounds(it, end):.2f}" for end in ("least", "most")] if it else [] for it in cells]
+        rows += [f"| {group} | {' | '.join(' to '.join(dict.fromkeys(it)) for it in ends)} |\n"] * any(ends)
+    return f"| | {' | '.join(PEERS)} |\n|{'---|' * (len(PEERS) + 1)}\n{''.join(rows)}"
+
+
 def filled(text):
     """The text of a document with what it quotes of the results as they are. What they do not have is a question mark."""
 
@@ -152,7 +168,7 @@ def filled(text):
         known, digits = quotable().get(quote[2]), 2 if quote[0][0] == "?" else len(quote[1] or "")
         return f"{'?' if known is None else f'{known:.{digits}f}'}<!-- rust {quote[2]} -->"
 
-    first = lambda it: re.search(r"(?:^\|.*\n)+", read(RESULTS / f"{it}.md"), re.M)[0]
+    first = lambda it: means() if it == "means" else re.search(r"(?:^\|.*\n)+", read(RESULTS / f"{it}.md"), re.M)[0]
     return QUOTED.sub(number, PLACE.sub(lambda it: f"<!-- {it[1]} -->\n{first(it[1])}", text))
 
 
