@@ -1,4 +1,5 @@
 //! An error type that takes refused calls by `?`.
+use std::alloc::{AllocError, AllocFailed};
 use tinyvec::{NoMemory, TinyVec};
 
 /// Why the parts of a version were not read.
@@ -10,6 +11,18 @@ pub enum VersionError {
 
 impl<T: Drop> From<NoMemory<T>> for VersionError {
     fn from(_refused: NoMemory<T>) -> Self {
+        VersionError::Memory
+    }
+}
+
+impl<T: Drop> From<AllocFailed<T>> for VersionError {
+    fn from(_refused: AllocFailed<T>) -> Self {
+        VersionError::Memory
+    }
+}
+
+impl From<AllocError> for VersionError {
+    fn from(_refused: AllocError) -> Self {
         VersionError::Memory
     }
 }
