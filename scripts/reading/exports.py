@@ -5,8 +5,13 @@ import re
 from building.crates import TOP, text_of
 from reading import contracts
 
-# The crates that others call, each after those that it needs.
-LIBRARIES = [it for it in re.findall(r"^(\w+):", text_of(TOP / "crates.txt"), re.M) if (TOP / "crates" / it / "CALLING.md").is_file()]
+# The crates that others call, each after those that it needs: those with a page, and one that only passes types on.
+ALIASES = "tinyvec_slice"
+LIBRARIES = [
+    it
+    for it in re.findall(r"^(\w+):", text_of(TOP / "crates.txt"), re.M)
+    if (TOP / "crates" / it / "CALLING.md").is_file() or it == ALIASES
+]
 
 # The pages of docs/reference: the crate of each, and the type whose methods are named without it. Of a crate of two pages the
 # first has what is of no other's.
