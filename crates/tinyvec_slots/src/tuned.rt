@@ -1,6 +1,6 @@
 //! What is written for speed: plain loops would do the same.
 //!
-//! Each form was chosen by counting instructions (`docs/DESIGN.md`), and the contracts say nothing of it. In general:
+//! Each form was chosen by counting instructions (`docs/DECISIONS.md`), and the contracts say nothing of it. In general:
 //! - LLVM makes a loop vector code only if it knows the trip count, so blocks of a constant size come before the rest.
 //! - An early return inside a block would undo that, so a block is first looked at whole.
 //! - Short runs are moved or written one by one, since a rotation and `memset` cost more than a few items.
