@@ -11,6 +11,7 @@ import json
 import pathlib
 import subprocess
 import tarfile
+import tempfile
 
 from building import crates
 
@@ -75,12 +76,14 @@ def fit(folder, chosen):
     return all(crates.sum_of_file(formats[name]) == total for name, total in over if name in formats)
 
 
-def unpack(file, names, folder):
-    """Lays the libraries of these crates below the folder."""
-    with opened(file) as tar:
-        for entry in tar:
-            if entry.name.partition("/")[0] in names:
-                tar.extract(entry, folder, filter="data")
+@contextlib.contextmanager
+def laid(file, beside):
+    """A folder with what the pack holds, which is made in another one and goes at the end. What stands there is moved only once all
+    is written."""
+    with tempfile.TemporaryDirectory(dir=beside, prefix=".pack-") as folder:
+        with opened(file) as tar:
+            tar.extractall(folder, filter="data")
+        yield pathlib.Path(folder)
 
 
 @contextlib.contextmanager

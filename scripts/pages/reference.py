@@ -7,6 +7,7 @@ hand.
 """
 import functools
 import re
+import textwrap
 
 from building.crates import text_of
 from pages import examples
@@ -244,6 +245,13 @@ class Entry(exports.Export):
         clauses = contracts.function(contracts.without_comments("\n".join(self.item.head())))[1] if self.item.kind == "fn" else {}
         return [f"    {it}" for it in clauses.values() if it.startswith("requires")]
 
+    def clauses(self, head):
+        """What its code has behind the head: of a function without the conditions, which precede."""
+        said = self.code().removeprefix(head).strip("\n")
+        for it in self.conditions() if self.item.kind == "fn" else ():
+            said = said.replace(f"{it}\n", "", 1).removesuffix(it)
+        return textwrap.dedent(re.sub(r"^ (?! )", "", said)).strip("\n")
+
     def words(self):
         """The words that its contract cites."""
         return cited(self.source.file, self.code())
@@ -382,8 +390,8 @@ class Page:
             yield f"\n```\n{self.library.examples[it.key()]}\n```\n"
         if twin is not it:
             yield f"\nIts contract is that of {twin.link('', twin.trait or twin.name)}.\n"
-        elif head != code:
-            yield f"\n<details><summary>Contract</summary>\n\n```\n{code}\n```\n\n</details>\n"
+        elif clauses := it.clauses(head):
+            yield f"\n<details><summary>Contract</summary>\n\n```\n{clauses}\n```\n\n</details>\n"
 
     def aliased(self, it):
         """A link to the type that an alias names."""
