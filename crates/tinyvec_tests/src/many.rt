@@ -4,6 +4,8 @@ use crate::steps::{all_steps, granted_steps};
 use std::iter;
 use std::test::Fail;
 use tinyvec::{ArrayVec, TinyVec};
+use tinyvec_borsh::{BorshDeserialize, BorshError};
+use tinyvec_io::Counted;
 
 const SLOTS: usize = 65536;
 
@@ -29,12 +31,17 @@ fn of_an_array_and_a_length(rt: HostRuntime) {
 #[test]
 fn an_array_is_filled(rt: HostRuntime) -> Result<(), Fail> {
     let mut v = Many::new();
+    let _more = v.fill(iter::repeat(1));
+    let is_filled = are(v.as_slice(), SLOTS, 1) & v.grab_spare_slice().is_empty();
+    let has_no_room = (v.capacity() == SLOTS) & (v.try_push(2) == Some(2));
+    v.clear();
     let is_full = v.extend(iter::repeat(6)).is_err() & are(v.as_slice(), SLOTS, 6);
     v.truncate(1);
     let is_vacated = are(v.grab_spare_slice(), SLOTS - 1, 0);
     let is_grown = v.resize(SLOTS, 6).is_ok() & is_cloned(&v);
     let is_shifted = (v.pop_at(0) == Some(6)) & v.try_insert(0, 6).is_none();
     all_steps(&[
+        is_filled & has_no_room,
         is_full,
         is_vacated,
         is_grown,
@@ -98,10 +105,27 @@ fn a_tiny_vec_has_room(rt: HostRuntime) -> Result<(), Fail> {
     all_steps(&[is_inline])
 }
 
+/// As many items as slots, and one more, which is read too.
+#[test]
+fn an_array_is_read(rt: HostRuntime) {
+    let mut bytes = [7; 8 + SLOTS + 1];
+    bytes[..8].copy_from_slice(&[0, 0, 1, 0, 0, 0, 0, 0]);
+    let mut reader = Counted::new(&bytes[..8 + SLOTS]);
+    let Ok(full) = Many::deserialize_reader(rt.alloc(), &mut reader) else {
+        panic!(&rt; "there are as many bytes");
+    };
+    bytes[0] = 1;
+    let mut reader = Counted::new(bytes.as_slice());
+    let refused = Many::deserialize_reader(rt.alloc(), &mut reader)
+        == Err(BorshError::InvalidLength);
+    let are_read = reader.into_inner().is_empty();
+    assert!(rt; are(full.as_slice(), SLOTS, 7) & refused & are_read);
+}
+
 /// A splice that touches the slots after its range once for each item of it would pass the check where no caller counts.
 #[test]
 fn a_half_is_cut(rt: HostRuntime) -> Result<(), Fail> {
-    let mut v = ArrayVec::<[u16; 1000]>::new();
+    let mut v = ArrayVec::<[i32; 1000]>::new();
     let is_filled = v.extend(0..1000).is_ok();
     let (_none_refused, touches) = v.splice(..v.len().min(500), None).finish_counted();
     let are_left = v.iter().copied().eq(500..1000);

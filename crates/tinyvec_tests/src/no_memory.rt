@@ -1,5 +1,4 @@
-//! A request for memory that is made for nothing would pass the check. `tests/refuse` sees that these tests make none. Rows want
-//! `0 requests` of the calls that they can make.
+//! A request for memory that is made for nothing would pass the check. `tests/refuse` sees that these tests make none.
 use crate::lists::lies;
 use crate::steps::{all_steps, is_debugged, is_shown};
 use std::default::MadeWith;
@@ -35,6 +34,88 @@ fn lists_that_are_looked_at(rt: HostRuntime) -> Result<(), Fail> {
         v.iter().count() == other.iter().count().wrapping_add(1),
         lies(&v, &[1, 2, 3], true),
         lies(&other, &[4, 3], true),
+    ])
+}
+
+// Calls that take items out, or look at them.
+#[test]
+fn lists_that_are_cut(rt: HostRuntime) -> Result<(), Fail> {
+    let alloc = rt.alloc();
+    let Ok(mut v) = TinyVec::try_from_array_len(alloc, [1, 2, 3, 4, 5, 6, 7, 8], 8) else {
+        return all_steps(&[false]);
+    };
+    let popped = (v.pop() == Some(8))
+        & (v.pop_if(|x| *x == 7) == Some(7))
+        & (v.pop_at(0) == Some(1));
+    let removed = v.len() == 5 && v.remove(0) == 2 && v.len() == 4 && v.swap_remove(0) == 3;
+    let is_left = lies(&v, &[6, 4, 5], true);
+    for x in v.iter_mut() {
+        *x += 1;
+    }
+    v.as_mut_slice().reverse();
+    let is_written = lies(&v, &[6, 5, 7], true);
+    let is_drained = v.drain(..v.len().min(1)).next() == Some(6);
+    let mut sum = 0;
+    v.drain_each(..v.len().min(1), &mut |x: i32| sum += x.clamp(0, 9));
+    let mut out = Vec::new(alloc);
+    v.drain_into(..0, &mut out);
+    v.truncate(1);
+    let is_cut = lies(&v, &[7], true) & (sum == 5) & out.is_empty();
+    v.clear();
+    all_steps(&[
+        popped,
+        removed,
+        is_left,
+        is_written,
+        is_drained & is_cut,
+        v.is_empty(),
+    ])
+}
+
+#[test]
+fn lists_that_are_filtered(rt: HostRuntime) -> Result<(), Fail> {
+    let mut v = TinyVec::from_array(rt.alloc(), [1, 1, 2, 13, 4, 14, 5, 6]);
+    v.retain(|x| *x != 5);
+    v.retain_mut(|x| *x != 6);
+    v.dedup();
+    v.dedup_by(|x, kept| *x == 2 && *kept == 1);
+    v.dedup_by_key(|x| *x % 10);
+    let is_filtered = lies(&v, &[1, 13, 4], true);
+    let is_taken = v.extract_if(.., |x| *x == 13).next() == Some(13);
+    let is_put = v.splice(..v.len().min(1), [7, 8]).finish().is_ok();
+    let empty = TinyVec::<[i32; 3]>::from_vec(Vec::new(rt.alloc()));
+    all_steps(&[
+        is_filtered,
+        is_taken & is_put,
+        lies(&v, &[7, 8, 4], true),
+        lies(&empty, &[], false),
+    ])
+}
+
+#[test]
+fn texts_that_are_cut(rt: HostRuntime) -> Result<(), Fail> {
+    let bytes = TinyVec::from_array_len(rt.alloc(), [b'h', 0xc3, 0xa9, b'y', 0, 0, 0, 0], 4);
+    let Some(mut text) = InlineText::from_utf8_or_none(bytes) else {
+        return all_steps(&[false]);
+    };
+    let is_pushed = text.len() == 4;
+    if is_pushed && text.capacity() >= 8 {
+        text.push_str_reserved("lo");
+    }
+    let is_popped = (text.pop() == Some('o')) & (text.as_str() == "héyl");
+    let is_removed = text.len() == 5 && text.is_char_boundary(1) && text.remove(1) == 'é';
+    text.retain(|x| x != 'y');
+    let is_retained = text.as_str() == "hl";
+    if text.is_char_boundary(1) {
+        text.truncate(1);
+    }
+    let is_cut = text.as_str() == "h";
+    text.clear();
+    let bytes = text.into_bytes();
+    all_steps(&[
+        is_pushed & is_popped & is_removed,
+        is_retained & is_cut,
+        bytes.is_empty(),
     ])
 }
 
