@@ -1,7 +1,7 @@
 """Whether what docs/reference/costs.txt says of each call is shown, and bench/calls.txt names each public call.
 
-A call that never allocates returns no error that says so. If its type has an allocator and it does not only read, it has a
-row of its name that wants `0 requests`, which `tests/rows/compare` counts, or a test in a module `no_memory`.
+A call that never allocates returns no error that says so. If its type has an allocator and it does not only read, a test in a
+module `no_memory` makes it, which `tests/refuse` holds to no request.
 bench/calls.txt has the row of the benchmarks of each call at 64 and 16,384 items; that of a call whose time is constant, if
 it has the call's name, counts at most CONSTANT more at 16,384. What the vectors share, the crate of slots and the traits of
 slots and arrays, is measured by the vectors' calls.
@@ -11,7 +11,6 @@ import re
 from measuring import tables
 from pages import reference
 from reading import exports
-from rows import rows
 
 WITH_ALLOCATOR = ("TinyVec", "InlineText")
 BENCH = exports.TOP / "bench/calls.txt"
@@ -37,15 +36,12 @@ def faults():
 
 def faults_of_requests(signatures):
     tests = "".join(it.read_text(encoding="utf-8") for it in (exports.TOP / "crates").glob("*_tests/src/**/no_memory.rt"))
-    chains = [it for path in (exports.TOP / "tests/rows").glob("*.txt") for it in rows.read_file(path)]
-    asked = ((it.kind, call) for it in chains for _, call, wanted in it.calls if wanted.endswith("; 0 requests"))
-    shown = {(re.match(r"\w+", kind)[0], call.split(" ")[0]) for kind, call in asked}
     for call in (it for it, (_, how) in reference.costs() if how == "never" and it in signatures):
         may_fail = re.search("AllocError|NoMemory", signatures[call])
         yield from [f"costs.txt: {call} never allocates, but may fail for memory"] * bool(may_fail)
         kind, name = call.split("::")
-        is_shown = (kind, name) in shown or re.search(rf"\b{name}\(", tests) or "(&self" in signatures[call]
-        yield from [f"no row or test shows that {call} makes no request for memory"] * (kind in WITH_ALLOCATOR and not is_shown)
+        is_shown = re.search(rf"\b{name}\(", tests) or "(&self" in signatures[call]
+        yield from [f"no test shows that {call} makes no request for memory"] * (kind in WITH_ALLOCATOR and not is_shown)
 
 
 def faults_of_bench(calls):

@@ -7,8 +7,8 @@ import subprocess
 import sys
 import tempfile
 
+from building import refusing
 from measuring import inputs, instructions, programs
-from rows import refusing
 
 NAMES = list(inputs.MAKERS)
 # A program of the benchmark's own is beside the same over each crate of Rust's that grows. It takes long for a line.

@@ -8,8 +8,7 @@ import copy
 import math
 import re
 
-from models.texts import Text
-from models.vectors import Vector, listed
+from models.vectors import Text, Vector, listed
 
 SLOTS = 4
 LONGEST_LINE = 128
@@ -80,7 +79,7 @@ class Model:
     def state(self, name):
         v = self.held[name]
         place = listed(v.spare) if name in "AS" else "inline" if v.is_inline else "heap"
-        return f"{f'[{v.text()}]' if name == 'X' else listed(v.list)} {place}"
+        return f"{f'[{bytes(v.list).decode()}]' if name == 'X' else listed(v.list)} {place}"
 
     def refused(self, line):
         """What may be answered where memory is refused: `memory`, and nothing is changed, or what a splice has no room for. With
@@ -168,9 +167,9 @@ CALLS = {
     "setlen": lambda v, n: "range" if v.with_len(n) is None else "ok",
     "reserve": reserve,
     "heap": lambda v: "memory" if v.move_to_the_heap() is None else "ok",
-    "shrink": lambda v: v.shrink_to() or "ok",
+    "shrink": lambda v: v.shrink() or "ok",
     "cut": lambda t, i: t.becomes(t.list[:i]) or "ok" if i in t.boundaries() else "range",
-    "add": lambda t, text: "memory" if t.adds([text]) is None else "ok",
+    "add": lambda t, text: "memory" if t.adds(text) is None else "ok",
 }
 
 

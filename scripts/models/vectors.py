@@ -1,10 +1,9 @@
-"""A vector of a script, or the bytes of a text: a list, the spare slots after it, and on the heap a capacity."""
+"""A vector or a text of a script: a list, the spare slots after it, and on the heap a capacity."""
 import math
 
 # How much room a full list gets that is to have room for `need`, of the room before and whether it was inline.
 DOUBLES = lambda room, need, was_inline: max(2 * room, need)
 FOR = lambda room, need, was_inline: need if was_inline else max(2 * room, need)
-EXACTLY = lambda room, need, was_inline: need
 
 
 class Vector:
@@ -16,10 +15,6 @@ class Vector:
         self.list, self.spare, self.is_inline, self.on_heap = [], [0] * slots, True, 0
         # How many requests a call has made, and how many more are granted.
         self.asked, self.granted = 0, math.inf
-
-    def state(self):
-        """Of a `TinyVec`, as programs write it."""
-        return f"{'inline' if self.is_inline else 'heap'} {listed(self.list, self.spare)}"
 
     def capacity(self):
         return self.slots if self.is_inline else self.on_heap
@@ -45,10 +40,6 @@ class Vector:
             self.spare = self.spare[longer:] if longer > 0 else [0] * -longer + self.spare
         self.list = items
         return ""
-
-    def gains(self, items, rule=FOR):
-        """Appends items if there is room for all."""
-        return self.becomes(self.list + items) if self.makes_room(len(self.list) + len(items), rule) else None
 
     def pushes(self, items, after):
         """Appends items one by one before others, and returns those that find no room."""
@@ -76,11 +67,10 @@ class Vector:
             self.is_inline, self.spare, self.on_heap = False, [], len(self.list)
             return ""
 
-    def shrink_to(self, kept=0):
-        """A list on the heap moves into the array if that has the room that is kept, and else keeps no more."""
+    def shrink(self):
+        """A list on the heap moves into the array if it fits."""
         if not self.is_inline:
-            room = max(len(self.list), kept)
-            self.is_inline, self.on_heap = room <= self.slots, min(self.on_heap, room)
+            self.is_inline, self.on_heap = len(self.list) <= self.slots, len(self.list)
             self.spare = [0] * (self.slots - len(self.list)) if self.is_inline else []
         return ""
 
@@ -91,19 +81,19 @@ class Vector:
             self.list, self.spare = slots[:n], slots[n:]
             return ""
 
-    def made(self, items, room=0):
-        """A new vector of these items with just the room that it needs, inline before defaults or on the heap."""
-        new = Vector(self.kind, self.slots)
-        new.asked, new.granted = self.asked, self.granted
-        return None if not new.makes_room(max(room, len(items)), EXACTLY) else new.becomes(items) or self.is_now(new)
 
-    def is_now(self, new):
-        self.list, self.spare, self.asked = new.list, new.spare, new.asked
-        self.is_inline, self.on_heap = new.is_inline, new.on_heap
-        return ""
+class Text(Vector):
+    def __init__(self, slots):
+        super().__init__("TinyVec", slots)
+
+    def boundaries(self):
+        """The places between characters, in bytes."""
+        return [i for i in range(len(self.list)) if self.list[i] & 0xC0 != 0x80] + [len(self.list)]
+
+    def adds(self, text):
+        new = self.list + list(text.encode())
+        return self.becomes(new) if self.makes_room(len(new)) else None
 
 
-def listed(items, spare=()):
-    """A list and the slots after it, as programs write it."""
-    behind = f"| {', '.join(map(str, spare))}" if spare else ""
-    return f"[{' '.join(filter(None, [', '.join(map(str, items)), behind]))}]"
+def listed(items):
+    return f"[{', '.join(map(str, items))}]"

@@ -1,7 +1,7 @@
 //! What a caller of the vectors can prove, and how: what the documents quote, and what no other caller teaches. That is a loop
 //! with its invariant, a caller that is generic over the array, the slots or the replacement, the owner of a lent slice, a drain
 //! and a splice by their ends, a clone that fails, and code that is ported from Rust. What each call returns and leaves is
-//! shown by an example of `docs/reference/examples.txt` and by rows of `tests/rows`.
+//! shown by an example of `docs/reference/examples.txt`.
 #![tactic(auto)]
 
 pub mod borsh;
