@@ -1,107 +1,104 @@
--- The turns of the loop under `extract_if`, and what its steps yield.
+-- The turns of the loop under `extract_if`, and what its steps yield. Of the items that were turned down `ExtractsNext` says that
+-- a call found none among them.
 use Rattle.std.proofs.Common.{◌≡◌, ℕ, ◌+◌, ◌-◌, ◌<◌, ◌≤◌, Bool, true, false, List, [], ◌∷◌, ◌++◌, length, get_or, set, take, drop, slice_range, Option, Some, None, refl, sym, ap, ◌∙◌, subst, arith, append-nil, append_assoc, drop-set-lt, length-set}
+use Rattle.std.proofs.Math.Seq.{take-add}
+use Rattle.std.proofs.lemmas.Grind.{drop_more_same}
 use Rattle.std.proofs.lemmas.List.{take-set-le, get_or-set_same, drop-drop}
+use Rattle.std.proofs.lemmas.List.Edits.{between_none}
 use Rattle.std.proofs.iter.runs.Lists.{Everywhere, one_more, none-some, same_Some}
 use Rattle.std.proofs.iter.runs.Made.{took, each}
-use Rattle.std.proofs.lemmas.List.Edits.{between_none}
 use Rattle.std.specs.Borrow.{MutBor}
 use Rattle.std.specs.Fn.{CalledAtMut, Mut}
 use Rattle.std.specs.Iterator.{Yields}
 use Rattle.std.specs.List.Retain.{ExtractsNext, IsChosenBy}
 use Rattle.tinyvec_slots.specs.Extracting.{EachIsChosen, ExtractSteps}
+use Rattle.tinyvec_slots.specs.declared.extracting.ExtractIf.{ExtractIf}
 use Rattle.tinyvec_slots.proofs.Lists.{slice_range_first}
 use Rattle.tinyvec_slots.proofs.FiltersLemmas.{item_at}
 
--- from j on the lists are one if they are so behind an i before it
-module _ {X : Type 0} (xs ys : List X) (i j : ℕ) (lt : i < j) (behind : drop (i + 1) ys ≡ drop (i + 1) xs) where
-  same_back : drop j ys ≡ drop j xs
-  same_back =
-      let on : i + 1 + (j - (i + 1)) ≡ j = omega arith in
-      rw (drop-drop, drop-drop, on) at (ap (drop (j - (i + 1))) behind)
+-- a range in two parts
+parted : {X : Type 0} (xs : List X) (i j k : ℕ) → i ≤ j → j ≤ k → slice_range xs i k ≡ slice_range xs i j ++ slice_range xs j k
+parted xs i j k low high =
+    let whole : k - i ≡ j - i + (k - j) = omega arith in
+    let there : i + (j - i) ≡ j = omega arith in
+    rw (whole, take-add (j - i) (k - j) (drop i xs), drop-drop (j - i) i xs, there) refl
 
-module _ {S X : Type 0} (R : S → X → Bool → S → X → Type 0) (s : S) (xs : List X) where
-  -- R turned down the items of xs before ys, and left them as ks. It goes on at t.
-  pub Passed : List X → S → List X → Type 0
-  Passed ks t ys = (r : Option X) (u : S) (kept rest : List X) → ExtractsNext R t ys r u kept rest → ExtractsNext R s xs r u (ks ++ kept) rest
-
-  pub none_passed : Passed [] s xs
-  unfolding Passed
-  none_passed r u kept rest h = h
-
-  module _ (ks : List X) (t : S) (ys : List X) (passed : Passed ks t ys) where
-    passed_more : (y z : X) (zs : List X) (u : S) → ys ≡ y ∷ zs → R t y false u z → Passed (ks ++ z ∷ []) u zs
-    unfolding Passed
-    passed_more y z zs u is asked r v kept rest h = rw (append_assoc ks (z ∷ []) kept) (passed r v (z ∷ kept) rest (rw is (false, u, z, asked, (kept, h, refl))))
-
-    passed_to : (y z : X) (zs : List X) (u : S) → ys ≡ y ∷ zs → R t y true u z → ExtractsNext R s xs (Some z) u ks zs
-    unfolding Passed
-    passed_to y z zs u is asked = rw (append-nil ks) at (passed (Some z) u [] zs (rw is (true, u, z, asked, (refl, refl, refl, refl))))
-
-    passed_all : ys ≡ [] → ExtractsNext R s xs None t ks []
-    unfolding Passed
-    passed_all none = rw (append-nil ks) at (passed None t [] [] (rw none (refl, refl, refl, refl)))
+-- R turned down the items of us, and the next call goes on at vs
+then_asks : {S X : Type 0} (R : S → X → Bool → S → X → Type 0) (s t u : S) (us ks vs kept rest : List X) (r : Option X)
+    → ExtractsNext R s us None t ks [] → ExtractsNext R t vs r u kept rest → ExtractsNext R s (us ++ vs) r u (ks ++ kept) rest
+then_asks R s t u [] ks vs kept rest r turned next = rw (turned.2, ← turned.1) next
+then_asks R s t u (x ∷ us) ks vs kept rest r (true, v, y, asked, found) next = absurd (none-some y found.0)
+then_asks R s t u (x ∷ us) ks vs kept rest r (false, v, y, asked, (ls, turned, is)) next =
+    (false, v, y, asked, (ls ++ kept, then_asks R v t u us ls vs kept rest r turned next, ap (λ l. l ++ kept) is))
 
 module _ {S X : Type 0} (R : S → X → Bool → S → X → Type 0) (s : S) (xs : List X) (front gap end : ℕ) where
   -- R turned down the items of xs from `front + gap` up to i, which moved down over the gap. It goes on at t.
   pub record TurnedDown (t : S) (ys : List X) (i : ℕ) : Type 0 where
     pub kept : List X
-    pub passed : Passed R s (slice_range xs (front + gap) end) kept t (slice_range ys i end)
+    pub asked : ExtractsNext R s (slice_range xs (front + gap) i) None t kept []
     pub front_is : take (i - gap) ys ≡ take front xs ++ kept
-    pub back : drop end ys ≡ drop end xs
+    pub later : drop i ys ≡ drop i xs
 
   pub turned_none : TurnedDown s xs (front + gap)
   turned_none =
       let same : front + gap - gap ≡ front = omega arith in record {
         kept = [];
-        passed = none_passed R s (slice_range xs (front + gap) end);
+        asked = rw (between_none xs (front + gap)) (refl, refl, refl, refl);
         front_is = ap (λ n. take n xs) same ∙ sym (append-nil (take front xs));
-        back = refl;
+        later = refl;
       }
 
   -- what the calls found and left, as `take_chosen` says it
   abbrev pub Found : Option X → S → List X → ℕ → ℕ → Type 0
   Found r t ys to from = (kept : List X) × ExtractsNext R s (slice_range xs (front + gap) end) r t kept (slice_range ys from end) × (take to ys ≡ take front xs ++ kept)
 
-  -- at the end
-  pub found_none : (t : S) (ys : List X) (i from : ℕ) → i ≡ end → from ≡ end → TurnedDown t ys i → Found None t ys (end - gap) from
-  found_none t ys i from last same h = (
-    h.kept,
-    rw (same, between_none ys end) (passed_all R s _ h.kept t _ h.passed (rw last (between_none ys end))),
-    ap (λ n. take (n - gap) ys) (sym last) ∙ h.front_is,
-  )
+  module _ (t : S) (ys : List X) (i : ℕ) (h : TurnedDown t ys i) where
+    pub back_same : i ≤ end → drop end ys ≡ drop end xs
+    back_same le =
+        let there : i + (end - i) ≡ end = omega arith in
+        rw (drop-drop (end - i) i ys, drop-drop (end - i) i xs, there) at (ap (drop (end - i)) h.later)
 
-  -- a turn at i, where the question left y
-  module _ (t u : S) (ys : List X) (i : ℕ) (x y : X) (low : gap ≤ i) (lt : i < end) (le : end ≤ length ys) (is : x ≡ get_or ys i x) (h : TurnedDown t ys i) where
-    seen : slice_range ys i end ≡ x ∷ slice_range (set ys i y) (i + 1) end
-    seen = slice_range_first ys i end x y lt le is
+    -- at the end
+    pub found_none : (from : ℕ) → i ≡ end → from ≡ end → Found None t ys (end - gap) from
+    found_none from last same = (
+      h.kept,
+      rw (same, between_none ys end) (subst (λ n. ExtractsNext R s (slice_range xs (front + gap) n) None t h.kept []) last h.asked),
+      ap (λ n. take (n - gap) ys) (sym last) ∙ h.front_is,
+    )
 
-    ahead : take (i - gap) (set ys i y) ≡ take front xs ++ h.kept
-    ahead = take-set-le (i - gap) ys i y (omega arith) ∙ h.front_is
+    -- a turn at i, where the question left y
+    module _ (u : S) (x y : X) (low : front + gap ≤ i) (lt : i < end) (le : end ≤ length ys) (is : x ≡ get_or ys i x) where
+      ahead : take (i - gap) (set ys i y) ≡ take front xs ++ h.kept
+      ahead = take-set-le (i - gap) ys i y (omega arith) ∙ h.front_is
 
-    pub found_back : (d : X) → drop end (set (set ys i y) i d) ≡ drop end xs
-    found_back d = drop-set-lt end (set ys i y) i d lt ∙ drop-set-lt end ys i y lt ∙ h.back
+      pub found_back : (d : X) → drop end (set (set ys i y) i d) ≡ drop end xs
+      found_back d = drop-set-lt end (set ys i y) i d lt ∙ drop-set-lt end ys i y lt ∙ back_same (omega arith)
 
-    -- the item stays, and was moved down
-    module _ (zs : List X) (asked : R t x false u y) (behind : drop (i + 1) zs ≡ drop (i + 1) (set ys i y))
-        (moved : take (i - gap + 1) zs ≡ take (i - gap) (set ys i y) ++ take 1 (drop i (set ys i y))) where
-      pub turned_more : TurnedDown u zs (i + 1)
-      turned_more =
+      -- the item stays, and was moved down
+      pub turned_more : (zs : List X) → R t x false u y → drop (i + 1) zs ≡ drop (i + 1) (set ys i y)
+          → take (i - gap + 1) zs ≡ take (i - gap) (set ys i y) ++ take 1 (drop i (set ys i y)) → TurnedDown u zs (i + 1)
+      turned_more zs asked behind moved =
           let on : i + 1 - gap ≡ i - gap + 1 = omega arith in
-          let long = length-set ys i y in
-          let here = item_at (set ys i y) i i y (omega arith) (omega arith) (sym (get_or-set_same ys i y y (omega arith))) in record {
+          let one : i + 1 - i ≡ 1 = omega arith in
+          let shown : slice_range xs i (i + 1) ≡ x ∷ [] = ap (λ n. take n (drop i xs)) one ∙ ap (take 1) (sym h.later) ∙ item_at ys i x (omega arith) is in
+          let left = item_at (set ys i y) i y (omega (arith, length-set ys i y)) (sym (get_or-set_same ys i y y (omega arith))) in record {
             kept = h.kept ++ y ∷ [];
-            passed = rw behind (passed_more R s _ h.kept t _ h.passed x y _ u seen asked);
-            front_is = ap (λ n. take n zs) on ∙ moved ∙ ap (λ l. take (i - gap) (set ys i y) ++ l) here ∙ ap (λ l. l ++ y ∷ []) ahead ∙ append_assoc _ h.kept (y ∷ []);
-            back = same_back (set ys i y) zs i end lt behind ∙ drop-set-lt end ys i y lt ∙ h.back;
+            asked = rw (parted xs (front + gap) i (i + 1) low (omega arith), shown)
+                (then_asks R s t u _ h.kept (x ∷ []) (y ∷ []) [] None h.asked (false, u, y, asked, ([], (refl, refl, refl, refl), refl)));
+            front_is = ap (λ n. take n zs) on ∙ moved ∙ rw (left, ahead) (append_assoc (take front xs) h.kept (y ∷ []));
+            later = behind ∙ drop-set-lt (i + 1) ys i y (omega arith) ∙ drop_more_same ys xs i h.later;
           }
 
-    -- the item is taken, and leaves d
-    module _ (d r : X) (asked : R t x true u y) (same : r ≡ y) (from : ℕ) (next : from ≡ i + 1) where
-      pub found_some : Found (Some r) u (set (set ys i y) i d) (i - gap) from
-      found_some =
-          let rest : slice_range (set ys i y) (i + 1) end ≡ slice_range (set (set ys i y) i d) from end = rw (next, drop-set-lt (i + 1) (set ys i y) i d (omega arith)) in (
+      -- the item is taken, and leaves d
+      pub found_some : (d r : X) → R t x true u y → r ≡ y → (from : ℕ) → from ≡ i + 1 → Found (Some r) u (set (set ys i y) i d) (i - gap) from
+      found_some d r asked same from next =
+          let zs = set (set ys i y) i d in
+          let rest : slice_range (set ys i y) (i + 1) end ≡ slice_range zs from end = rw (next, drop-set-lt (i + 1) (set ys i y) i d (omega arith)) refl in
+          let shown : slice_range xs i end ≡ x ∷ slice_range zs from end =
+          ap (take (end - i)) (sym h.later) ∙ slice_range_first ys i end x y lt le is ∙ ap (λ l. x ∷ l) rest in (
             h.kept,
-            rw (← rest, same) (passed_to R s _ h.kept t _ h.passed x y _ u seen asked),
+            rw (parted xs (front + gap) i end low (omega arith), shown)
+                (rw (append-nil h.kept) at (then_asks R s t u _ h.kept (x ∷ slice_range zs from end) [] (slice_range zs from end) (Some r) h.asked (true, u, y, asked, (ap Some same, refl, refl, refl)))),
             take-set-le (i - gap) (set ys i y) i d (omega arith) ∙ ahead,
           )
 
@@ -113,13 +110,13 @@ module _ {S X : Type 0} (R : S → X → Bool → S → X → Type 0) where
       (s, z, u, subst (R s z true u) (same_Some y x (sym found.0)) asked)
   chosen s (z ∷ xs) x t kept rest (false, u, y, asked, later) = chosen u xs x t later.0 rest later.1
 
-  along : {E : Type 0} (steps : E → Option X → E → Type 0) (says : (d : E) (x : X) (e : E) → steps d (Some x) e → IsChosenBy R x)
-      → (xs : List X) (d e : E) → Yields steps d xs e → Everywhere xs (IsChosenBy R)
-  along steps says [] d e y = λ k. tt
-  along steps says (x ∷ xs) d e y = one_more (IsChosenBy R) x xs (says d x y.0 y.1) (along steps says xs y.0 e y.2)
-
 module _ {V T F : Type 0} (items : V → List T) (Truncated : V → V → Type 0) (g : Mut F (MutBor T × Unit {0}) (Bool × (MutBor T × Unit {0}))) where
+  -- so each item of a run is
+  all_chosen : (e : ExtractIf V F T) (xs : List T) (later : ExtractIf V F T) → Yields (ExtractSteps items Truncated g) e xs later
+      → Everywhere xs (IsChosenBy (CalledAtMut g))
+  all_chosen e [] later run = λ k. tt
+  all_chosen e (x ∷ xs) later (next, step, run) =
+      one_more (IsChosenBy (CalledAtMut g)) x xs (chosen (CalledAtMut g) _ _ x _ step.kept _ step.asked) (all_chosen next xs later run)
+
   pub each_is_chosen : EachIsChosen items Truncated g
-  each_is_chosen p _ =
-      let R = CalledAtMut g in
-      each p (IsChosenBy R) (along R (ExtractSteps items Truncated g) (λ d x e h. chosen R _ _ x _ h.kept _ h.asked) p.items p.from (took p).0 (took p).1)
+  each_is_chosen p _ = each p (IsChosenBy (CalledAtMut g)) (all_chosen p.from p.items (took p).0 (took p).1)

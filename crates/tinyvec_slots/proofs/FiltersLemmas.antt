@@ -1,56 +1,90 @@
--- The turns of the loops that keep some items of a slice.
-use Rattle.std.proofs.Common.{cond, ◌≡◌, ℕ, suc, ◌+◌, ◌-◌, ◌<◌, ◌≤◌, Bool, true, false, List, [], ◌∷◌, ◌++◌, length, get_or, set, take, drop, swap, refl, sym, ap, ◌∙◌, arith, rules, length-set, drop-set-lt}
-use Rattle.std.proofs.lemmas.List.{same_lists, places, get_or_default, drop_more, get_or-set_same, set-get_or, take-set-le, take-set, take-take, take_more_set, get_or-take, set_comm}
-use Rattle.std.proofs.lemmas.List.Edits.{swap_is}
+-- The loops that keep some items in the front of a slice: what a contract says of all items holds of those that were shown so far.
+use Rattle.std.proofs.Common.{◌≡◌, ℕ, suc, ◌+◌, ◌-◌, ◌<◌, ◌≤◌, Bool, true, false, cond, List, [], ◌∷◌, ◌++◌, append-nil, append_assoc, length, get_or, set, take, drop, swap, refl, sym, ap, ◌∙◌, subst, arith, rules, length-set, drop-set-lt, take_all, MatchBool}
+use Rattle.std.proofs.Common.{length-take}
+use Rattle.std.proofs.Math.Seq.{take-add}
 use Rattle.std.proofs.lemmas.Bool.{cases_eq}
-use Rattle.tinyvec_slots.proofs.LastStateLemmas.{RetainMutInvariant, sift_on, DedupInvariant, merge_on}
+use Rattle.std.proofs.lemmas.Grind.{drop_more_same, common_steps}
+use Rattle.std.proofs.lemmas.List.{same_lists, places, same_from_push, drop_more, get_or-set_same, set-get_or, take-set-le, take_more, take_more_set}
 use Rattle.std.specs.List.{items_where_true}
-use Rattle.tinyvec_slots.specs.Filters.{AsksPair, RetainsTo, IsFilteredTo}
+use Rattle.std.specs.List.Retain.{RetainsInTurn, IsFiltered, DedupsFrom, DedupsAll, IsDeduped}
+use Rattle.tinyvec_slots.specs.Filters.{AsksPair, RetainsTo, IsFilteredTo, DedupsFromTo, DedupsAllTo, IsDedupedTo}
 
--- after a swap of k and i, what stood at i stands behind the first k items, and those past i are the same
-module _ {X : Type 0} (ys : List X) (k i : ℕ) (x : X) (le : k ≤ i) (lt : i < length ys) (is : x ≡ get_or ys i x) where
-  swapped_front : take (k + 1) (swap ys k i) ≡ take k ys ++ x ∷ []
-  swapped_front =
-      let one = length-set ys k (get_or ys i x) in
-      rw (← swap_is ys k i x (omega arith) lt)
-      (same_lists _ _ (search (rules, places)) (λ m e h. grind (arith, places, get_or-set_same, cases_eq m k, cases_eq k i, get_or_default ys i e x)))
+-- W holds of the first i items of xs and of the k that stay of them, which stand in front of ys. The others were not shown yet.
+pub record Shown {X : Type 0} (W : List X → List X → Type 0) (xs ys : List X) (k i : ℕ) : Type 0 where
+  pub so_far : W (take i xs) (take k ys)
+  pub later : drop i ys ≡ drop i xs
 
-  swapped_behind : drop (i + 1) (swap ys k i) ≡ drop (i + 1) ys
-  swapped_behind =
-      rw (← swap_is ys k i x (omega arith) lt, drop-set-lt (i + 1) (set ys k (get_or ys i x)) i (get_or ys k x) (omega arith), drop-set-lt (i + 1) ys k (get_or ys i x) (omega arith))
+module _ {X : Type 0} where
+  pub item_at : (xs : List X) (i : ℕ) (x : X) → i < length xs → x ≡ get_or xs i x → take 1 (drop i xs) ≡ x ∷ []
+  item_at xs i x lt is = rw (drop_more xs i x lt, ← is)
 
-  pub item_at : take 1 (drop i ys) ≡ x ∷ []
-  item_at = rw (drop_more ys i x lt, ← is)
+  -- a write of what stands there
+  pub rewritten : (xs : List X) (i : ℕ) (x : X) → x ≡ get_or xs i x → xs ≡ set xs i x
+  rewritten xs i x is = sym (ap (set xs i) is ∙ set-get_or xs i x)
 
-module _ {S X : Type 0} (R : S → X → Bool → S → X → Type 0) (last : S) where
-  -- the invariant reads the first k items and those from i on
-  retain_moved : (s₀ : S) (xs : List X) (s : S) (ys zs : List X) (k i : ℕ) → drop i zs ≡ drop i ys → take k zs ≡ take k ys
-      → RetainMutInvariant R last s₀ xs s ys k i → RetainMutInvariant R last s₀ xs s zs k i
-  retain_moved s₀ xs s ys zs k i tail front h = (tail ∙ h.0, λ rest g. rw front (h.1 rest g))
+  module _ (W : List X → List X → Type 0) (xs ys : List X) (k i : ℕ) (h : Shown W xs ys k i) where
+    pub all_shown : length xs ≤ i → W xs (take k ys)
+    all_shown all = rw (take_all i xs all) at h.so_far
 
-  -- a turn of `retain_mut` at i, with k items kept so far, where the question left y, and the list was then moved to zs
-  module _ (s₀ : S) (xs : List X) (s t : S) (ys zs : List X) (k i : ℕ) (x y : X) (le : k ≤ i) (lt : i < length ys)
-      (is : x ≡ get_or ys i x) (h : RetainMutInvariant R last s₀ xs s ys k i)
-      (behind : drop (i + 1) zs ≡ drop (i + 1) (set ys i y)) (before : take k zs ≡ take k (set ys i y)) where
-    here : y ≡ get_or (set ys i y) i y
-    here = sym (get_or-set_same ys i y y lt)
+    -- a turn shows the item x at i of ys and leaves zs
+    shown_more : (V : List X → List X → Type 0) (zs : List X) (j : ℕ) (x : X) → i < length ys → x ≡ get_or ys i x
+        → drop (i + 1) zs ≡ drop (i + 1) ys → ((us : List X) → W us (take k ys) → V (us ++ x ∷ []) (take j zs)) → Shown V xs zs j (i + 1)
+    shown_more V zs j x lt is behind turn =
+        let one : take 1 (drop i xs) ≡ x ∷ [] = ap (take 1) (sym h.later) ∙ item_at ys i x lt is in record {
+          so_far = rw (take-add i 1 xs, one) (turn (take i xs) h.so_far);
+          later = behind ∙ drop_more_same ys xs i h.later;
+        }
 
-    within : i < length (set ys i y)
-    within = omega (arith, length-set ys i y)
+-- the items at k and at i behind it change places
+module _ {X : Type 0} (xs : List X) (k i : ℕ) (le : k ≤ i) (lt : i < length xs) where
+  pub swap_behind : drop (i + 1) (swap xs k i) ≡ drop (i + 1) xs
+  swap_behind = grind (arith, common_steps)
 
-    same_behind : drop (i + 1) zs ≡ drop (i + 1) (set (set ys i y) k y)
-    same_behind = behind ∙ sym (drop-set-lt (i + 1) (set ys i y) k y (omega arith))
+  pub swap_before : take k (swap xs k i) ≡ take k xs
+  swap_before = grind (arith, common_steps)
 
-    pub keeps_item : take (k + 1) zs ≡ take k (set ys i y) ++ take 1 (drop i (set ys i y)) → R s x true t y → RetainMutInvariant R last s₀ xs t zs (k + 1) (i + 1)
-    keeps_item moved asked =
-        retain_moved s₀ xs t (set (set ys i y) k y) zs (k + 1) (i + 1) same_behind
-        (moved ∙ ap (λ l. take k (set ys i y) ++ l) (item_at (set ys i y) k i y le within here) ∙ sym (take_more_set (set ys i y) k y (omega (arith, within))))
-        (sift_on R last s₀ xs s t ys k i x y le lt is h true asked)
+  pub swap_front : take (k + 1) (swap xs k i) ≡ take k xs ++ take 1 (drop i xs)
+  swap_front = grind (arith, common_steps)
 
-    pub drops_item : R s x false t y → RetainMutInvariant R last s₀ xs t zs k (i + 1)
-    drops_item asked =
-        retain_moved s₀ xs t (set (set ys i y) k y) zs k (i + 1) same_behind (before ∙ sym (take-set (set ys i y) k y))
-        (sift_on R last s₀ xs s t ys k i x y le lt is h false asked)
+module _ {S X : Type 0} (R : S → X → Bool → S → X → Type 0) where
+  in_front : (b : Bool) (y : X) (ys more : List X) → cond b (y ∷ ys) ys ++ more ≡ cond b (y ∷ (ys ++ more)) (ys ++ more)
+  in_front true y ys more = refl
+  in_front false y ys more = refl
+
+  -- one more question
+  asked_more : (s t u : S) (xs ys : List X) (x y : X) (b : Bool) → RetainsTo R s xs ys t → R t x b u y → RetainsTo R s (xs ++ x ∷ []) (ys ++ cond b (y ∷ []) []) u
+  asked_more s t u [] ys x y b h asked = (b, u, y, subst (λ v. R v x b u y) h.1 asked, [], (refl, refl), ap (λ l. l ++ cond b (y ∷ []) []) h.0)
+  asked_more s t u (z ∷ xs) ys x y b (c, v, w, first, zs, rest, is) asked = (
+    c, v, w, first,
+    zs ++ cond b (y ∷ []) [],
+    asked_more v t u xs zs x y b rest asked,
+    ap (λ l. l ++ cond b (y ∷ []) []) is ∙ in_front c w zs (cond b (y ∷ []) []),
+  )
+
+  -- a turn at i, with k items kept so far: the question left ls, where x became y, and the list was then moved to zs
+  module _ (s t u : S) (xs ys ls zs : List X) (k i : ℕ) (x y : X) (le : k ≤ i) (lt : i < length ys) (is : x ≡ get_or ys i x)
+      (left : ls ≡ set ys i y) (behind : drop (i + 1) zs ≡ drop (i + 1) ls) (h : Shown (λ us vs. RetainsTo R s us vs t) xs ys k i) where
+    turned : (j : ℕ) (b : Bool) → take j zs ≡ take k ys ++ cond b (y ∷ []) [] → R t x b u y → Shown (λ us vs. RetainsTo R s us vs u) xs zs j (i + 1)
+    turned j b front asked =
+        shown_more _ xs ys k i h _ zs j x lt is (behind ∙ ap (drop (i + 1)) left ∙ drop-set-lt (i + 1) ys i y (omega arith))
+        (λ us so_far. rw front (asked_more s t u us (take k ys) x y b so_far asked))
+
+    before : take k ls ≡ take k ys
+    before = ap (take k) left ∙ take-set-le k ys i y le
+
+    there : take 1 (drop i ls) ≡ y ∷ []
+    there = ap (λ l. take 1 (drop i l)) left ∙ item_at (set ys i y) i y (omega (arith, length-set ys i y)) (sym (get_or-set_same ys i y y lt))
+
+    pub keeps_item : take (k + 1) zs ≡ take k ls ++ take 1 (drop i ls) → R t x true u y → Shown (λ us vs. RetainsTo R s us vs u) xs zs (k + 1) (i + 1)
+    keeps_item moved = turned (k + 1) true (rw (before, there) at moved)
+
+    pub drops_item : take k zs ≡ take k ls → R t x false u y → Shown (λ us vs. RetainsTo R s us vs u) xs zs k (i + 1)
+    drops_item same = turned k false (same ∙ before ∙ sym (append-nil (take k ys)))
+
+  -- what is said with the last state holds without it
+  pub RetainsTo-in_turn : (last s : S) (xs ys : List X) → RetainsTo R s xs ys last → RetainsInTurn R s xs ys
+  RetainsTo-in_turn last s [] ys h = h.0
+  RetainsTo-in_turn last s (x ∷ xs) ys h = (h.0, h.1, h.2, h.3, h.4, RetainsTo-in_turn last h.1 xs h.4 h.5, h.6)
 
 module _ {S X : Type 0} (R : S → X → Bool → S → Type 0) where
   -- a question that leaves the item as it was
@@ -73,60 +107,125 @@ module _ {S X : Type 0} (R : S → X → Bool → S → Type 0) where
         chosen h.0 rest.0 x h.2 xs ys h.4 h.6 h.3.1 rest.3,
       )
 
-  -- a turn of `retain` at i
-  module _ (last s₀ : S) (xs : List X) (s t : S) (ys zs : List X) (k i : ℕ) (x : X) (le : k ≤ i) (lt : i < length ys)
-      (is : x ≡ get_or ys i x) (h : RetainMutInvariant OnlyAsks last s₀ xs s ys k i)
-      (behind : drop (i + 1) zs ≡ drop (i + 1) ys) (before : take k zs ≡ take k ys) where
-    unchanged : ys ≡ set ys i x
-    unchanged = sym (ap (set ys i) is ∙ set-get_or ys i x)
+  pub IsFilteredTo-filtered : (last s : S) (xs ys : List X) → IsFilteredTo R s xs ys last → IsFiltered R s xs ys
+  IsFilteredTo-filtered last s xs ys h = (h.0, last, h.1, h.2, h.3)
 
-    pub keeps_shown : take (k + 1) zs ≡ take k ys ++ take 1 (drop i ys) → R s x true t → RetainMutInvariant OnlyAsks last s₀ xs t zs (k + 1) (i + 1)
-    keeps_shown moved asked =
-        keeps_item OnlyAsks last s₀ xs s t ys zs k i x x le lt is h (behind ∙ ap (drop (i + 1)) unchanged) (before ∙ ap (take k) unchanged)
-        (moved ∙ ap (λ l. take k l ++ take 1 (drop i l)) unchanged) (asked, refl)
+module _ {S X : Type 0} (R : S → X → X → Bool → S → X → X → Type 0) where
+  -- The item that stays last, which the next question shows beside its own. Where the answer is `true` it stays last, else the other one follows it.
+  record StaysLast (Asked : List X → List X → S → Type 0) (xs ys : List X) (t : S) : Type 0 where
+    before : List X
+    beside : X
+    stayed : ys ≡ before ++ beside ∷ []
+    more : (b : Bool) (x y v : X) (u : S) → R t x beside b u y v → Asked (xs ++ x ∷ []) (before ++ v ∷ cond b [] (y ∷ [])) u
 
-    pub drops_shown : R s x false t → RetainMutInvariant OnlyAsks last s₀ xs t zs k (i + 1)
-    drops_shown asked =
-        drops_item OnlyAsks last s₀ xs s t ys zs k i x x le lt is h (behind ∙ ap (drop (i + 1)) unchanged) (before ∙ ap (take k) unchanged) (asked, refl)
+  -- one question alone
+  asked_once : (b : Bool) (s t : S) (x k y v : X) → R s x k b t y v → DedupsFromTo R s k (x ∷ []) (v ∷ cond b [] (y ∷ [])) t
+  asked_once true s t x k y v asked = (true, t, y, v, asked, (refl, refl))
+  asked_once false s t x k y v asked = (false, t, y, v, asked, (y ∷ [], (refl, refl), refl))
+
+  stays_last : (s : S) (k : X) (xs ys : List X) (t : S) → DedupsFromTo R s k xs ys t → StaysLast (DedupsFromTo R s k) xs ys t
+  stays_last s k [] ys t h = record {
+    before = [];
+    beside = k;
+    stayed = h.0;
+    more = λ b x y v u asked. asked_once b s u x k y v (subst (λ r. R r x k b u y v) h.1 asked);
+  }
+  stays_last s k (x ∷ xs) ys t (true, r, x', k', asked, rest) =
+      let on = stays_last r k' xs ys t rest in record {
+        before = on.before;
+        beside = on.beside;
+        stayed = on.stayed;
+        more = λ b z y v u next. (true, r, x', k', asked, on.more b z y v u next);
+      }
+  stays_last s k (x ∷ xs) ys t (false, r, x', k', asked, (zs, rest, is)) =
+      let on = stays_last r x' xs zs t rest in record {
+        before = k' ∷ on.before;
+        beside = on.beside;
+        stayed = is ∙ ap (λ l. k' ∷ l) on.stayed;
+        more = λ b z y v u next. (false, r, x', k', asked, (on.before ++ v ∷ cond b [] (y ∷ []), on.more b z y v u next, refl));
+      }
+
+  last_of_all : (s : S) (xs ys : List X) (t : S) → 0 < length ys → IsDedupedTo R s xs ys t → StaysLast (IsDedupedTo R s) xs ys t
+  last_of_all s [] ys t some h = absurd (omega (arith, some, ap length h.deduped.0))
+  last_of_all s (x ∷ xs) ys t some h =
+      let on = stays_last s x xs ys t h.deduped in record {
+        before = on.before;
+        beside = on.beside;
+        stayed = on.stayed;
+        more = λ b z y v u next. record { deduped = on.more b z y v u next };
+      }
+
+  -- no item stays of an empty list, and at first the first item
+  pub dedup_none : (s : S) (xs : List X) → length xs ≡ 0 → IsDedupedTo R s xs [] s
+  dedup_none s [] none = record { deduped = (refl, refl) }
+  dedup_none s (x ∷ xs) none = absurd (omega (arith, none))
+
+  pub first_stays : (s : S) (xs : List X) → (length xs ≡ 0 → ⊥) → Shown (λ us vs. IsDedupedTo R s us vs s) xs xs 1 1
+  first_stays s [] some = absurd (some refl)
+  first_stays s (x ∷ xs) some = record { so_far = record { deduped = (refl, refl) }; later = refl }
+
+  -- a turn at i, with k items kept so far, where the question left zs
+  module _ (s t u : S) (xs ys zs : List X) (k i : ℕ) (pos : 0 < k) (le : k ≤ i) (lt : i < length ys)
+      (h : Shown (λ us vs. IsDedupedTo R s us vs t) xs ys k i) where
+    module _ (b : Bool) (a : AsksPair R t ys i (k - 1) b u zs) where
+      kept_so_far : take k ys ≡ take (k - 1) ys ++ a.beside ∷ []
+      kept_so_far =
+          let all : k - 1 + 1 ≡ k = omega arith in
+          ap (λ n. take n ys) (sym all) ∙ take_more ys (k - 1) a.beside (omega arith) ∙ ap (λ v. take (k - 1) ys ++ v ∷ []) (sym a.shows.1)
+
+      left_behind : drop (i + 1) zs ≡ drop (i + 1) ys
+      left_behind = ap (drop (i + 1)) a.after ∙ drop-set-lt (i + 1) (set ys i a.left) (k - 1) a.left_beside (omega arith) ∙ drop-set-lt (i + 1) ys i a.left (omega arith)
+
+      left_front : take k zs ≡ take (k - 1) ys ++ a.left_beside ∷ []
+      left_front =
+          let all : k - 1 + 1 ≡ k = omega arith in
+          ap (take k) a.after ∙ ap (λ n. take n (set (set ys i a.left) (k - 1) a.left_beside)) (sym all)
+          ∙ take_more_set (set ys i a.left) (k - 1) a.left_beside (omega (arith, length-set ys i a.left))
+          ∙ ap (λ l. l ++ a.left_beside ∷ []) (take-set-le (k - 1) ys i a.left (omega arith))
+
+      left_there : take 1 (drop i zs) ≡ a.left ∷ []
+      left_there =
+          let one = length-set ys i a.left in
+          let both = length-set (set ys i a.left) (k - 1) a.left_beside in
+          item_at zs i a.left (omega (arith, ap length a.after))
+          (rw a.after (search (rules, places)))
+
+      -- the list was then moved to ms
+      turned_pair : (ms : List X) (j : ℕ) → drop (i + 1) ms ≡ drop (i + 1) zs → take j ms ≡ take (k - 1) ys ++ a.left_beside ∷ cond b [] (a.left ∷ [])
+          → Shown (λ us vs. IsDedupedTo R s us vs u) xs ms j (i + 1)
+      turned_pair ms j behind front =
+          shown_more _ xs ys k i h _ ms j a.shown lt a.shows.0 (behind ∙ left_behind)
+          (λ us so_far.
+              let last = last_of_all s us (take k ys) t (omega (arith, length-take k ys)) so_far in
+              let same = same_from_push last.before (take (k - 1) ys) last.beside a.beside (sym last.stayed ∙ kept_so_far) in
+              rw (front, ← same.0) (last.more b a.shown a.left a.left_beside u (rw same.1 a.asked)))
+
+    pub drops_repeat : AsksPair R t ys i (k - 1) true u zs → Shown (λ us vs. IsDedupedTo R s us vs u) xs zs k (i + 1)
+    drops_repeat a = turned_pair true a zs k refl (left_front true a)
+
+    pub keeps_other : AsksPair R t ys i (k - 1) false u zs → Shown (λ us vs. IsDedupedTo R s us vs u) xs (swap zs k i) (k + 1) (i + 1)
+    keeps_other a =
+        let one = length-set ys i a.left in
+        let both = length-set (set ys i a.left) (k - 1) a.left_beside in
+        let within : i < length zs = omega (arith, ap length a.after) in
+        turned_pair false a (swap zs k i) (k + 1) (swap_behind zs k i le within)
+        (swap_front zs k i le within ∙ rw (left_front false a, left_there false a) (append_assoc (take (k - 1) ys) (a.left_beside ∷ []) (a.left ∷ [])))
 
 module _ {S X : Type 0} (R : S → X → X → Bool → S → X → X → Type 0) (last : S) where
-  -- the invariant reads the first k items and those from i on
-  dedup_moved : (s₀ : S) (xs : List X) (s : S) (ys zs : List X) (k i : ℕ) → 0 < k → drop i zs ≡ drop i ys → take k zs ≡ take k ys
-      → DedupInvariant R last s₀ xs s ys k i → DedupInvariant R last s₀ xs s zs k i
-  dedup_moved s₀ xs s ys zs k i pos tail front h =
-      let less = sym (take-take (k - 1) k zs (omega arith)) ∙ ap (take (k - 1)) front ∙ take-take (k - 1) k ys (omega arith) in (
-        tail ∙ h.0,
-        λ w rest read g. rw less (h.1 w rest (read ∙ sym (get_or-take k zs (k - 1) w (omega arith)) ∙ ap (λ l. get_or l (k - 1) w) front ∙ get_or-take k ys (k - 1) w (omega arith)) g),
-      )
+  matched : (b : Bool) (P P' Q Q' : Type 0) → (P → P') → (Q → Q') → MatchBool b P Q → MatchBool b P' Q'
+  matched true P P' Q Q' f g h = f h
+  matched false P P' Q Q' f g h = g h
 
-  -- a turn of `dedup_by` at i, with k items kept so far, where the question left zs
-  module _ (s₀ : S) (xs : List X) (s t : S) (ys zs : List X) (k i : ℕ) (pos : 0 < k) (le : k ≤ i) (lt : i < length ys)
-      (h : DedupInvariant R last s₀ xs s ys k i) where
-    apart : (left beside : X) → zs ≡ set (set ys i left) (k - 1) beside → zs ≡ set (set ys (k - 1) beside) i left
-    apart left beside after = after ∙ set_comm ys i (k - 1) left beside (λ e. absurd (omega arith))
+  forgets : (s : S) (k : X) (xs ys : List X) → DedupsFromTo R s k xs ys last → DedupsFrom R s k xs ys
+  forgets s k [] ys h = h.0
+  forgets s k (x ∷ xs) ys h = (h.0, h.1, h.2, h.3, h.4, matched h.0 _ _ _ _ (forgets h.1 h.3 xs ys) (λ q. (q.0, forgets h.1 h.2 xs q.0 q.1, q.2)) h.5)
 
-    pub drops_repeat : AsksPair R s ys i (k - 1) true t zs → DedupInvariant R last s₀ xs t zs k (i + 1)
-    drops_repeat a =
-        let written = set ys (k - 1) a.left_beside in
-        let is = apart a.left a.left_beside a.after in
-        dedup_moved s₀ xs t written zs k (i + 1) pos
-        (ap (drop (i + 1)) is ∙ drop-set-lt (i + 1) written i a.left (omega arith))
-        (ap (take k) is ∙ take-set-le k written i a.left le)
-        (merge_on R last s₀ xs s t ys k i a.shown a.beside a.left a.left_beside pos le lt a.shows.0 a.shows.1 h true a.asked).1
+  forgets_all : (s : S) (xs ys : List X) → DedupsAllTo R s xs ys last → DedupsAll R s xs ys
+  forgets_all s [] ys h = h.0
+  forgets_all s (x ∷ xs) ys h = forgets s x xs ys h
 
-    pub keeps_other : AsksPair R s ys i (k - 1) false t zs → DedupInvariant R last s₀ xs t (swap zs k i) (k + 1) (i + 1)
-    keeps_other a =
-        let written = set ys (k - 1) a.left_beside in
-        let is = apart a.left a.left_beside a.after in
-        let first = length-set ys (k - 1) a.left_beside in
-        let long = ap length is ∙ length-set written i a.left ∙ first in
-        let here : a.left ≡ get_or zs i a.left = sym (ap (λ l. get_or l i a.left) is ∙ get_or-set_same written i a.left a.left (omega arith)) in
-        dedup_moved s₀ xs t (set written k a.left) (swap zs k i) (k + 1) (i + 1) (omega arith)
-        (swapped_behind zs k i a.left le (omega arith) here ∙ ap (drop (i + 1)) is ∙ drop-set-lt (i + 1) written i a.left (omega arith)
-        ∙ sym (drop-set-lt (i + 1) written k a.left (omega arith)))
-        (swapped_front zs k i a.left le (omega arith) here ∙ ap (λ l. l ++ a.left ∷ []) (ap (take k) is ∙ take-set-le k written i a.left le)
-        ∙ sym (take_more_set written k a.left (omega arith)))
-        (merge_on R last s₀ xs s t ys k i a.shown a.beside a.left a.left_beside pos le lt a.shows.0 a.shows.1 h false a.asked).1
+  pub IsDedupedTo-deduped : (s : S) (xs ys : List X) → IsDedupedTo R s xs ys last → IsDeduped R s xs ys
+  IsDedupedTo-deduped s xs ys h = record { told = forgets_all s xs ys h.deduped }
 
 module _ {X : Type 0} where
   -- writes to the two parts of a slice that was cut at i

@@ -4,7 +4,6 @@ pub mod BorderLemmas
 pub mod EndsLemmas
 pub mod DrainLemmas
 mod EmptiedLemmas
-mod LastStateLemmas
 pub mod FiltersLemmas
 pub mod CloneLemmas
 pub mod ClonesOverLemmas

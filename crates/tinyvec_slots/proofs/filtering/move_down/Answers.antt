@@ -1,7 +1,6 @@
-use Rattle.std.proofs.Common.{◌≡◌, ℕ, ◌+◌, ◌<◌, ◌≤◌, List, ◌++◌, length, take, drop, set, get_or, swap, ◌∙◌, le_refl, arith, length-set, drop-set-lt}
-use Rattle.std.proofs.lemmas.Grind.{common_steps}
+use Rattle.std.proofs.Common.{◌≡◌, ℕ, ◌+◌, ◌<◌, ◌≤◌, List, ◌++◌, length, take, drop, set, get_or, ◌∙◌, le_refl, arith, length-set, drop-set-lt}
 use Rattle.std.proofs.lemmas.List.{take-set-le, take_more_set}
-use Rattle.tinyvec_slots.proofs.FiltersLemmas.{item_at}
+use Rattle.tinyvec_slots.proofs.FiltersLemmas.{item_at, swap_behind, swap_before, swap_front}
 use Rattle.tinyvec_slots.proofs.filtering.move_down.Goals as goal
 
 module _ {X : Type 0} (xs : List X) (k i : ℕ) (le : k ≤ i) (lt : i < length xs) where
@@ -14,17 +13,7 @@ module _ {X : Type 0} (xs : List X) (k i : ℕ) (le : k ≤ i) (lt : i < length 
 
   put_front : (d x y : X) → x ≡ get_or xs i x → y ≡ get_or xs i x → take (k + 1) (set (set xs i d) k y) ≡ take k xs ++ take 1 (drop i xs)
   put_front d x y is value =
-      rw (take_more_set (set xs i d) k y (omega (arith, length-set xs i d)), take-set-le k xs i d le, item_at xs k i x le lt is, value, ← is)
-
-  -- it was swapped with that at k
-  swap_behind : drop (i + 1) (swap xs k i) ≡ drop (i + 1) xs
-  swap_behind = grind (arith, common_steps)
-
-  swap_before : take k (swap xs k i) ≡ take k xs
-  swap_before = grind (arith, common_steps)
-
-  swap_front : take (k + 1) (swap xs k i) ≡ take k xs ++ take 1 (drop i xs)
-  swap_front = grind (arith, common_steps)
+      rw (take_more_set (set xs i d) k y (omega (arith, length-set xs i d)), take-set-le k xs i d le, item_at xs i x lt is, value, ← is)
 
 pub returns-then-are_small-clause-behind : goal.returns-then-are_small-clause-behind
 returns-then-are_small-clause-behind g c =

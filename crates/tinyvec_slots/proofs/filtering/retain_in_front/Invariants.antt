@@ -1,12 +1,12 @@
 use Rattle.std.proofs.Common.{◌≤◌}
 use Rattle.std.specs.Fn.{CalledAt}
-use Rattle.tinyvec_slots.proofs.LastStateLemmas.{RetainMutInvariant}
-use Rattle.tinyvec_slots.proofs.FiltersLemmas.{OnlyAsks}
+use Rattle.tinyvec_slots.specs.Filters.{RetainsTo}
+use Rattle.tinyvec_slots.proofs.FiltersLemmas.{OnlyAsks, Shown}
 use Rattle.tinyvec_slots.proofs.filtering.retain_in_front.Given as goal
 
 abbrev pub invariant-loop-i : goal.invariant-loop-i
 invariant-loop-i g l = record {
   order : l.kept ≤ l.i;
   callable : goal.F-IsAlwaysCallable g l.f;
-  so_far : (last : _) → RetainMutInvariant (OnlyAsks (CalledAt g.F.FnMut)) last l.initial.f l.initial.items l.f l.items l.kept l.i;
+  shown : Shown (λ us vs. RetainsTo (OnlyAsks (CalledAt g.F.FnMut)) l.initial.f us vs l.f) l.initial.items l.items l.kept l.i;
 }
