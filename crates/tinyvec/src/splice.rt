@@ -29,9 +29,8 @@ pub type TinyVecSplice<'a, A, I> = Splice<'a, TinyVec<A>, I>;
 
 impl<A: Array> TinyVec<A> {
     ghost use Rattle.tinyvec_slots.specs.Splice.{splice_view, splice_len, splice_replacement, splice_vec, splice_lender};
-    ghost use Rattle.tinyvec_slots.specs.Splice.{SpliceCanStep};
+    ghost use Rattle.tinyvec_slots.specs.Splice.{SpliceCanStep, SplicesFromEnds};
     ghost use Rattle.tinyvec.specs.FrameLaws.{FrameOf};
-    ghost use Rattle.tinyvec_array.specs.SplicesByWord.{SplicesFromEnds};
 
     /// Removes the range, yields its items from both ends, and puts those of `replacement` in their place.
     ///

@@ -1,6 +1,6 @@
 //! `TinyVec`.
 ghost use Rattle.std.specs.Prelude.{IsTrue, ◌≡◌, ◌+◌, ◌<◌, ◌≤◌, ◌==◌, not, length, slice_index_or, slice_set, ◌-◌, ◌↔◌, ℕ, All, []};
-ghost use Rattle.std.specs.Prelude.{take, drop, IsOk, IsErr, IfOk, IfErr, OnErr, vec_capacity, List, false};
+ghost use Rattle.std.specs.Prelude.{take, drop, IsOk, IsErr, IfOk, IfErr, OnErr, vec_capacity, false};
 ghost use Rattle.tinyvec.specs.TinyVec.{view};
 ghost use Rattle.tinyvec.specs.TinyVec.{tiny_allocator};
 ghost use Rattle.tinyvec.specs.View.{HoldsInline, IsNew, SameFrame};
@@ -9,8 +9,7 @@ ghost use Rattle.tinyvec_slots.specs.Slots.{AreDefaults};
 ghost use Rattle.tinyvec_array.specs.View.{view as slots_view};
 ghost use Rattle.tinyvec_slots.specs.Clones.{RefusedAt, AreClones};
 ghost use Rattle.std.specs.Borrow.{sem};
-ghost use Rattle.tinyvec_slots.specs.Filling.{Iterates, IteratesMut};
-ghost use Rattle.tinyvec.specs.Lends.{tiny_with_items};
+ghost use Rattle.tinyvec_slots.specs.Filling.{Iterates};
 
 mod capacity;
 mod clones;
@@ -93,29 +92,11 @@ impl<A: Slots> TinyVec<A> {
         }
     }
 
-    ghost use Rattle.tinyvec.specs.IterMut.{lends_iter};
-
     /// Iterates over the items, in order or from the back.
     pub fn iter(&self) -> slice::Iter<'_, A::Item>
         ensures { Iterates (view A.Slots self.now).items result }
     {
         self.as_slice().iter()
-    }
-
-    /// Iterates over the items for writing, in order or from the back. After a loop over it a proof knows the length, the
-    /// spare slots and the place, and after one over `as_mut_slice().iter_mut()` the items too.
-    pub fn iter_mut(&mut self) -> slice::IterMut<'_, A::Item>
-        ensures* writes_back { sem 𝓛 (lends_iter A.row A.Len.row A.Item.row A.Slots self.entry result) }
-        ensures yields { IteratesMut (view A.Slots self.old).items result }
-
-        // No write changes the length.
-        ensures keeps_len { (ws : List A.Item)
-            → length (view A.Slots (tiny_with_items A.Slots self.old ws)).items ≡ length (view A.Slots self.old).items }
-    {
-        match self {
-            TinyVec::Inline(v, _) => v.iter_mut(),
-            TinyVec::Heap(v) => v.as_mut_slice().iter_mut(),
-        }
     }
 
     /// The allocator, which a list that moves to the heap allocates from.

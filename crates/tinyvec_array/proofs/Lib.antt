@@ -9,4 +9,3 @@ pub mod IntoIterLemmas
 mod ResizingLemmas
 mod Walks
 mod PartWalks
-pub mod SplicesByWordLemmas

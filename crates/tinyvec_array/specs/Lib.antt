@@ -30,4 +30,3 @@ pub mod DrainLaws
 pub mod ToVec
 pub mod SpliceLaws
 pub mod UpTo
-pub mod SplicesByWord

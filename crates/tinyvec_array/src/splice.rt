@@ -10,7 +10,6 @@ ghost use Rattle.tinyvec_slots.specs.Fused.{FusedCan, fused_rest};
 ghost use Rattle.tinyvec_slots.specs.Replacing.{PutsBetween};
 ghost use Rattle.tinyvec_slots.specs.AnySplice.{SpliceBegins};
 ghost use Rattle.tinyvec_array.specs.CutLaws.{KeptOf};
-ghost use Rattle.tinyvec_array.specs.SplicesByWord.{SplicesFromEnds};
 
 use crate::{ArrayVec, CapacityError, Slots};
 use std::iter::Fuse;
@@ -25,7 +24,7 @@ impl<S: Slots> ArrayVec<S>
 where
     S::Item: Default,
 {
-    ghost use Rattle.tinyvec_slots.specs.Splice.{splice_view, splice_len, splice_replacement, splice_vec, splice_lender, SpliceCanStep};
+    ghost use Rattle.tinyvec_slots.specs.Splice.{splice_view, splice_len, splice_replacement, splice_vec, splice_lender, SpliceCanStep, SplicesFromEnds};
 
     /// Removes the range, yields its items from both ends, and puts those of `replacement` in their place. On a `SliceVec`
     /// call it in a function that is generic over `Slots`: the borrow checker does not cover a call that names `SliceVec`,

@@ -215,6 +215,16 @@ module _ {S T : Type 0} (gives gives_back : S → Option T → S → Type 0) whe
   RunsWord-then from (back ∷ word) (r ∷ answers) mid more others to asked asks =
       (asked.0, asked.1, RunsWord-then asked.0 word answers mid more others to asked.2 asks)
 
+-- calls of `next_back`, of which less is said
+module _ {S T : Type 0} (gives gives_back says_back : S → Option T → S → Type 0) (weaker : (s : S) (r : Option T) (t : S) → gives_back s r t → says_back s r t) where
+  pub RunsWord-weaker : (from : S) (word : List End) (answers : List (Option T)) (to : S)
+      → RunsWord gives gives_back from word answers to → RunsWord gives says_back from word answers to
+  RunsWord-weaker from [] [] to asks = asks
+  RunsWord-weaker from [] (r ∷ answers) to asks = absurd asks
+  RunsWord-weaker from (e ∷ word) [] to asks = absurd asks
+  RunsWord-weaker from (front ∷ word) (r ∷ answers) to asks = (asks.0, asks.1, RunsWord-weaker asks.0 word answers to asks.2)
+  RunsWord-weaker from (back ∷ word) (r ∷ answers) to asks = (asks.0, weaker from r asks.0 asks.1, RunsWord-weaker asks.0 word answers to asks.2)
+
 -- one answer more
 pub given_items-more : {T : Type 0} (answers : List (Option T)) (r : Option T) → given_items (answers ++ r ∷ []) ≡ given_items answers ++ option_to_list r
 given_items-more [] None = refl

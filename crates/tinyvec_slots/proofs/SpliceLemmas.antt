@@ -1,19 +1,22 @@
 -- A splice along a word of ends, and what `finish` puts in.
-use Rattle.std.proofs.Common.{Bool, ◌≡◌, ℕ, ◌+◌, ◌-◌, ◌<◌, ◌≤◌, ◌↔◌, List, [], ◌∷◌, ◌++◌, length, take, drop, Option, Result, true, false, if◌then◌else◌, IsOk, OnOk, IfErr, ap, refl, subst, sym, ◌∙◌, arith}
+use Rattle.std.proofs.Common.{Bool, ◌≡◌, ℕ, ◌+◌, ◌-◌, ◌<◌, ◌≤◌, ◌↔◌, List, [], ◌∷◌, ◌++◌, length, take, drop, Option, Some, None, Result, true, false, if◌then◌else◌, IsOk, OnOk, IfErr, ap, refl, subst, sym, ◌∙◌, arith}
 use Rattle.std.proofs.lemmas.Bool.Decides.{nat_tests}
 use Rattle.std.proofs.lemmas.Result.{IfErr-weaker}
 use Rattle.std.specs.Bool.{◌==◌}
 use Rattle.std.specs.declared.iter.Fuse.{Fuse}
-use Rattle.std.specs.Iterator.Adapters.{fuse_done, fuse_source}
+use Rattle.std.specs.Iterator.{YieldsLast}
+use Rattle.std.specs.Iterator.Adapters.{fuse_done, fuse_source, fuse_steps}
 use Rattle.tinyvec_slots.specs.Ends.{End, RunsWord}
 use Rattle.tinyvec_slots.specs.AnySplice.{SpliceView, FinishesWith}
 use Rattle.tinyvec_slots.specs.Gap.{gap_len, gap_left, gap_touches, GapCanStep}
 use Rattle.tinyvec_slots.specs.declared.gap.Gap.{Gap}
 use Rattle.tinyvec_slots.specs.Fused.{HasTwoEnds, fused_rest}
-use Rattle.tinyvec_slots.specs.Splice.{splice_view, splice_vec, SpliceKeeps, SpliceSteps, SpliceStepsBack}
+use Rattle.tinyvec_slots.specs.Splice.{splice_view, splice_vec, SpliceKeeps, SpliceSteps, SpliceStepsBack, SplicesFromEnds}
 use Rattle.tinyvec_slots.specs.SplicedByWord.{SplicedByWord}
 use Rattle.tinyvec_slots.specs.declared.no_room.NoRoom.{NoRoom}
 use Rattle.tinyvec_slots.specs.declared.splice.Splice.{Splice}
+use Rattle.tinyvec_slots.proofs.EndsLemmas.{RunsWord-weaker}
+use Rattle.tinyvec_slots.proofs.Fused.{fused_first, fused_last}
 use Rattle.tinyvec_slots.proofs.AnySpliceLemmas as all
 
 is_zero : (n : ℕ) → (n == 0) ≡ true → n ≡ 0
@@ -75,6 +78,33 @@ module _ {V I T : Type 0} (items : V → List T) (Kept : V → V → Type 0) (sa
       → (s : Splice V (Fuse I)) (word : List End) (answers : List (Option T)) (t : Splice V (Fuse I))
       → RunsWord (SpliceSteps items Kept gives) (SpliceStepsBack items Kept gives_back) s word answers t → SplicedByWord (splice_view items) (SpliceKeeps items Kept) rest s word t
   RunsWord-splices rest = all.RunsWord-splices (splice_view items) (SpliceKeeps items Kept) rest keeps_same keeps_then
+
+  pub splices_from_ends : (gives : I → Option T → I → Type 0) (s : Splice V (Fuse I)) → SplicesFromEnds items Kept gives s
+  splices_from_ends gives s = λ rest shows word answers later runs.
+      let first = fused_first gives rest shows in (
+        all.RunsWord-takes_removed (splice_view items) (SpliceKeeps items Kept) _ _ s word answers later runs,
+        RunsWord-splices (fused_rest rest) _ _ (record { first = first; last = λ a r b h. h }) s word answers later runs,
+      )
+
+-- what `SplicesFromEnds` asks, of calls that take from the ends of a replacement of which `rest` shows what it gives
+module _ {V I T : Type 0} (items : V → List T) (Kept : V → V → Type 0) (gives gives_back : I → Option T → I → Type 0) (rest : I → List T)
+    (last : (s : I) (r : Option T) (t : I) → gives_back s r t → YieldsLast rest s r t) where
+  takes_last : (s : Splice V (Fuse I)) (r : Option T) (t : Splice V (Fuse I))
+      → SpliceStepsBack items Kept (fuse_steps gives_back) s r t → SpliceStepsBack items Kept (YieldsLast (fused_rest rest)) s r t
+  takes_last s None t h = h
+  takes_last s (Some x) t h = let step = h.0 in (record {
+    left = step.left;
+    placed = step.placed;
+    asked = fused_last gives_back rest last _ _ _ step.asked;
+    front = step.front;
+    back = step.back;
+    touches = step.touches;
+  }, h.1)
+
+  pub runs_from_ends : (s : Splice V (Fuse I)) (word : List End) (answers : List (Option T)) (t : Splice V (Fuse I))
+      → RunsWord (SpliceSteps items Kept (fuse_steps gives)) (SpliceStepsBack items Kept (fuse_steps gives_back)) s word answers t
+      → RunsWord (SpliceSteps items Kept (fuse_steps gives)) (SpliceStepsBack items Kept (YieldsLast (fused_rest rest))) s word answers t
+  runs_from_ends = RunsWord-weaker _ _ _ takes_last
 
 -- what `finish` puts between these two, if its replacement has not ended and `rest` shows what its source still yields
 module _ {I T : Type 0} (rest : I → List T) (room : ℕ) (s : SpliceView (Fuse I) T) (before after : List T) (result : Result Unit (NoRoom T (Fuse I))) (list : List T) where

@@ -3,12 +3,15 @@ use Rattle.std.specs.Prelude.{◌≡◌, ℕ, ◌+◌, ◌≤◌, false, List, l
 use Rattle.std.specs.Borrow.{GName, MutBor}
 use Rattle.std.specs.declared.iter.Fuse.{Fuse}
 use Rattle.std.specs.declared.iter.Iterator as Iterator
+use Rattle.std.specs.Iterator.{YieldsLast}
 use Rattle.std.specs.Iterator.Adapters.{fuse_done, fuse_source, fuse_steps}
+use Rattle.tinyvec_slots.specs.Ends.{End, TakesFromEnds, RunsWord}
 use Rattle.tinyvec_slots.specs.Filling.{ShowsItems}
 use Rattle.tinyvec_slots.specs.Fused.{FusedCan, fused_rest}
 use Rattle.tinyvec_slots.specs.Replacing.{FusedYields, PutsBetween}
 use Rattle.tinyvec_slots.specs.Gap.{gap_len, gap_view, GapCanStep}
 use Rattle.tinyvec_slots.specs.AnySplice.{SpliceView, SpliceBegins, Splices, SplicesBack, Finishes, FinishesWith}
+use Rattle.tinyvec_slots.specs.SplicedByWord.{SplicedByWord}
 use Rattle.tinyvec_slots.specs.declared.no_room.NoRoom.{NoRoom}
 use Rattle.tinyvec_slots.specs.declared.splice.Splice.{Splice}
 
@@ -58,16 +61,6 @@ module _ {V T : Type 0} (items : V → List T) where
   abbrev pub SpliceCanNext : {I : Type 0} → (I → Type 0) → Splice V (Fuse I) → Type 0
   SpliceCanNext can s = SpliceCanStep s × FusedCan can s.replacement
 
-  -- a splice of the items from `start` up to `end` of what `old` refers to: nothing is placed yet
-  pub record SplicesFrom {I : Type 0} (old : MutBor V) (start end : ℕ) (replacement : I) (s : Splice V (Fuse I)) : Type 0 where
-    pub begins : SpliceBegins (take start (items old.now)) (slice_range (items old.now) start end) (drop end (items old.now))
-        (splice_view s) (splice_len s)
-    pub replacement_is : fuse_source (splice_replacement s) ≡ replacement
-    pub unasked : fuse_done (splice_replacement s) ≡ false
-    pub vec : splice_vec s ≡ old.now
-    pub same_reference : splice_lender s ≡ old.ghost_name
-    pub ready : SpliceCanStep s
-
   -- `finish` of s returned the result, and left v
   pub record SpliceEnds {I : Type 0} (room : V → ℕ) (Grown : V → V → Type 0) (iter : Iterator.Ghosts I T)
       (s : Splice V (Fuse I)) (result : Result Unit (NoRoom T (Fuse I))) (v : V) : Type 0 where
@@ -102,3 +95,24 @@ module _ {V T : Type 0} (items : V → List T) where
     -- replacement at the back
     abbrev pub SpliceStepsBack : Splice V (Fuse I) → Option T → Splice V (Fuse I) → Type 0
     SpliceStepsBack = SplicesBack splice_view (SpliceKeeps Kept) gives
+
+  module _ {I : Type 0} (Kept : V → V → Type 0) (gives : I → Option T → I → Type 0) where
+    -- However calls of `next` and `next_back` follow one another, they take from the two ends of the removed items, and what they
+    -- placed is at its end. `rest` shows what the replacement still yields, by `next_back` from the back.
+    abbrev pub SplicesFromEnds : Splice V (Fuse I) → Type 0
+    SplicesFromEnds s = (rest : I → List T) → ShowsItems gives rest
+        → (word : List End) (answers : List (Option T)) (later : Splice V (Fuse I))
+        → RunsWord (SpliceSteps Kept (fuse_steps gives)) (SpliceStepsBack Kept (YieldsLast (fused_rest rest))) s word answers later
+        → TakesFromEnds (splice_left s) word answers (splice_left later)
+        × SplicedByWord splice_view (SpliceKeeps Kept) (fused_rest rest) s word later
+
+    -- a splice of the items from `start` up to `end` of what `old` refers to: nothing is placed yet
+    pub record SplicesFrom (old : MutBor V) (start end : ℕ) (replacement : I) (s : Splice V (Fuse I)) : Type 0 where
+      pub begins : SpliceBegins (take start (items old.now)) (slice_range (items old.now) start end) (drop end (items old.now))
+          (splice_view s) (splice_len s)
+      pub replacement_is : fuse_source (splice_replacement s) ≡ replacement
+      pub unasked : fuse_done (splice_replacement s) ≡ false
+      pub vec : splice_vec s ≡ old.now
+      pub same_reference : splice_lender s ≡ old.ghost_name
+      pub ready : SpliceCanStep s
+      pub both_ends : SplicesFromEnds s

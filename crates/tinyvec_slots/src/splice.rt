@@ -52,7 +52,7 @@ pub fn splice_over<V: CanSplice, I: Iterator<Item = V::Item>>(
     replacement: I,
 ) -> Splice<'_, V, Fuse<I>>
     requires { Within start end (length (V.items vec.old)) }
-    ensures { SplicesFrom V.items vec.entry start end replacement result }
+    ensures { SplicesFrom V.items V.Kept I.next_gives vec.entry start end replacement result }
 {
     Splice {
         vec,
