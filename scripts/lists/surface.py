@@ -4,8 +4,9 @@ It has a line for each type, call, impl, derived trait, macro, variant, public f
 each that only these crates have: `NAME in CRATE`, `NAME is OTHER in CRATE` if it is here by another name, or `NAME not
 TEXT`, where a line of docs/DIFFERENCES.md begins with the text, or its last column names this call. What `pub use` passes on
 is of the crate that does. Below the heading FIXED a line has a whole form: a function with the types of its arguments and of
-its result, as `Splice::touches (&self) -> u128`, a variant or a public field with its type, or an alias. Nothing here takes
-a line away or writes below FIXED.
+its result and with each bound that a call of it has to meet, as `ArrayVec::len (&self) -> usize where S: Slots`, a type with
+its parameters, a trait with those above it, an impl with its bounds, an associated type, a variant or a public field with its
+type, an alias, or what an arm of a macro reads. Nothing here takes a line away or writes below FIXED.
 """
 import functools
 import re
@@ -20,7 +21,8 @@ NAME = LIST.relative_to(TOP)
 
 LINE = re.compile(r"(?P<name>.+?) (?:(?:is (?P<other>.+) )?in (?P<crate>\w+)|not (?P<why>.+))$")
 OWN, FIXED = "# Of these crates alone", "# Forms that are fixed"
-CLAUSES = re.compile(r" (?:requires|ensures\*?|ghost|where)\b| //")
+CLAUSES = re.compile(r" (?:requires|ensures\*?|ghost)\b| //")
+ARM = re.compile(r"^    (\((?!@).*\)) => ", re.M)
 SELF = re.compile(r"&?(?:'\w+ )?(?:mut )?self$")
 
 
@@ -101,21 +103,50 @@ def forms_of(export):
     item, key = export.item, export.key()
     if item.kind == "fn":
         names = [export.of, *export.also] if export.of else []
-        yield from (f"{key.replace(export.of or key, name, 1)} {types_of(item)}" for name in names or [key])
+        form = form_of(item, export.within)
+        yield from (f"{key.replace(export.of or key, name, 1)} {form}" for name in names or [key])
     elif item.kind == "trait":
-        yield from (f"{key}::{it.name} {types_of(it)}" for it in item.members() if it.kind == "fn")
+        above, bounds = head_of(item, f"pub trait {key}")
+        yield f"trait {key}{above}{bounds}"
+        yield from (f"{key}::{it.name} {form_of(it)}" for it in item.members() if it.kind == "fn")
+        yield from types_in(export)
+    elif item.kind == "impl":
+        yield f"{key}{head_of(item, 'impl')[1]}"
+        yield from types_in(export)
     elif item.kind == "type":
         yield item.signature().removeprefix("pub ").rstrip(";")
+    elif item.kind == "macro_rules!":
+        yield from (f"{key} {it}" for it in ARM.findall("\n".join(item.lines)))
     elif item.kind in ("struct", "enum"):
+        if generic := re.match(r"pub \w+ (\w+<.*>)", item.lines[0]):
+            yield generic[1]
         inside = re.findall(r"^    (?:pub )?(\w.*),$", "\n".join(item.lines[1:-1]), re.M)
         yield from (f"{key}::{it}" for it in [*inside, *re.findall(r"struct \w+<.*>\(pub (.*)\);", item.lines[0])])
 
 
-def types_of(function):
-    """The types of its arguments and of its result."""
-    text = CLAUSES.split(function.signature())[0]
-    rest = exports.split_angles(re.split(r"\bfn \w+", text)[1])[1]
-    end = contracts.end_of(rest, 0, "(", ")")
-    arguments = filter(None, map(str.strip, contracts.parts_of_types(rest[1 : end - 1], ",")))
-    types = [it if SELF.match(it) else re.sub(r"^(?:mut )?\w+: ", "", it) for it in arguments]
-    return f"({', '.join(types)}) {rest[end:].strip(' {;')}".rstrip()
+def types_in(export):
+    """The types that a trait or an impl has."""
+    types = (it.signature() for it in export.item.members() if it.kind == "type")
+    yield from (f"{export.key()}::{it.removeprefix('type ').rstrip(';')}" for it in types)
+
+
+def form_of(function, within=None):
+    """The types of its arguments and of its result, and its bounds with those of its impl."""
+    name = re.search(r"\bfn \w+", function.signature())[0]
+    types, bounds = head_of(function, name)
+    end = contracts.end_of(types, 0, "(", ")")
+    arguments = filter(None, map(str.strip, contracts.parts_of_types(types[1 : end - 1], ",")))
+    types = [*(it if SELF.match(it) else re.sub(r"^(?:mut )?\w+: ", "", it) for it in arguments)], types[end:].strip(" {;")
+    above = head_of(within, "impl")[1] if within else ""
+    bounds = above + (bounds.replace(" where ", ", ", 1) if above else bounds)
+    return f"({', '.join(types[0])}) {types[1]}".rstrip() + bounds
+
+
+def head_of(item, start):
+    """What a declaration says after its parameters, and its bounds, of these and after `where`."""
+    text = CLAUSES.split(item.signature())[0]
+    parameters, rest = exports.split_angles(text[text.index(start) + len(start) :])
+    rest, _, where = rest.partition(" where ")
+    bounds = contracts.parts_of_types(parameters, ",") + contracts.parts_of_types(where.strip(" ,;{"), ",")
+    bounds = ", ".join(it for it in bounds if ": " in it)
+    return rest.rstrip(" {"), f" where {bounds}" if bounds else ""

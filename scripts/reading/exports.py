@@ -116,10 +116,10 @@ class Source:
 
 class Export:
     """What a caller can name: where it is, what it is called, and what is shown of it. `also` are the aliases of a form of its type
-    that has it too, as `SliceVec` has what each `ArrayVec` has."""
+    that has it too, as `SliceVec` has what each `ArrayVec` has; `within` is the impl of a method."""
 
-    def __init__(self, source, item, name, of=None, trait=None, also=()):
-        self.source, self.item, self.name, self.of, self.trait, self.also = source, item, name, of, trait, also
+    def __init__(self, source, item, name, of=None, trait=None, also=(), within=None):
+        self.source, self.item, self.name, self.of, self.trait, self.also, self.within = source, item, name, of, trait, also, within
         self.kind = "impl" if trait else "method" if of else item.kind
 
     def key(self):
@@ -189,7 +189,8 @@ class Crate:
             if trait:
                 yield Export(source, item, head_of(trait), spoken, shortened(trait, self.forms), also)
             else:
-                yield from (Export(source, it, it.name, spoken, also=also) for it in item.members() if it.kind == "fn" and it.is_public)
+                calls = (it for it in item.members() if it.kind == "fn" and it.is_public)
+                yield from (Export(source, it, it.name, spoken, also=also, within=item) for it in calls)
 
     def also(self, of, parameters):
         """The aliases whose form has what an impl of a generic type has: its parameter is that of the form, whose traits suffice."""
@@ -216,9 +217,9 @@ def impl_of(item):
 
 
 def split_angles(text):
-    """A text that begins with parameters in angles: these, and the rest."""
+    """A text that may begin with parameters in angles: these, and the rest."""
     end = contracts.end_of(text, 0, "<", ">") if text.startswith("<") else 0
-    return text[1 : end - 1], text[end:]
+    return text[:end][1:-1], text[end:]
 
 
 def head_of(type_):
