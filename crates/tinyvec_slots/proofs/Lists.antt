@@ -1,6 +1,6 @@
 -- Facts on parts of a list.
-use Rattle.std.proofs.Common.{◌≡◌, ℕ, suc, add-one, refl, ◌+◌, ◌-◌, ◌*◌, ◌<◌, ◌≤◌, min, List, [], ◌∷◌, ◌++◌, length, get_or, take, drop, set, insert, remove, slice_range, sym, ap, ◌∙◌, arith, rules, drop-set-lt, length-set, append_assoc, take_at, length-append, take-append-drop}
-use Rattle.std.proofs.lemmas.List.{same_lists, places, same_from_push, get_or-set_same, get_or_default, get_or-drop, drop-drop, drop_more, drop_at, length-take-le, take_min, drop_min, take-set-le}
+use Rattle.std.proofs.Common.{◌≡◌, ℕ, suc, add-one, refl, ◌+◌, ◌-◌, ◌*◌, ◌<◌, ◌≤◌, min, List, [], ◌∷◌, ◌++◌, length, get_or, take, drop, set, insert, remove, slice_range, sym, ap, ◌∙◌, arith, rules, drop-set-lt, length-set, take_at, length-append}
+use Rattle.std.proofs.lemmas.List.{same_lists, places, same_from_push, get_or-set_same, get_or_default, get_or-drop, drop-drop, drop_more, take_min, drop_min, take-set-le}
 use Rattle.std.specs.List.{remove_range}
 use lib.Seq.{paste}
 use Rattle.std.proofs.lemmas.Bool.{cases_eq, cases_lt}
@@ -92,22 +92,6 @@ module _ {X : Type 0} (xs ys : List X) (n : ℕ) (fits : n ≤ length xs) (apart
       → zs ≡ drop (c - n) (take (length ys - n) (drop n ys)) ++ take (c - n) (take (length ys - n) (drop n ys))
       → take n ys ++ (zs ++ drop (length ys - n) (drop n ys)) ≡ drop c xs ++ take c xs
   turned_behind c same zs is = rw (is, swapped) (same_lists _ _ (search (rules, places)) (λ k e h. grind (arith, places)))
-
--- the first element of a part went to the end of its first n + 1, and from there to the end of the part
-pub turned_by_pieces : {X : Type 0} (front xs part back : List X) (a n : ℕ) → length front ≡ a → n < length xs
-    → part ≡ drop 1 (take (suc n) xs) ++ take 1 (take (suc n) xs) → back ≡ drop (suc n) xs
-    → take (a + n) (front ++ (part ++ back)) ++ (drop 1 (drop (a + n) (front ++ (part ++ back))) ++ take 1 (drop (a + n) (front ++ (part ++ back))))
-    ≡ front ++ (drop 1 xs ++ take 1 xs)
-turned_by_pieces front [] part back a n long some first behind = absurd (omega (arith, some))
-turned_by_pieces front (x ∷ xs) part back a n long some first behind =
-    let moved = front ++ take n xs in
-    let before : length moved ≡ a + n = length-append front (take n xs) ∙ rw (long, length-take-le n xs (omega (arith, some))) refl in
-    let is : front ++ (part ++ back) ≡ moved ++ x ∷ drop n xs =
-    rw (first, behind) (ap (λ l. front ++ l) (append_assoc (take n xs) (x ∷ []) (drop n xs)) ∙ sym (append_assoc front (take n xs) (x ∷ drop n xs))) in
-    let whole : take n xs ++ (drop n xs ++ x ∷ []) ≡ xs ++ x ∷ [] =
-    sym (append_assoc (take n xs) (drop n xs) (x ∷ [])) ∙ ap (λ l. l ++ x ∷ []) (take-append-drop n xs) in
-    rw (is, take_at moved (x ∷ drop n xs) (a + n) before, drop_at moved (x ∷ drop n xs) (a + n) before)
-    (append_assoc front (take n xs) (drop n xs ++ x ∷ []) ∙ ap (λ l. front ++ l) whole)
 
 -- of the part of a list from i on the last b elements changed places with the first ones, which are in a gap of n
 pub closed_by_ends : {X : Type 0} (xs part zs rest : List X) (i n b : ℕ) → i + n + b ≡ length xs → part ≡ drop i xs

@@ -2,7 +2,7 @@
 ghost use Rattle.std.specs.Prelude.{◌+◌, ◌<◌, ◌≤◌, ℕ, length, take, IfOk, OnOk, OnErr};
 ghost use Rattle.tinyvec_slots.specs.Clones.{RefusedAt, ClonesOver, ClonesOverFrom, WritesClones};
 
-use crate::tuned::sizes::{are_bytes, are_large};
+use crate::tuned::sizes::are_large;
 use std::alloc::AllocError;
 
 /// Writes clones of `from` over the slots from `start` on, by blocks.
@@ -23,7 +23,7 @@ pub fn clone_over_from<T: Clone + Default>(
     clone_over(&mut slots[start..], &from[..count])
 }
 
-/// Writes clones of `from` over the first slots of `to`.
+/// Writes clones of `from` over the first slots of `to`, in blocks of 16, and then item by item.
 pub fn clone_over<T: Clone + Default>(to: &mut [T], from: &[T]) -> Result<(), AllocError>
     requires fits { length from.now ≤ length to.old }
     ensures { WritesClones T.Clone (λ ys n. ClonesOver T.is_clone ys n to.old to.new) from.now result }
@@ -32,8 +32,8 @@ pub fn clone_over<T: Clone + Default>(to: &mut [T], from: &[T]) -> Result<(), Al
     if are_large(from) {
         return clone_each(to, from);
     }
-    let done = clone_blocks::<T, 512>(to, from)?;
-    clone_rest(&mut to[done..], &from[done..])
+    let done = clone_blocks::<T, 16>(to, from)?;
+    clone_each(&mut to[done..], &from[done..])
 }
 
 // Like `clone_over`, for fewer than 8 items.
@@ -66,15 +66,6 @@ fn clone_block_and_rest<T: Clone + Default, const N: usize>(
     // The borrow checker covers no range that begins at a const parameter.
     let block = N;
     clone_each(&mut to[block..], &from[block..])
-}
-
-// Like `clone_over`, in blocks of 16, and then item by item.
-fn clone_rest<T: Clone + Default>(to: &mut [T], from: &[T]) -> Result<(), AllocError>
-    requires fits { length from.now ≤ length to.old }
-    ensures { WritesClones T.Clone (λ ys n. ClonesOver T.is_clone ys n to.old to.new) from.now result }
-{
-    let done = clone_blocks::<T, 16>(to, from)?;
-    clone_each(&mut to[done..], &from[done..])
 }
 
 /// Like `clone_over`, item by item. If the compiler knows that `to` and `from` do not overlap, as for a new array, it turns
@@ -119,8 +110,7 @@ fn clone_blocks<T: Clone + Default, const N: usize>(
         × ClonesOver T.is_clone (take j from.now) j to.old to.new) }
 {
     let mut done = 0;
-    // Bytes gain nothing by longer blocks.
-    while N <= from.len() - done && (N <= 16 || !are_bytes(from)) {
+    while N <= from.len() - done {
         clone_block::<T, N>(&mut to[done..], &from[done..])?;
         done += N;
     }

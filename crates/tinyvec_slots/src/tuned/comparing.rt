@@ -6,7 +6,7 @@ ghost use Rattle.std.specs.List.{fold};
 ghost use Rattle.tinyvec_slots.specs.Ranges.{Within};
 ghost use Rattle.tinyvec_slots.specs.Comparing.{SameInFront, FirstDifference, DiffersAt};
 
-use crate::tuned::sizes::{are_bytes, are_large};
+use crate::tuned::sizes::are_large;
 use std::cmp::Ordering;
 use std::hash::{Hash, Hasher};
 
@@ -23,42 +23,11 @@ pub fn eq_slices<T: PartialEq>(a: &[T], b: &[T]) -> bool
     if are_large(a) {
         return *a == *b;
     }
-    let front = before_long_blocks(a);
-    same_by_64(&a[..front], &b[..front]) && same_blocks::<T, 256>(&a[front..], &b[front..])
-}
-
-// Length of the prefix before the 256-item blocks: `len % 256` for bytes, else the whole slice. A block of 256 bytes is
-// compared as fast as one of 64 numbers of four bytes.
-#[inline(always)]
-fn before_long_blocks<T>(items: &[T]) -> usize
-    ensures within { result ≤ length items.now }
-    ensures blocks { (length items.now - result) % 256 ≡ 0 }
-{
-    if 256 <= items.len() && are_bytes(items) {
-        return items.len() % 256;
-    }
-    items.len()
-}
-
-// Compares the items before the first block of 64, then the blocks.
-#[inline(always)]
-fn same_by_64<T: PartialEq>(a: &[T], b: &[T]) -> bool
-    requires as_long { length a.now ≡ length b.now }
-    ensures { result ≡ pointwise T.eq a.now b.now }
-{
-    let front = a.len() % 64;
-    same_by_16(&a[..front], &b[..front]) && same_blocks::<T, 64>(&a[front..], &b[front..])
-}
-
-#[inline(always)]
-fn same_by_16<T: PartialEq>(a: &[T], b: &[T]) -> bool
-    requires as_long { length a.now ≡ length b.now }
-    ensures { result ≡ pointwise T.eq a.now b.now }
-{
     let front = a.len() % 16;
     same_by_4(&a[..front], &b[..front]) && same_blocks::<T, 16>(&a[front..], &b[front..])
 }
 
+// Compares the items before the first block of 4, then the blocks.
 #[inline(always)]
 fn same_by_4<T: PartialEq>(a: &[T], b: &[T]) -> bool
     requires as_long { length a.now ≡ length b.now }
@@ -197,8 +166,7 @@ fn difference_behind_first<T: PartialEq>(a: &[T], b: &[T]) -> usize
     if are_large(a) {
         return difference_before(a, b, 1, a.len());
     }
-    let more = pass_same::<T, 16>(a, b, 1);
-    let done = pass_same::<T, 4>(a, b, more);
+    let done = pass_same::<T, 4>(a, b, 1);
     difference_before(a, b, done, a.len())
 }
 

@@ -16,84 +16,11 @@ pub fn move_to_end<T>(items: &mut [T], start: usize, end: usize)
         return;
     }
     // `rotate_left` clears a buffer first, unless it goes by one. For few items that costs more than swaps.
-    if end - start != 1 && prefers_swaps(items.len() - start) {
+    if end - start != 1 && items.len() - start <= 64 {
         rotate_few(&mut items[start..], end - start);
         return;
     }
-    rotate(&mut items[start..], end - start);
-}
-
-// Whether swaps of this many items beat a rotation.
-#[inline(always)]
-fn prefers_swaps(count: usize) -> bool {
-    count <= 64
-}
-
-// Moves the first `count` items to the end.
-#[inline(always)]
-fn rotate<T>(items: &mut [T], count: usize)
-    requires { count ≤ length items.old }
-    ensures { items.new ≡ drop count items.old ++ take count items.old }
-{
-    if count == 1 && prefers_pieces(items) {
-        first_to_end(items);
-        return;
-    }
-    if 512 <= count && 512 <= items.len() - count {
-        rotate_many(items, count);
-        return;
-    }
-    items.rotate_left(count);
-}
-
-// The same by swaps of ends, which LLVM vectorizes, and by `rotate_left` once one side is short: a call in it has at most
-// 15 in 16 of the items, so few are on the stack. Not inlined, so that fewer items save no registers.
-#[inline(never)]
-fn rotate_many<T>(items: &mut [T], count: usize)
-    requires { count ≤ length items.old }
-    ensures { items.new ≡ drop count items.old ++ take count items.old }
-{
-    let rest = items.len() - count;
-    let least = (items.len() / 16).max(512);
-    if count < least || rest < least {
-        items.rotate_left(count);
-        return;
-    }
-    if count <= rest {
-        swap_ends(items, count);
-        rotate_many(&mut items[..rest], count);
-    } else {
-        swap_ends(items, rest);
-        rotate_many(&mut items[rest..], count - rest);
-    }
-}
-
-// Whether there are more items than a piece has, of 8 bytes or more. A call for the size alone costs `remove` six instructions.
-#[inline(always)]
-fn prefers_pieces<T>(items: &[T]) -> bool {
-    items.len() > 257 && items.len() * mem::size_of::<T>() / 8 >= items.len()
-}
-
-// Moves the first item to the end, by pieces of 257 items. `rotate_left` moves more than that by 16 bytes through memory.
-#[inline(never)]
-fn first_to_end<T>(items: &mut [T])
-    ensures { items.new ≡ drop 1 items.old ++ take 1 items.old }
-{
-    let mut at = 0;
-    while 257 < items.len() - at {
-        first_of_piece_to_end(&mut items[at..at + 257]);
-        at += 256;
-    }
-    first_of_piece_to_end(&mut items[at..]);
-}
-
-#[inline(never)]
-fn first_of_piece_to_end<T>(items: &mut [T])
-    ensures { items.new ≡ drop 1 items.old ++ take 1 items.old }
-{
-    if items.len() > 0 {
-        items.rotate_left(1);
-    }
+    items[start..].rotate_left(end - start);
 }
 
 // Moves the first `count` items to the end: swaps the shorter side with as many items at the other end, which are then

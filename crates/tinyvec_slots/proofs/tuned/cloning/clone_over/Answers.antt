@@ -11,5 +11,5 @@ pub returns : goal.returns
 returns g c =
     let first = c.clone_blocks in
     let done = c.in_ok-done in
-    let rest = c.clone_rest in
+    let rest = c.clone_each-2 in
     writes_joined g.T.Clone rest.result c.args.from.now c.args.to.now first.new.to rest.new.to done.done c.requires.fits first.auto.to done.ensures.within done.ensures.cloned rest.ensures
