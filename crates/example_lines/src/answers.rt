@@ -1,5 +1,5 @@
 //! A text that is answered line by line.
-ghost use Rattle.std.specs.Prelude.{◌≡◌, ◌⊎◌, ◌≤◌, ◌-◌, ◌^◌, ◌++◌, ◌∷◌, [], List, ℕ, length, IfSome, IfNone, OnOk, OnErr, IsErrOf, map};
+ghost use Rattle.std.specs.Prelude.{◌≡◌, ◌⊎◌, ◌≤◌, ◌-◌, ◌^◌, ◌++◌, ◌∷◌, [], List, ℕ, true, length, IfSome, IfNone, OnOk, OnErr, IsErrOf, map};
 ghost use Rattle.std.specs.Io.KnownBytes.{Appends, Consumes, IsAtEnd, Keeps};
 ghost use Rattle.std.specs.Str.Lines.{strip_carriage_return};
 ghost use Rattle.tinyvec_io.specs.Counted.{AppendsFront, CountsEnds, Reported};
@@ -42,6 +42,7 @@ pub fn answer_lines<A: Answer, R: Read, W: Write>(
         × IsAtEnd (R.remaining reader.new.inner)
         × Appends (W.contents writer.old.inner) (W.contents writer.new.inner) output
         × IsAnswered A.IsAnswer program.old input output program.new) }
+    ensures flushed { OnOk result (writer.new.flushed ≡ true) }
     // One call of the reader failed exactly if the input did, one of the writer exactly if the output did.
     ensures failed { CountsEnds is_input is_output reader.old reader.new writer.old writer.new result }
 
@@ -208,6 +209,7 @@ fn strip_return(line: &[u8]) -> &[u8]
 fn write_out<W: Write>(bytes: &[u8], writer: &mut Counted<W>) -> Result<(), Stop>
     ensures ok { OnOk result (Appends (W.contents writer.old.inner) (W.contents writer.new.inner) bytes.now) }
     ensures output { OnErr result (AppendsFront (W.contents writer.old.inner) (W.contents writer.new.inner) bytes.now) }
+    ensures flushed { OnOk result (writer.new.flushed ≡ true) }
     ensures not_memory { IsErrOf result Stop.Memory → ⊥ }
     ensures faults { Reports writer.old writer.new result }
 {
@@ -226,6 +228,7 @@ fn finish<A: Answer, W: Write>(
 ) -> Result<(), Stop>
     ensures ok { OnOk result ((output : List ℕ) × Appends (W.contents writer.old.inner) (W.contents writer.new.inner) output
         × AnswersEach A.IsAnswer program.old (map strip_carriage_return (last_line line.now)) output program.new) }
+    ensures flushed { OnOk result (writer.new.flushed ≡ true) }
     ensures memory { IsErrOf result Stop.Memory → Keeps (W.contents writer.old.inner) (W.contents writer.new.inner)
         × AnswersAs A.IsAnswer program.old program.new }
     ensures output { (error : IoError) → IsErrOf result (Stop.Output error) → (output : List ℕ)

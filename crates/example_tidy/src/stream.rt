@@ -1,5 +1,5 @@
 //! A text that is read and written as its lines come.
-ghost use Rattle.std.specs.Prelude.{◌≡◌, ◌≤◌, ◌↔◌, ◌^◌, ◌-◌, ◌++◌, IsTrue, List, ℕ, Some, OnOk, IsErrOf, length};
+ghost use Rattle.std.specs.Prelude.{◌≡◌, ◌≤◌, ◌↔◌, ◌^◌, ◌-◌, ◌++◌, IsTrue, List, ℕ, Some, OnOk, IsErrOf, length, true};
 ghost use Rattle.std.specs.IoError.{error_kind};
 ghost use Rattle.std.specs.Io.KnownBytes.{Appends, Consumes, IsAtEnd, Keeps};
 ghost use Rattle.tinyvec.specs.TinyVec.{tiny_items, tiny_capacity};
@@ -62,6 +62,7 @@ pub fn tidy<R: Read, W: Write>(
         × IsAtEnd (R.remaining reader.new.inner)
         × Appends (W.contents writer.old.inner) (W.contents writer.new.inner) output
         × Tidied input output × Tidied output output) }
+    ensures flushed { OnOk result (writer.new.flushed ≡ true) }
     // One call of the reader failed exactly at `Read`, one of the writer exactly at `Write`.
     ensures failed { CountsEnds is_read is_write reader.old reader.new writer.old writer.new result }
 
@@ -155,6 +156,7 @@ fn tidy_chunk<W: Write>(
 fn finish<W: Write>(alloc: Global, line: &[u8], writer: &mut Counted<W>) -> Result<(), TidyError>
     ensures ok { OnOk result ((said : List ℕ) × Appends (W.contents writer.old.inner) (W.contents writer.new.inner) said
         × Ends line.now said) }
+    ensures flushed { OnOk result (writer.new.flushed ≡ true) }
     ensures memory { IsErrOf result TidyError.Memory
         → Keeps (W.contents writer.old.inner) (W.contents writer.new.inner) }
     ensures long { IsErrOf result TidyError.Memory → IsShort line.now → ⊥ }
