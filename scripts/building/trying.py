@@ -1,7 +1,7 @@
 """Has `rt try` compile programs with checks, before any proof, and keeps them as long as the sources are the same.
 
-`rt try` itself keeps none. A program that is kept answers at once: `./tv` in place of 20 seconds, the rows and random calls
-in place of a minute or two, and `tests/mutants --tests` makes thousands of runs of one, each with its variable PLANTED."""
+`rt try` itself keeps none. A program that is kept answers at once: `./tv` in place of 20 seconds, the random scripts in place of
+a minute."""
 import contextlib
 import os
 import pathlib
@@ -51,10 +51,7 @@ def program_of(crate, *words):
 
 
 def told(crate, words=(), given=b""):
-    """What `rt try` says of a program or its tests: only there a check that stops it names its place. Of a planted edit nobody
-    asks for the place, and `rt try` compiles all anew."""
-    if "PLANTED" in os.environ:
-        return ""
+    """What `rt try` says of a program or its tests: only there a check that stops it names its place."""
     with laid(crate) as folder:
         return tried(folder, words, given)
 
