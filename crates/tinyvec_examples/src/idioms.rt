@@ -1,47 +1,8 @@
 //! Idioms of code over Rust's `tinyvec`, as they are written here. None needs a file of proof.
-ghost use Rattle.std.specs.Prelude.{◌≡◌, ◌-◌, ◌≤◌, length};
-ghost use Rattle.tinyvec.specs.TinyVec.{tiny_len};
 
 use std::alloc::AllocError;
 use std::collections::{BTreeMap, HashMap};
 use tinyvec::{ArrayVec, NoMemory, TinyVec};
-
-/// `&v[1..]`.
-pub fn all_but_first(v: &TinyVec<[u32; 4]>) -> &[u32]
-    requires { 1 ≤ tiny_len v.now }
-{
-    &v[1..]
-}
-
-fn count(numbers: &[u32]) -> usize
-    ensures { result ≡ length numbers.now }
-{
-    numbers.len()
-}
-
-/// A lent vector, where a slice is wanted.
-pub fn counted(v: &TinyVec<[u32; 4]>) -> usize
-    ensures { result ≡ tiny_len v.now }
-{
-    count(v)
-}
-
-/// `for x in v`, of a lent vector.
-pub fn has_one(v: &TinyVec<[u32; 4]>) -> bool {
-    for x in v {
-        if *x == 1 {
-            return true;
-        }
-    }
-    false
-}
-
-/// `for x in v`, of one that is lent for writing.
-pub fn set_all(v: &mut TinyVec<[u32; 4]>) {
-    for x in v {
-        *x = 1;
-    }
-}
 
 /// Appends a number, or else puts it into a list that does not allocate. What fits neither is returned.
 pub fn push_or_keep(
@@ -73,11 +34,6 @@ pub fn count_list(
     let count = counts.entry(list)?.or_insert(0);
     *count = count.saturating_add(1);
     Ok(())
-}
-
-/// `map.get(&v)`, of lists as keys, in order.
-pub fn at_list(map: &BTreeMap<TinyVec<[u8; 4]>, u32>, list: &TinyVec<[u8; 4]>) -> Option<u32> {
-    map.get(list).copied()
 }
 
 /// A struct with a vector in it derives these.

@@ -6,7 +6,6 @@
 
 pub mod borsh;
 pub mod clones;
-pub mod comparing;
 pub mod counted;
 pub mod derefs;
 pub mod draining;
@@ -16,11 +15,9 @@ pub mod idioms;
 pub mod known_items;
 pub mod largest;
 pub mod lending;
-pub mod macros;
 pub mod ported;
 pub mod printing;
 pub mod readme;
-pub mod replacing;
 pub mod slices;
 pub mod splicing;
 pub mod tabs;

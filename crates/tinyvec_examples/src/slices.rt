@@ -3,5 +3,3 @@
 pub mod draining;
 pub mod edits;
 pub mod lending;
-pub mod making;
-pub mod writing;

@@ -3,20 +3,6 @@ ghost use Rattle.std.specs.Prelude.{◌≡◌, ◌≤◌, length, slice_set};
 
 use tinyvec_array::SliceVec;
 
-/// The owner, after an item, a spare slot and any slot were written.
-pub fn three_written(xs: &mut [u8])
-    requires { 5 ≤ length xs.old }
-    ensures { xs.new ≡ slice_set (slice_set (slice_set xs.old 0 7) 3 6) 4 5 }
-{
-    let mut v = SliceVec::from_slice_len(xs, 3);
-    let list = v.as_mut_slice();
-    list[0] = 7;
-    let behind = v.grab_spare_slice_mut();
-    behind[0] = 6;
-    let all = v.as_mut_slots();
-    all[4] = 5;
-}
-
 /// A vector over each part of what is lent, which no caller of `split_off` can have: an item of the first is written, and
 /// the second is pushed to.
 pub fn both_parts(xs: &mut [u8])
