@@ -38,6 +38,8 @@ def faults():
             yield f"{path}: no definition of `{name}` was found"
         else:
             yield from [f"{path}: `{name}` has no comment"] * (not words.defined[path, name].comment)
+            wrong = re.search(r" (?:_|zero|tt)(?![\w-])", words.defined[path, name].shown)
+            yield from [f"{path}: a head without names: {words.defined[path, name].shown}"] * bool(wrong)
             example = words.example((path, name))
             yield from [f"{EXAMPLES}: no `example-{name}` of {path}, or an empty one"] * (not example)
             is_named = re.search(rf"(?<![\w.-]){re.escape(name)}(?![\w-])", example)
@@ -95,7 +97,8 @@ class Words:
 
     def row(self, word):
         found = self.defined[word]
-        return f'| <a id="{exports.word_anchor(*word)}"></a>{found.shown} | {found.meaning} | {self.example(word)} |'
+        rows = [(f'<a id="{exports.word_anchor(*word)}"></a>{found.shown}', found.meaning, self.example(word))]
+        return "\n".join(f"| {' | '.join(it)} |" for it in [*rows, *((name, said, "") for name, said in found.parts)])
 
 
 def plain(statement):

@@ -10,6 +10,9 @@ WORD = re.compile(r"(?P<indent> *)(?:(?:abbrev|unfoldable) )?pub (?:(?P<kind>rec
 FIELD = re.compile(r" +(?:pub )?([^\s:]+) : (.*)")
 # What a module, a record or a data type is given, without its types.
 GIVEN = re.compile(r"\(((?:\w+ )+): ")
+# What no argument is named by, and how one is named whose type has no variable.
+CONSTANTS = ("zero", "tt", "true", "false")
+BY_TYPE = {"List": "xs", "Option": "r", "Result": "r", "TinyVec": "v", "ArrayVec": "v", "Vec": "v"}
 
 
 def source_of(path):
@@ -39,16 +42,14 @@ class Word:
         head = found["rest"]
         while self.kind and body and not head.endswith("where"):
             head += body.pop(0)
-        equation = next((it.strip() for it in lines if re.match(rf" *{re.escape(self.name)} .*=( |$)", it)), "")
-        left = re.sub(r"\{\w+\} ", "", equation).partition(" =")[0]
-        own = given_by(head) if self.kind else [left.removeprefix(self.name)] * bool(re.fullmatch(r"[\w ]+", left))
-        # What it is given, by name.
-        self.given = " ".join([*given, *own]).split()
-        # The lines of its type, before its equation.
+        # The lines of its type, before its equations.
         type_ = " ".join(" ".join([found["rest"], *itertools.takewhile(is_deeper, lines)]).split())
-        # How many arguments it takes: those of its modules, of its head and of its type.
-        self.arity = len(" ".join(given).split()) + arrows(head if self.kind else type_)
-        self.shown = code(" ".join([self.name, *self.given, *["_"] * (self.arity - len(self.given))]))
+        lefts = [it.strip().removeprefix(self.name).partition(" =")[0] for it in lines if re.match(rf" *{re.escape(self.name)} .*=( |$)", it)]
+        modules = " ".join(given).split()
+        # How many arguments it takes, those of its modules, of its head and of its type, and what it is given, by name.
+        self.arity = len(modules) + arrows(head if self.kind else type_)
+        self.given = named([*modules, *arguments(head if self.kind else type_, lefts)])
+        self.shown = code(" ".join([self.name, *self.given]))
         # The fields of a record, or the variants of a data type, each with its statement and its comment.
         parts, said, is_record = [], "", self.kind == "record"
         for line in body if self.kind else ():
@@ -61,9 +62,10 @@ class Word:
                 parts[-1][1] += f" {line.strip()}"
         self.fields = [(name, text) for name, text, _ in parts if is_record]
         self.variants = [name for name, _, _ in parts if not is_record]
-        shown = ((code(f"{name} : {text}" if is_record else name), said) for name, text, said in parts)
-        told = "; ".join(part + f" ({said})" * bool(said) for part, said in shown)
-        self.meaning = self.comment + f". {'It has' if is_record else 'One of'} {told}" * bool(told)
+        told = "; ".join(code(name) + f" ({said})" * bool(said) for name, _, said in parts if not is_record)
+        self.meaning = self.comment + f". One of {told}" * bool(told)
+        # A line for each field of a record.
+        self.parts = [(code(f".{name}"), code(text) + f": {said}" * bool(said)) for name, text, said in parts if is_record]
 
 
 def code(text):
@@ -105,6 +107,32 @@ def arrows(head):
     taken = [re.sub(r"(?:\{[^{}]*\} ?)+", "", it) for it in contracts.parts_of(type_, " → ")[:-1]]
     names = lambda text: len(" ".join(given_by(text)).split())
     return names(own) + sum(names(it) or 1 for it in taken if it)
+
+
+def arguments(head, lefts):
+    """A name for each argument that a declaration takes: of its head or its type, of the first equation that has a variable there,
+    else one by its type. A word in capitals is a variable if each equation has it."""
+    own, type_ = contracts.parts_of(f" {head} ", " : ")[:2]
+    found = [(it, "") for it in " ".join(given_by(own)).split()]
+    for taken in (re.sub(r"(?:\{[^{}]*\} ?)+", "", it).strip() for it in contracts.parts_of(type_, " → ")[:-1]):
+        names = " ".join(given_by(taken)).split()
+        found += [(it, "") for it in names] or [("", taken)] * bool(taken)
+    places = [[it for it in contracts.parts_of(f" {left.strip()} ", " ") if it and it[0] != "{"] for left in lefts]
+    for at, (name, taken) in enumerate(found):
+        told = [it[at] for it in places if at < len(it)]
+        variables = (it for it in told if re.fullmatch(r"[^\W\d_][\w'-]*", it) and it not in CONSTANTS and (it[0].islower() or {it} == {*told}))
+        type_ = re.match(r"\(?(?:\w+\.)*([A-Za-z])(\w*)", taken)
+        yield name or next(variables, "") or (BY_TYPE.get(type_[1] + type_[2], type_[1].lower()) if type_ else "n")
+
+
+def named(found):
+    """Names, of which one that precedes is followed by the next letter's."""
+    names = []
+    for it in found:
+        while it in names:
+            it = chr(ord(it[0]) + 1) + it[1:]
+        names.append(it)
+    return names
 
 
 def given_by(head):
