@@ -4,7 +4,7 @@
   tinyvec_examples if no path says otherwise.
 - What DIFFERENCES has below "Beyond the crate" is not the Rust crate's by tests/surface.txt.
 - A page that quotes bench/results names no other kit than they were measured with.
-- A type that a page says is `Send` is in the test of that.
+- The types that CONTRACTS says are `Send` are those of the test of that.
 """
 import re
 
@@ -20,6 +20,7 @@ def faults():
     yield from (it for page in sorted(TOP.glob("crates/*/CALLING.md")) for it in wrong_lemmas(page))
     yield from wrong_beyond()
     yield from (it for page in tables.DOCUMENTS for it in wrong_kit(page))
+    yield from wrong_sent()
 
 
 def wrong_lemmas(page):
@@ -48,10 +49,16 @@ def wrong_beyond():
     of_rust = text_of(TOP / "tests/surface.txt").partition("# Forms")[0]
     for name in re.findall(r"`(\w+)`", own):
         found = re.search(rf"^TinyVec(?:: |::){name}(?:<\S*>)? .*$", of_rust, re.M)
-        yield from [f"docs/DIFFERENCES.md: the Rust crate has {name} too: {found and found[0]}"] * bool(found)
+        yield from [f"docs/DIFFERENCES.md: the Rust crate has {name} too: {found[0]}"] if found else ()
 
 
 def wrong_kit(page):
     measured = {it for file in tables.RESULTS.glob("*.md") for it in re.findall(r"^ +here +(rattle-kit-\w+)", text_of(file), re.M)}
     named = set(re.findall(r"rattle-kit-\w+", text_of(page))) if page.name != "README.md" else set()
     yield from (f"{page.relative_to(TOP)}: its tables are not of {it}" for it in sorted(named - measured))
+
+
+def wrong_sent():
+    said = re.search(r"that ((?:`\w+`(?:, | and )?)+) are `Send`", text_of(TOP / "docs/CONTRACTS.md"))
+    named, tested = set(re.findall(r"\w+", said[1].replace(" and ", " "))) if said else set(), set(re.findall(r"crosses_threads::<(\w+)", text_of(SENT)))
+    yield from (f"docs/CONTRACTS.md: of `Send` it names, or lacks, {it}" for it in sorted(named ^ tested))

@@ -84,9 +84,11 @@ def wrong_errors(library):
     entries = [it for _, it in library.entries()]
     types = {it.name for it in entries if it.kind in ("struct", "enum")}
     for error, cell in re.findall(r"^\| `(\w+)(?:<[^`]*)?` \| (.*?) \|", above, re.M):
-        made = (it for it in entries if it.kind in ("fn", "method") and not it.is_part)
-        returning = {it.name for it in made if re.search(rf"-> .*\b{error}\b", it.item.signature())}
-        wrong = returning ^ set(re.findall(r"`([a-z]\w+)`", cell)) if error in types else ()
+        made = [it.item for it in entries if it.kind in ("fn", "method") and not it.is_part]
+        # What an impl of a std trait returns, as `try_from`.
+        made += [one for it in entries if it.kind == "impl" and not it.is_part for one in it.item.members() if one.kind == "fn"]
+        returning = {it.name for it in made if re.search(rf"-> .*\b{error}\b", it.signature())}
+        wrong = returning ^ set(re.findall(r"`(?:\w+::)?([a-z]\w+)`", cell)) if error in types else ()
         yield from (f"docs/reference/{INDEX}.md: {error}: {it}" for it in sorted(wrong))
 
 

@@ -14,13 +14,6 @@ least : (b : Bool) (need room : ℕ) → need ≤ (if b then need else max (2 * 
 least true need room = omega arith
 least false need room = omega arith
 
--- a list on the heap stays there
-pub stays_out : (how : Growth) (need : ℕ) (p q : Place) → p.inline ≡ false → q ≡ place_for how need p → q.inline ≡ false
-stays_out how need p q out h = elim (cases_lt p.capacity need) [
-  | inl more ↦ ap (λ p. p.inline) (h ∙ place_grown how need p more)
-  | inr fits ↦ ap (λ p. p.inline) (h ∙ place_same how need p fits) ∙ out
-]
-
 -- the place has that room
 pub place_enough : (how : Growth) (need : ℕ) (p : Place) → need ≤ (place_for how need p).capacity
 place_enough how need p = elim (cases_lt p.capacity need) [
