@@ -172,7 +172,7 @@ impl<'s, T: Drop> IntoIterator for ArrayVec<&'s mut [T]> {
     ghost into_iter_gives = { λ v it. IteratesMut (slice_items v) it };
 
     /// The items of the list for writing, without the spare slots. Limitation: the owner's proof does not learn what is
-    /// written; loop over `as_mut_slice().iter_mut()` instead.
+    /// written; loop over `v.iter_mut()` instead.
     fn into_iter(self) -> slice::IterMut<'s, T> {
         let len = self.len();
         let ArrayVec { len: _, slots } = self;
