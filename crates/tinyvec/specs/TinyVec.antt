@@ -62,18 +62,18 @@ module _ {T : Type 0} {n : ℕ} where
   tiny_capacity (Inline v alloc) = length v.slots
   tiny_capacity (Heap v) = vec_capacity v
 
+  -- `v.is_inline()`
+  abbrev pub is_inline : TinyVec (List T) T (UpTo n) → Bool
+  is_inline v = inline_by v
+
+  -- the list is in the array
+  abbrev pub IsInline : TinyVec (List T) T (UpTo n) → Type 0
+  IsInline v = IsTrue (inline_by v)
+
   -- list, spare slots and place
   abbrev pub tiny_view : TinyVec (List T) T (UpTo n) → TinyView T
   tiny_view v = record {
     items = tiny_items v;
     spare = tiny_spare v;
-    place = record { inline = inline_by v; capacity = tiny_capacity v; lender = tt };
+    place = record { inline = is_inline v; capacity = tiny_capacity v; lender = tt };
   }
-
-  -- `v.is_inline()`
-  abbrev pub is_inline : TinyVec (List T) T (UpTo n) → Bool
-  is_inline v = (tiny_view v).place.inline
-
-  -- the list is in the array
-  abbrev pub IsInline : TinyVec (List T) T (UpTo n) → Type 0
-  IsInline v = IsTrue (tiny_view v).place.inline
