@@ -339,7 +339,7 @@ class Page:
         """A row for each section, for this page or another."""
         for section in self.order:
             title, found = self.title(section), [it for it in self.sections[section] if not it.is_part]
-            links = ", ".join(it.link(page, it.trait) for it in found)
+            links = ", ".join(it.link(page, it.trait) for it in found) or "traits and functions, by name"
             yield f"| [{title}]({page and f'{page}.md'}#{anchor(title)}) | {links} |\n"
 
     def text(self):
