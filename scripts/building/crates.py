@@ -1,4 +1,4 @@
-"""The crates of this repository: their files, what they use, and whether what is built of them is of these very files."""
+"""The crates of this repository: their files, what they use, and whether what was built of one is up to date."""
 import functools
 import hashlib
 import os

@@ -1,8 +1,10 @@
-"""Tables in Markdown of what is measured: here, and how much of each peer's that is. Documents quote them: a table after a
-comment with the name of the results whose first one it is, or with `means`, of the least and the most of each vector over each
-peer; and a number before a comment that names its cell, by a row, its capacity and the peer, as 3.7<!-- rust tiny_long_push 64
-tinyvec -->, or by a line of means and a capacity, as 0.6<!-- rust ArrayVec over tinyvec 4 -->. There `least` and `most` stand for
-those over all capacities."""
+"""Tables in Markdown of what is measured: a number here, and its ratio to each peer's.
+
+Documents quote them. `<!-- programs -->` stands before the first table of bench/results/programs.md, `<!-- means -->` before one
+of the least and the most means of each vector over each peer. A number stands before a comment that names its cell: a row, its
+capacity and the peer, as 3.7<!-- rust tiny_long_push 64 tinyvec -->, or a line of means and a capacity, as 0.6<!-- rust ArrayVec
+over tinyvec 4 -->, where `least` and `most` are those over all capacities.
+"""
 import functools
 import re
 import statistics

@@ -1,1 +1,1 @@
-"""Writes the pages of docs/reference."""
+"""Writes the pages of docs/reference, and holds pages to what they speak of."""
