@@ -1,4 +1,4 @@
--- Words of the crates below, so that a caller names one crate.
+-- Words of the crates below that the contracts here cite.
 pub use Rattle.tinyvec_slots.specs.Slots
 pub use Rattle.tinyvec_slots.specs.Ranges
 pub use Rattle.tinyvec_slots.specs.Ends
