@@ -1,6 +1,6 @@
 """What pages claim, against what they claim it of. `tests/docs` tells what is wrong.
 
-- A lemma that a table "Which lemma to use" names is used by the first caller of its row: a folder or a file of proofs, of
+- A lemma that a table "Which lemma to use" names is used by a caller of its row: a folder or a file of proofs, of
   tinyvec_examples if no path says otherwise.
 - What DIFFERENCES has below "Beyond the crate" is not the Rust crate's by tests/surface.txt.
 - A page that quotes bench/results names no other kit than they were measured with.

@@ -10,8 +10,8 @@ IsOfInput Io = ⊥
 IsOfInput Memory = ⊥
 IsOfInput error = Unit {0}
 
--- No input is two of these: one that begins with the spelling of a content that fits, and one that is refused for each
--- reason. A spelling is not cut, of whatever content; a front of one of what fits, some byte short of it, is, and so is no byte.
+-- No input is two of these: one that begins with the encoding of a content that fits, and one that is refused for each
+-- reason. An encoding is not cut, of whatever content; a front of one of what fits, some byte short of it, is, and so is no byte.
 pub record AreApart {C : Type 0} (Spells : C → List ℕ → Type 0) (Fits : C → Type 0) (Reason : BorshError → List ℕ → Type 0) : Type 0 where
   pub spelled_or_cut : (c : C) (bytes rest : List ℕ) → Spells c bytes → Reason Ended (bytes ++ rest) → ⊥
   pub fits_or_refused : (e : BorshError) → IsOfInput e → (c : C) (bytes rest : List ℕ) → Fits c → Spells c bytes → Reason e (bytes ++ rest) → ⊥

@@ -1,9 +1,9 @@
--- Two contents, spelled one after the other: what a struct is, field by field.
+-- Two contents, encoded one after the other: what a struct is, field by field.
 use Rattle.std.specs.Prelude.{ℕ, ◌⊎◌, List}
 use Rattle.tinyvec_borsh.specs.TwoParts.{HasParts}
 use Rattle.tinyvec_borsh.specs.declared.borsh_error.BorshError.{BorshError}
 
--- the spelling of the first, and then that of the second
+-- the encoding of the first, and then that of the second
 abbrev pub SpellsBoth : {A B : Type 0} → (A → List ℕ → Type 0) → (B → List ℕ → Type 0) → A × B → List ℕ → Type 0
 SpellsBoth SpellsFirst SpellsSecond both bytes = HasParts (SpellsFirst both.0) (SpellsSecond both.1) bytes
 

@@ -1,4 +1,4 @@
--- If two spellings are codes, so is the one after the other, and no input is two of fitting and refused for a reason.
+-- If two encodings are codes, so is the one after the other, and no input is two of fitting and refused for a reason.
 use Rattle.std.proofs.Common.{◌≡◌, ◌∙◌, sym, subst, ℕ, inl, inr, List, ◌++◌, arith}
 use Rattle.tinyvec_borsh.specs.Code.{IsCode}
 use Rattle.tinyvec_borsh.specs.Apart.{AreApart}

@@ -1,4 +1,4 @@
--- Where the fronts of spellings are cut, so are those of what is made of them.
+-- Where the fronts of encodings are cut, so are those of what is made of them.
 use Rattle.std.proofs.Common.{◌≡◌, ◌∙◌, ap, sym, subst, ℕ, ◌+◌, ◌<◌, ◌≤◌, ◌⊎◌, inl, inr, List, [], ◌∷◌, ◌++◌, length, refl, arith, append-nil, le_refl, length-append}
 use Rattle.std.specs.List.{AllByRecursion}
 use Rattle.tinyvec_borsh.specs.Both.{BothFit, InEither, SpellsBoth}
@@ -76,7 +76,7 @@ module _ {C : Type 0} (Spells : C → List ℕ → Type 0) (Fits : C → Type 0)
       | inr s ↦ one-before c cs p.first s.0 front fit.0 p.is_first s.1 (cut-items cs s.0 back some fit.1 (subst (SpellsItems Spells cs) s.2 p.is_rest))
     ]
 
-    -- a front of the items' spelling, the whole of it too
+    -- a front of the items' encoding, the whole of it too
     pub items-fronts : P [] → (cs : List C) (front back : List ℕ) → AllByRecursion Fits cs → SpellsItems Spells cs (front ++ back) → HasFirst cs front
     items-fronts none cs front [] fit p = record {
       first = cs;

@@ -15,7 +15,7 @@ abbrev pub CountsAbove : ℕ → List ℕ → Type 0
 CountsAbove most input = (n : ℕ) × (most < n) × HasParts (IsCount n) (λ _. Unit {0}) input
 
 module _ {C : Type 0} (Spells : C → List ℕ → Type 0) where
-  -- the spellings of the items, one after another
+  -- the encodings of the items, one after another
   abbrev pub SpellsItems : List C → List ℕ → Type 0
   SpellsItems [] bytes = bytes ≡ []
   SpellsItems (c ∷ cs) bytes = HasParts (Spells c) (SpellsItems cs) bytes
@@ -63,14 +63,14 @@ module _ {C : Type 0} (Spells : C → List ℕ → Type 0) (Fits : C → Type 0)
     pub parts : HasParts (SpellsItems Spells items) (Reason error) input
     pub open parts use *
 
-  -- The count is above the room, and one item more than the room was spelled.
+  -- The count is above the room, and one item more than the room was encoded.
   pub record HasTooMany (room : ℕ) (input : List ℕ) : Type 0 where
     pub has : HasItems input
     pub open has use *
     pub over : length items ≡ room + 1
     pub above : room < len
 
-  -- At least as many items as this were spelled, and the count is no less. If just as many were, only one more is to come.
+  -- At least as many items as this were encoded, and the count is no less. If just as many were, only one more is to come.
   pub record HasMoreItems (most : ℕ) (input : List ℕ) : Type 0 where
     pub has : HasItems input
     pub open has use *

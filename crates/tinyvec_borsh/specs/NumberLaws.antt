@@ -1,4 +1,4 @@
--- The spelling of whole numbers is a code, and no other input is read.
+-- The encoding of whole numbers is a code, and no other input is read.
 use Rattle.std.proofs.Common.{◌≡◌, ◌∙◌, ap, sym, subst, ℕ, ◌+◌, ◌*◌, ◌/◌, ◌%◌, ◌-◌, ◌^◌, ◌<◌, ◌≤◌, zero, suc, List, [], ◌∷◌, ◌++◌, length, take, get_or, refl, arith, append-nil, length-append}
 use Rattle.std.specs.List.{AllByRecursion}
 use Rattle.std.proofs.Math.Nat.{div-div-eq-div-mul, mul_assoc}
@@ -31,7 +31,7 @@ number_code width some = record {
       sym p.value ∙ ap number_of (sym (append-nil a) ∙ ap (λ l. a ++ l) (sym none)) ∙ q.value;
 }
 
--- If each spelling has `width` bytes, an input with fewer is cut, and refused for no other reason.
+-- If each encoding has `width` bytes, an input with fewer is cut, and refused for no other reason.
 pub apart_by_length : {C : Type 0} (width : ℕ) → 0 < width → (Spells : C → List ℕ → Type 0) (Fits : C → Type 0) → ((c : C) (bytes : List ℕ) → Spells c bytes → length bytes ≡ width) → AreApart Spells Fits (TooFewBytes width)
 apart_by_length width some Spells Fits many = record {
   spelled_or_cut = λ c bytes rest p cut. omega (arith, cut.1, many c bytes p, length-append bytes rest);

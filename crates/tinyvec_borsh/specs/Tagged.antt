@@ -1,7 +1,7 @@
--- A byte before a spelling, as the tag of a record.
+-- A byte before an encoding, as the tag of a record.
 use Rattle.std.specs.Prelude.{◌≡◌, ℕ, List, ◌∷◌}
 
--- the tag, and then the spelling
+-- the tag, and then the encoding
 abbrev pub SpellsTagged : {C : Type 0} → ℕ → (C → List ℕ → Type 0) → C → List ℕ → Type 0
 SpellsTagged tag Spells c bytes = (rest : List ℕ) × Spells c rest × (bytes ≡ tag ∷ rest)
 

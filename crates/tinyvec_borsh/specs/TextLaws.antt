@@ -1,4 +1,4 @@
--- The spelling of texts is a code, and no input is two of fitting and refused for a reason.
+-- The encoding of texts is a code, and no input is two of fitting and refused for a reason.
 use Rattle.std.proofs.Common.{◌≡◌, subst, ℕ, ◌-◌, ◌^◌, ◌<◌, List, ◌++◌, refl, lit<, IsUtf8}
 use Rattle.tinyvec_borsh.specs.Apart.{AreApart, IsOfInput}
 use Rattle.tinyvec_borsh.specs.Both.{IsBehind}

@@ -10,7 +10,7 @@ use tinyvec_io::Counted;
 
 /// What can be written.
 pub trait BorshSerialize: BorshForm {
-    /// Writes the spelling of the value's content.
+    /// Writes the encoding of the value's content.
     fn serialize<W: Write>(&self, writer: &mut Counted<W>) -> Result<(), BorshError>
         ensures writes { WritesValue W.contents (Self.Spells (Self.content_of self.now)) writer.old writer.new result }
         ensures valid { OnOk result (Self.Fits (Self.content_of self.now)) };

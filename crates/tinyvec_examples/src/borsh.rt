@@ -11,7 +11,7 @@ use tinyvec::{Array, ArrayVec, TinyVec};
 use tinyvec_borsh::{BorshDeserialize, BorshError, BorshSerialize};
 use tinyvec_io::Counted;
 
-/// If the input begins with the spelling of a content that fits, a value of that content is read, and what follows
+/// If the input begins with the encoding of a content that fits, a value of that content is read, and what follows
 /// stays unread, unless the reader faults or memory is refused.
 pub fn read_back<T: BorshDeserialize, R: Read>(
     alloc: Global,
