@@ -1,7 +1,6 @@
 -- The turns of the loop under `extract_if`, and what its steps yield. Of the items that were turned down `ExtractsNext` says that
 -- a call found none among them.
 use Rattle.std.proofs.Common.{◌≡◌, ℕ, ◌+◌, ◌-◌, ◌<◌, ◌≤◌, Bool, true, false, List, [], ◌∷◌, ◌++◌, length, get_or, set, take, drop, slice_range, Option, Some, None, refl, sym, ap, ◌∙◌, subst, arith, append-nil, append_assoc, drop-set-lt, length-set}
-use Rattle.std.proofs.Math.Seq.{take-add}
 use Rattle.std.proofs.lemmas.Grind.{drop_more_same}
 use Rattle.std.proofs.lemmas.List.{take-set-le, get_or-set_same, drop-drop}
 use Rattle.std.proofs.lemmas.List.Edits.{between_none}
@@ -13,15 +12,7 @@ use Rattle.std.specs.Iterator.{Yields}
 use Rattle.std.specs.List.Retain.{ExtractsNext, IsChosenBy}
 use Rattle.tinyvec_slots.specs.Extracting.{EachIsChosen, ExtractSteps}
 use Rattle.tinyvec_slots.specs.declared.extracting.ExtractIf.{ExtractIf}
-use Rattle.tinyvec_slots.proofs.Lists.{slice_range_first}
-use Rattle.tinyvec_slots.proofs.FiltersLemmas.{item_at}
-
--- a range in two parts
-parted : {X : Type 0} (xs : List X) (i j k : ℕ) → i ≤ j → j ≤ k → slice_range xs i k ≡ slice_range xs i j ++ slice_range xs j k
-parted xs i j k low high =
-    let whole : k - i ≡ j - i + (k - j) = omega arith in
-    let there : i + (j - i) ≡ j = omega arith in
-    rw (whole, take-add (j - i) (k - j) (drop i xs), drop-drop (j - i) i xs, there) refl
+use Rattle.tinyvec_slots.proofs.Lists.{item_at, one_item, parted, slice_range_first}
 
 -- R turned down the items of us, and the next call goes on at vs
 then_asks : {S X : Type 0} (R : S → X → Bool → S → X → Type 0) (s t u : S) (us ks vs kept rest : List X) (r : Option X)
@@ -79,8 +70,7 @@ module _ {S X : Type 0} (R : S → X → Bool → S → X → Type 0) (s : S) (x
           → take (i - gap + 1) zs ≡ take (i - gap) (set ys i y) ++ take 1 (drop i (set ys i y)) → TurnedDown u zs (i + 1)
       turned_more zs asked behind moved =
           let on : i + 1 - gap ≡ i - gap + 1 = omega arith in
-          let one : i + 1 - i ≡ 1 = omega arith in
-          let shown : slice_range xs i (i + 1) ≡ x ∷ [] = ap (λ n. take n (drop i xs)) one ∙ ap (take 1) (sym h.later) ∙ item_at ys i x (omega arith) is in
+          let shown : slice_range xs i (i + 1) ≡ x ∷ [] = ap (take (i + 1 - i)) (sym h.later) ∙ one_item ys i (i + 1) x refl (omega arith) is in
           let left = item_at (set ys i y) i y (omega (arith, length-set ys i y)) (sym (get_or-set_same ys i y y (omega arith))) in record {
             kept = h.kept ++ y ∷ [];
             asked = rw (parted xs (front + gap) i (i + 1) low (omega arith), shown)

@@ -4,9 +4,10 @@ use Rattle.std.proofs.Common.{length-take}
 use Rattle.std.proofs.Math.Seq.{take-add}
 use Rattle.std.proofs.lemmas.Bool.{cases_eq}
 use Rattle.std.proofs.lemmas.Grind.{drop_more_same, common_steps}
-use Rattle.std.proofs.lemmas.List.{same_lists, places, same_from_push, drop_more, get_or-set_same, set-get_or, take-set-le, take_more, take_more_set}
+use Rattle.std.proofs.lemmas.List.{same_lists, places, same_from_push, get_or-set_same, set-get_or, take-set-le, take_more, take_more_set}
 use Rattle.std.specs.List.{items_where_true}
 use Rattle.std.specs.List.Retain.{RetainsInTurn, IsFiltered, DedupsFrom, DedupsAll, IsDeduped}
+use Rattle.tinyvec_slots.proofs.Lists.{item_at}
 use Rattle.tinyvec_slots.specs.Filters.{AsksPair, RetainsTo, IsFilteredTo, DedupsFromTo, DedupsAllTo, IsDedupedTo}
 
 -- W holds of the first i items of xs and of the k that stay of them, which stand in front of ys. The others were not shown yet.
@@ -15,9 +16,6 @@ pub record Shown {X : Type 0} (W : List X → List X → Type 0) (xs ys : List X
   pub later : drop i ys ≡ drop i xs
 
 module _ {X : Type 0} where
-  pub item_at : (xs : List X) (i : ℕ) (x : X) → i < length xs → x ≡ get_or xs i x → take 1 (drop i xs) ≡ x ∷ []
-  item_at xs i x lt is = rw (drop_more xs i x lt, ← is)
-
   -- a write of what stands there
   pub rewritten : (xs : List X) (i : ℕ) (x : X) → x ≡ get_or xs i x → xs ≡ set xs i x
   rewritten xs i x is = sym (ap (set xs i) is ∙ set-get_or xs i x)
@@ -55,7 +53,10 @@ module _ {S X : Type 0} (R : S → X → Bool → S → X → Type 0) where
   asked_more : (s t u : S) (xs ys : List X) (x y : X) (b : Bool) → RetainsTo R s xs ys t → R t x b u y → RetainsTo R s (xs ++ x ∷ []) (ys ++ cond b (y ∷ []) []) u
   asked_more s t u [] ys x y b h asked = (b, u, y, subst (λ v. R v x b u y) h.1 asked, [], (refl, refl), ap (λ l. l ++ cond b (y ∷ []) []) h.0)
   asked_more s t u (z ∷ xs) ys x y b (c, v, w, first, zs, rest, is) asked = (
-    c, v, w, first,
+    c,
+    v,
+    w,
+    first,
     zs ++ cond b (y ∷ []) [],
     asked_more v t u xs zs x y b rest asked,
     ap (λ l. l ++ cond b (y ∷ []) []) is ∙ in_front c w zs (cond b (y ∷ []) []),
@@ -196,9 +197,9 @@ module _ {S X : Type 0} (R : S → X → X → Bool → S → X → X → Type 0
       turned_pair ms j behind front =
           shown_more _ xs ys k i h _ ms j a.shown lt a.shows.0 (behind ∙ left_behind)
           (λ us so_far.
-              let last = last_of_all s us (take k ys) t (omega (arith, length-take k ys)) so_far in
-              let same = same_from_push last.before (take (k - 1) ys) last.beside a.beside (sym last.stayed ∙ kept_so_far) in
-              rw (front, ← same.0) (last.more b a.shown a.left a.left_beside u (rw same.1 a.asked)))
+          let last = last_of_all s us (take k ys) t (omega (arith, length-take k ys)) so_far in
+          let same = same_from_push last.before (take (k - 1) ys) last.beside a.beside (sym last.stayed ∙ kept_so_far) in
+          rw (front, ← same.0) (last.more b a.shown a.left a.left_beside u (rw same.1 a.asked)))
 
     pub drops_repeat : AsksPair R t ys i (k - 1) true u zs → Shown (λ us vs. IsDedupedTo R s us vs u) xs zs k (i + 1)
     drops_repeat a = turned_pair true a zs k refl (left_front true a)

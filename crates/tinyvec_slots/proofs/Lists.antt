@@ -2,6 +2,8 @@
 use Rattle.std.proofs.Common.{◌≡◌, ℕ, suc, add-one, refl, ◌+◌, ◌-◌, ◌*◌, ◌<◌, ◌≤◌, min, List, [], ◌∷◌, ◌++◌, length, get_or, take, drop, set, insert, remove, slice_range, sym, ap, ◌∙◌, arith, rules, drop-set-lt, length-set, take_at, length-append}
 use Rattle.std.proofs.lemmas.List.{same_lists, places, same_from_push, get_or-set_same, get_or_default, get_or-drop, drop-drop, drop_more, take_min, drop_min, take-set-le}
 use Rattle.std.specs.List.{remove_range}
+use Rattle.std.proofs.Math.Seq.{take-add}
+use Rattle.std.proofs.lemmas.Slice.{between_is}
 use lib.Seq.{paste}
 use Rattle.std.proofs.lemmas.Bool.{cases_eq, cases_lt}
 
@@ -19,20 +21,37 @@ module _ {X : Type 0} where
   pub drop-vacated : (xs : List X) (n : ℕ) (d : X) → 0 < n → n ≤ length xs → drop (n - 1) (set xs (n - 1) d) ≡ d ∷ drop n xs
   drop-vacated xs n d pos le = same_lists _ _ (search (rules, places)) (λ k e h. grind (arith, places, get_or-set_same, cases_eq k 0))
 
-  -- a write at the first place of a range leaves the rest of the range
+  -- what stands at i, as a list
+  pub item_at : (xs : List X) (i : ℕ) (x : X) → i < length xs → x ≡ get_or xs i x → take 1 (drop i xs) ≡ x ∷ []
+  item_at xs i x lt is = rw (drop_more xs i x lt, ← is)
+
+  pub one_item : (xs : List X) (i j : ℕ) (x : X) → j ≡ i + 1 → i < length xs → x ≡ get_or xs i x → slice_range xs i j ≡ x ∷ []
+  one_item xs i j x next lt is =
+      let one : j - i ≡ 1 = omega (arith, next) in
+      ap (λ n. take n (drop i xs)) one ∙ item_at xs i x lt is
+
+  -- a range in two parts
+  pub parted : (xs : List X) (i j k : ℕ) → i ≤ j → j ≤ k → slice_range xs i k ≡ slice_range xs i j ++ slice_range xs j k
+  parted xs i j k low high =
+      let whole : k - i ≡ j - i + (k - j) = omega arith in
+      let there : i + (j - i) ≡ j = omega arith in
+      rw (whole, take-add (j - i) (k - j) (drop i xs), drop-drop (j - i) i xs, there) refl
+
+  -- the first item of a range, whose slot may be written then, and the items behind it
   pub slice_range_first : (xs : List X) (i j : ℕ) (x d : X) → i < j → j ≤ length xs
       → x ≡ get_or xs i x → slice_range xs i j ≡ x ∷ slice_range (set xs i d) (i + 1) j
   slice_range_first xs i j x d lt le is =
-      let count : j - i ≡ suc (j - (i + 1)) = omega arith in
-      rw (drop_more xs i x (omega arith), count, ← is, drop-set-lt (i + 1) xs i d (omega arith))
+      rw (parted xs i (i + 1) j (omega arith) (omega arith), one_item xs i (i + 1) x refl (omega arith) is, drop-set-lt (i + 1) xs i d (omega arith)) refl
 
-  -- and so at the last
+  -- the last one so, and those in front of it
   pub slice_range_last : (xs : List X) (i j : ℕ) (x d : X) → i < j → j ≤ length xs
       → x ≡ get_or xs (j - 1) x
       → slice_range xs i j ≡ slice_range (set xs (j - 1) d) i (j - 1) ++ x ∷ []
   slice_range_last xs i j x d lt le is =
-      let long = length-set xs (j - 1) d in
-      same_lists _ _ (search (rules, places)) (λ k e h. grind (arith, places, cases_eq (i + k) (j - 1), get_or_default xs (j - 1) e x))
+      let others : slice_range xs i (j - 1) ≡ slice_range (set xs (j - 1) d) i (j - 1) =
+      between_is xs i (j - 1) ∙ ap (drop i) (sym (take-set-le (j - 1) xs (j - 1) d (omega arith))) ∙ sym (between_is (set xs (j - 1) d) i (j - 1)) in
+      parted xs i (j - 1) j (omega arith) (omega arith) ∙ ap (λ l. slice_range xs i (j - 1) ++ l) (one_item xs (j - 1) j x (omega arith) (omega arith) is)
+      ∙ ap (λ l. l ++ x ∷ []) others
 
   -- what stands at i of lists that are one from i on
   pub same_at : (xs ys : List X) (i : ℕ) (d : X) → drop i xs ≡ drop i ys → get_or xs i d ≡ get_or ys i d

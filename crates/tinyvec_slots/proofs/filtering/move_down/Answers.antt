@@ -1,6 +1,7 @@
 use Rattle.std.proofs.Common.{◌≡◌, ℕ, ◌+◌, ◌<◌, ◌≤◌, List, ◌++◌, length, take, drop, set, get_or, ◌∙◌, le_refl, arith, length-set, drop-set-lt}
 use Rattle.std.proofs.lemmas.List.{take-set-le, take_more_set}
-use Rattle.tinyvec_slots.proofs.FiltersLemmas.{item_at, swap_behind, swap_before, swap_front}
+use Rattle.tinyvec_slots.proofs.Lists.{item_at}
+use Rattle.tinyvec_slots.proofs.FiltersLemmas.{swap_behind, swap_before, swap_front}
 use Rattle.tinyvec_slots.proofs.filtering.move_down.Goals as goal
 
 module _ {X : Type 0} (xs : List X) (k i : ℕ) (le : k ≤ i) (lt : i < length xs) where
