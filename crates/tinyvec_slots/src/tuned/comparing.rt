@@ -138,9 +138,10 @@ fn order_at<T: Ord>(a: &[T], b: &[T], first: usize) -> Ordering
 pub fn hash_items<T: Hash, H: Hasher>(items: &[T], state: &mut H)
     ensures { state.new ≡ fold H.write state.old (fed.slice T.hash_input items.now) }
 {
-    state.write_usize(items.len());
-    for i in 0..items.len() {
-        items[i].hash(state);
+    let count = items.len();
+    state.write_usize(count);
+    for item in items {
+        item.hash(state);
     }
 }
 
