@@ -54,16 +54,16 @@ module _ {V T : Type 0} (g : CanDrain.Ghosts V T) where
 
 -- of a vector whose takes keep what they keep together
 module _ {V T : Type 0} (g : CanDrain.Ghosts V T) (kept_same : (v : V) → g.Kept v v) (kept_then : (u v w : V) → g.Kept u v → g.Kept v w → g.Kept u w) where
-  -- each state that calls of `next` lead to keeps what the first keeps
+  -- no run of `next` changes what the drain keeps
   pub yields-keeps : (d : Drain V T) (items : List T) (later : Drain V T) → Yields (DrainSteps g) d items later → DrainKeeps g d later
   yields-keeps d [] later y = subst (DrainKeeps g d) y (DrainKeeps-refl g kept_same d)
   yields-keeps d (x ∷ xs) later y = DrainKeeps-then g kept_then d y.0 later y.1.1 (yields-keeps y.0 xs later y.2)
 
-  -- so does what `nth` leads to
+  -- nor does `nth`
   pub nth-keeps : (d : Drain V T) (n : ℕ) (r : Option T) (e : Drain V T) → SkipsThenYields (DrainSteps g) d n r e → DrainKeeps g d e
   nth-keeps d n r e h = DrainKeeps-then g kept_then d h.1.0 e (yields-keeps d h.0 h.1.0 h.1.1) h.1.2.1
 
-  -- and each state that a word of ends leads to
+  -- nor does a word of ends
   word-keeps : (d : Drain V T) (word : List End) (answers : List (Option T)) (later : Drain V T) → RunsWord (DrainSteps g) (DrainStepsBack g) d word answers later → DrainKeeps g d later
   word-keeps d [] [] later is = subst (DrainKeeps g d) (sym is) (DrainKeeps-refl g kept_same d)
   word-keeps d [] (r ∷ answers) later asks = absurd asks

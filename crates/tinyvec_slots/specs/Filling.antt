@@ -61,7 +61,8 @@ module _ {U S A V : Type 0} (becomes : U → S → Type 0) (steps : S → Option
         (λ refused. Lists refused.vec (take n (rest it)) × (drop n (rest it) ≡ refused.item ∷ rest refused.rest))
     pub known : (xs : List A) → IntoIterYields becomes steps iter xs → length xs ≤ n → IsOk r × IfOk r (λ v. Lists v xs)
 
--- new is old, followed by what calls of f returned, one after another, the last of which left `last`: `AppendsResults`, with the last state
+-- The list grew from old to new by an item for each of some calls of f, in their order, which left f as `last`: `AppendsResults`,
+-- with the last state.
 abbrev pub AppendsResultsTo : {F X : Type 0} → (F → X → F → Type 0) → List X → List X → F → F → Type 0
 AppendsResultsTo {F} {X} step old new f last = (ys : List X) × (new ≡ old ++ ys) × FoldsTo step f ys last
 

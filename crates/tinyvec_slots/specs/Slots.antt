@@ -1,4 +1,4 @@
--- The list and the spare slots, what is a default, and what a change of the list does to the spare slots.
+-- The list, the spare slots behind it, and how they change together.
 use Rattle.std.specs.Prelude.{◌≡◌, ℕ, ◌-◌, ◌≤◌, List, ◌++◌, length, take, drop, All}
 
 -- all the slots, and how many of them hold the list

@@ -11,8 +11,7 @@ use crate::authors::subslice;
 use crate::touches::Touches;
 use std::iter::Fuse;
 
-/// The part of a list that a splice has not finished yet, and how often it touched slots. A touch is one slot read out with
-/// the default that it may leave, one item placed in a slot, or two slots swapped.
+/// The part of a list that a splice has not finished yet, with the `Touches` of its slots.
 #[derive(Debug, Drop)]
 pub struct Gap {
     // Items before `front` and from `back` on are placed, or stay.

@@ -149,8 +149,7 @@ where
 impl<'a, V: CanSplice, I: Iterator<Item = V::Item>> Splice<'a, V, Fuse<I>> {
     ghost use Rattle.tinyvec_slots.specs.Splice.{splice_view, splice_front, splice_back, splice_replacement, splice_vec, splice_touches, SpliceCanStep, SpliceCanNext, SpliceEnds};
 
-    /// The number of touches since `splice`. A touch takes the item of one slot, which may leave a default there, places
-    /// one item, or swaps two slots.
+    /// The number of touches since `splice`, as `Touches` counts them.
     pub fn touches(&self) -> u128
         ensures { result ≡ splice_touches V.items self.now }
     {

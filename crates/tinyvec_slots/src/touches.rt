@@ -9,8 +9,8 @@ ghost use Rattle.tinyvec_slots.specs.Touches.{touch_count, FitsBits};
 
 use std::mem;
 
-/// Reaches slots, and counts how often: a touch is one slot read out with the default that it may leave, one item placed
-/// in a slot, or two slots swapped.
+/// Reaches slots, and counts the touches. A touch takes an item out, whether or not a default takes its place, puts an item in,
+/// or swaps two slots.
 #[derive(Debug, Drop)]
 pub struct Touches {
     count: u128,
