@@ -9,7 +9,7 @@ ghost use Rattle.std.specs.List.{swap_remove, SwappedAt};
 use crate::parts::{part_of, slot_of};
 use crate::tuned::indexing::{bounded_index, bounded_len, prefers_shifting_in};
 use crate::tuned::resetting::fill_default;
-use crate::tuned::shifting::{insert_shifting, last_to};
+use crate::tuned::shifting::insert_within;
 use crate::{ArrayVec, Slots};
 use std::mem;
 use tinyvec_slots::authors::{remove_shifting, replace_within};
@@ -105,13 +105,7 @@ impl<S: Slots> ArrayVec<S> {
         let len = self.len();
         let are_few = prefers_shifting_in(&self.slots, index, len);
         self.len = self.slots.to_len(len + 1);
-        let slots = self.slots.as_slice_mut();
-        if are_few {
-            insert_shifting(slots, index, len, element);
-            return;
-        }
-        slots[len] = element;
-        last_to(slots, index, len + 1);
+        insert_within(self.slots.as_slice_mut(), index, len, element, are_few);
     }
 
     // Swaps the items at `i` and `j`.

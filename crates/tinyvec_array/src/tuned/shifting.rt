@@ -1,13 +1,27 @@
 //! Items moved within slots.
-ghost use Rattle.std.specs.Prelude.{◌≡◌, ◌+◌, ◌<◌, ◌≤◌, List, [], ◌∷◌, ◌++◌, length, take, drop, slice_range, insert};
+ghost use Rattle.std.specs.Prelude.{◌≡◌, ◌+◌, ◌<◌, ◌≤◌, [], ◌∷◌, ◌++◌, length, take, drop, slice_range, insert};
 ghost use Rattle.std.specs.List.{remove_range};
 ghost use Rattle.tinyvec_slots.specs.Ranges.{Within};
 
 use std::mem;
 use tinyvec_slots::authors::move_to_end;
 
-// Inserts `x` at `index` into the first `len` items, which overwrites the item at `len`.
-pub(crate) fn insert_shifting<T: Drop>(slots: &mut [T], index: usize, len: usize, x: T)
+// Inserts `x` at `index` into the first `len` items, which overwrites the item at `len`: by a loop if `are_few` move up.
+#[inline(always)]
+pub(crate) fn insert_within<T: Drop>(slots: &mut [T], index: usize, len: usize, x: T, are_few: bool)
+    requires in_list { index ≤ len }
+    requires room { len < length slots.old }
+    ensures { slots.new ≡ insert (take len slots.old) index x ++ drop (len + 1) slots.old }
+{
+    if are_few {
+        insert_shifting(slots, index, len, x);
+        return;
+    }
+    slots[len] = x;
+    slots[index..=len].rotate_right(1);
+}
+
+fn insert_shifting<T: Drop>(slots: &mut [T], index: usize, len: usize, x: T)
     requires in_list { index ≤ len }
     requires room { len < length slots.old }
     ensures { slots.new ≡ insert (take len slots.old) index x ++ drop (len + 1) slots.old }
@@ -38,22 +52,4 @@ pub(crate) fn move_to_end_below<T>(slots: &mut [T], start: usize, end: usize, le
         ++ drop len slots.old }
 {
     move_to_end(&mut slots[..len], start, end);
-}
-
-// Moves the last item to `index`, and the items from there on up.
-fn move_last<T>(items: &mut [T], index: usize)
-    requires { index < length items.old }
-    ensures { (front : List T) (last : T) → items.old ≡ front ++ last ∷ [] → items.new ≡ insert front index last }
-{
-    items[index..].rotate_right(1);
-}
-
-// Moves the last item below `len` to `index`, and the items from there on up.
-pub(crate) fn last_to<T>(slots: &mut [T], index: usize, len: usize)
-    requires in_list { index < len }
-    requires in_bounds { len ≤ length slots.old }
-    ensures { (front : List T) (last : T) → take len slots.old ≡ front ++ last ∷ []
-        → slots.new ≡ insert front index last ++ drop len slots.old }
-{
-    move_last(&mut slots[..len], index);
 }
