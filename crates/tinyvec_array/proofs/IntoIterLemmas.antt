@@ -1,4 +1,4 @@
--- What calls of `next` and `next_back` give, for an iterator that is seen as the list of what is left.
+-- What a contract says of an `IntoIter`'s runs, whose state is the list of its items.
 use Rattle.std.proofs.Common.{◌≡◌, ◌<◌, ◌^◌, List, length, ap}
 use Rattle.std.specs.Iterator.Runs.{YieldsInOrder, YieldsInReverse}
 use Rattle.std.proofs.iter.runs.Sources.{from_front, from_back, as_is, as_is_back}

@@ -38,7 +38,7 @@ use prog.Routine.{Routine}
 use types.Logic.{Logic, sem}
 use types.Kit.{Item, Goal, prop, Step, Sq, mean, ⋆, raw, some, later, qed, join, use1, use2, updating, now, show, check, rewrite}
 use contract.BorrowLft.{◌⊑◌}
-use contract.Lifetimes.{Lfts, Shares, AllOutlive}
+use contract.Lifetimes.{Lfts, Shares, AllOutlive, toks}
 use contract.Monad.{Fun, fact}
 use denote.Array.{Array}
 use denote.Follow.{follows, follows_then}
@@ -86,7 +86,7 @@ module _ (Z : Par) {M : Type 1} {𝓤 : Ura M} (𝓛 : Logic 𝓤) (at_mem : Mem
     asked = ((κs, qs, bounds, (self, tt), (mut_vals self, tt)), tt)
 
     abbrev Tokens : Item 𝓤
-    Tokens = ‵ (flft κs.0 qs.0) ⊛ ‵ (flft κs.1.0 qs.1.0) ⊛ ‵ (flft κs.1.1.0 qs.1.1.0) ⊛ ‵ (flft κs.1.1.1.0 qs.1.1.1.0) ⊛ ‵ ftrue
+    Tokens = ‵ (flft κs.0 qs.0) ⊛ raw (toks 𝓛 3 κs.1 qs.1)
 
     -- what is had on entry: Q of the other parameters, and C of the clauses
     abbrev Entry : Fml → Item 𝓤 → List (Item 𝓤)

@@ -1,21 +1,19 @@
 -- Lemmas for proofs by hand of functions that lend on a part of a slice, which a call lent them.
 use mathlib.Core.Path.{◌≡◌, refl, sym, ap, ◌∙◌}
-use Prim.Native.Nat.{ℕ, zero, suc, ◌+◌, ◌-◌, ◌*◌, ◌^◌, ◌<◌, ◌≤◌}
-use native.Mathlib.Nat.{zero-mul, suc-mul, mul-le-mul_right}
+use Prim.Native.Nat.{ℕ, ◌+◌, ◌-◌, ◌*◌, ◌^◌, ◌<◌, ◌≤◌}
+use native.Mathlib.Nat.{mul-le-mul_right}
 use native.Mathlib.Omega.{arith}
 use mathlib.Core.List.{List, [], ◌∷◌, ◌++◌}
 use seplogic.Ra.Ura.{Ura}
 use mir.Syntax.{named}
 use mir.Val.{Val, vptr}
-use base.Logic.{SProp, ent, sep, ex, wand, all, all_e, apply∗}
+use base.Logic.{SProp, ent, sep, ex}
 use base.Stored.{coded_list}
-use base.Fml.{Fml, Lft, GName, Share, flft, fsep, fobs, fbor, fwand}
-use prog.Memory.{capped}
-use prog.Capped.{capped_is}
+use base.Fml.{Fml, Lft, GName, Share, flft, fsep, fobs, fbor}
 use types.Logic.{Logic, sem}
 use types.Mut.{open_ref}
 use types.Follow.{takes_part}
-use types.Kit.{‵, ◌⊛◌, raw, some, later, ◌$◌, ◌∵◌, !, qed, move, drop, split, split3, fsplit, fsplit3, fjoin, fjoin3, use1, use2, await, pick, done, updating, group, now, show, rewrite, feq_l, feq_i}
+use types.Kit.{Item, ‵, ◌⊛◌, some, later, ◌$◌, ◌∵◌, !, qed, move, drop, split, split3, fsplit, fsplit3, fjoin, fjoin3, use1, use2, use3, await, pick, done, updating, group, now, show, rewrite, feq_l, feq_i}
 use types.SemTy.{SemTy, cells, Arr, Body}
 use denote.Array.{Array}
 use denote.Follow.{follows}
@@ -24,17 +22,13 @@ use denote.Memory.{mem}
 use denote.RattleType.{RattleType}
 use denote.Ref.{MutRef}
 use denote.Slice.{MutSlice, Room, slice_val}
-use lib.ListN.{length, take, drop as drop_list, set, get_or, take-append-drop, length-drop, length-append, length-set}
-use borrow.Table.Elements.{at, at_mul, cut_app, join_app, focus_any, length-take-le}
+use lib.ListN.{length, take, drop as drop_list, set, get_or, take-append-drop, length-drop, length-append}
+use borrow.Table.Elements.{at, at_mul, cut_app, join_app, length-take-le}
+use borrow.Rule.Slice.Handed.{takes_at}
 use Rattle.std.proofs.Common.{append_assoc}
 use Rattle.std.proofs.lemmas.List.{drop-drop}
 use Rattle.tinyvec_array.specs.SliceParts.{with_part}
 use Rattle.tinyvec_array.proofs.PartLemmas.{with_part-as_long}
-
--- where the product fits a word, the count is zero or the size fits too
-pub uncapped : (i k : ℕ) → i * k < 2 ^ 64 → i * capped k ≡ i * k
-uncapped zero k h = zero-mul (capped k) ∙ sym (zero-mul k)
-uncapped (suc i) k h = let step = suc-mul i k in ap (λ (j : ℕ). suc i * j) (capped_is k (omega arith))
 
 -- where n elements have room, fewer have
 pub fewer : (R : RattleType) {n : ℕ} (k : ℕ) → Room R n → k ≤ n → Room R k
@@ -48,9 +42,12 @@ module _ {M : Type 1} {𝓤 : Ura M} (𝓛 : Logic 𝓤) (R : RattleType) (κ : 
   abbrev L : ℕ → SemTy
   L n = Arr (mem R) n
 
-  -- the slice
-  abbrev Whole : List Val → SProp 𝓤
-  Whole vs = sem 𝓛 ((MutSlice (named 0) κ R).own_val (record { ref_ptr = (b, o); ghost_name = γ; now = xs }) vs)
+  -- what is had of the slice
+  abbrev slice : List Val → Fml
+  slice = (MutSlice (named 0) κ R).own_val (record { ref_ptr = (b, o); ghost_name = γ; now = xs })
+
+  abbrev shows : List R.Denot → Item 𝓤
+  shows l = ‵ (fobs γ ((coded_list R.coded).code l))
 
   -- the elements from i up to j are lent on
   module _ (i j : ℕ) (le : i ≤ j) (within : j ≤ length xs) where
@@ -115,10 +112,10 @@ module _ {M : Type 1} {𝓤 : Ura M} (𝓛 : Logic 𝓤) (R : RattleType) (κ : 
           rewrite ! 0 (λ (l : List R.Denot). ‵ (cells (mem R) l b o)) same refl $
           feq_i ! ℕ (length (filled ws)) (length xs) (omega arith) $ fjoin ! $ done !)
 
-      pub lends_run : (vs : List Val) → ent 𝓤 (sep 𝓤 (Whole vs) (A.lft κ q)) (H.⇛ (ex 𝓤 LentRun))
+      pub lends_run : (vs : List Val) → ent 𝓤 (sep 𝓤 (sem 𝓛 (slice vs)) (A.lft κ q)) (H.⇛ (ex 𝓤 LentRun))
       lends_run vs =
-          qed 𝓛 (‵ ((MutSlice (named 0) κ R).own_val (record { ref_ptr = (b, o); ghost_name = γ; now = xs }) vs) ∷ ‵ (flft κ q) ∷ []) ∵ updating ! $ fsplit3 ! $ drop ! $
-          rewrite ! 0 (λ (l : List R.Denot). ‵ (fobs γ ((coded_list R.coded).code l))) (heres_id R xs) refl $ open_ref ! tt (L (length xs)) {b = b} {o = o} $ fsplit ! $ drop ! $
+          qed 𝓛 (‵ (slice vs) ∷ ‵ (flft κ q) ∷ []) ∵ updating ! $ fsplit3 ! $ drop ! $
+          rewrite ! 0 shows (heres_id R xs) refl $ open_ref ! tt (L (length xs)) {b = b} {o = o} $ fsplit ! $ drop ! $
           rewrite ! 0 (λ (l : List R.Denot). ‵ (cells (mem R) l b o)) (sym (take-append-drop i xs)) refl $
           use1 𝓛 (‵ (cells (mem R) front b o) ⊛ ‵ (cells (mem R) (drop_list i xs) b (at o (mem R).size (length front)))) (cut_app 𝓛 (mem R) front (drop_list i xs) b o) $
           split ! $ move ! (1 ∷ []) $
@@ -141,26 +138,15 @@ module _ {M : Type 1} {𝓤 : Ura M} (𝓛 : Logic 𝓤) (R : RattleType) (κ : 
     abbrev x : R.Denot
     x = get_or xs i d
 
-    -- the others, as the way from any element at i back to all of them
-    abbrev Ways : SProp 𝓤
-    Ways = all 𝓤 (λ (w : R.Denot). wand 𝓤 (sem 𝓛 ((mem R).own_at w b (at o (mem R).size i))) (sem 𝓛 (cells (mem R) (set xs i w) b o)))
-
     abbrev LentElement : GName → SProp 𝓤
     LentElement δ = sep 𝓤 (sem 𝓛 ((MutRef (named 0) κ R).own_val (record { ref_ptr = (b, place); ghost_name = δ; now = x }) (vptr b place ∷ []))) (sep 𝓤 (A.lft κ q) (sem 𝓛 (follows (Array R 0) R γ δ (set xs i))))
 
-    put_element : (w : R.Denot) → ent 𝓤 (sep 𝓤 (sem 𝓛 ((mem R).own_at w b place)) Ways) (sem 𝓛 ((L (length xs)).own_at (set xs i w) b o))
-    put_element w =
-        qed 𝓛 (‵ ((mem R).own_at w b place) ∷ raw Ways ∷ []) ∵ rewrite ! 0 (λ (k : ℕ). ‵ ((mem R).own_at w b k)) (sym (at_mul o (mem R).size i)) refl $ move ! (1 ∷ []) $
-        use1 𝓛 (‵ (fwand ((mem R).own_at w b (at o (mem R).size i)) (cells (mem R) (set xs i w) b o))) (all_e 𝓤 (λ (z : R.Denot). wand 𝓤 (sem 𝓛 ((mem R).own_at z b (at o (mem R).size i))) (sem 𝓛 (cells (mem R) (set xs i z) b o))) w) $ move ! (1 ∷ 0 ∷ []) $
-        use2 𝓛 (‵ (cells (mem R) (set xs i w) b o)) (apply∗ 𝓤 (sem 𝓛 ((mem R).own_at w b (at o (mem R).size i))) (sem 𝓛 (cells (mem R) (set xs i w) b o))) $
-        feq_i ! ℕ (length (set xs i w)) (length xs) (length-set xs i w) $ fjoin ! $ done !
+    abbrev Then : GName → Item 𝓤
+    Then δ = ‵ (fobs δ (R.coded.code x)) ⊛ ‵ (fbor κ (Body (mem R) b place δ)) ⊛ ‵ (flft κ q) ⊛ ‵ (follows (Array R 0) R γ δ (set xs i))
 
-    pub lends_element : (vs : List Val) → ent 𝓤 (sep 𝓤 (Whole vs) (A.lft κ q)) (H.⇛ (ex 𝓤 LentElement))
+    pub lends_element : (vs : List Val) → ent 𝓤 (sep 𝓤 (sem 𝓛 (slice vs)) (A.lft κ q)) (H.⇛ (ex 𝓤 LentElement))
     lends_element vs =
-        qed 𝓛 (‵ ((MutSlice (named 0) κ R).own_val (record { ref_ptr = (b, o); ghost_name = γ; now = xs }) vs) ∷ ‵ (flft κ q) ∷ []) ∵ updating ! $ fsplit3 ! $ drop ! $
-        rewrite ! 0 (λ (l : List R.Denot). ‵ (fobs γ ((coded_list R.coded).code l))) (heres_id R xs) refl $ open_ref ! tt (L (length xs)) {b = b} {o = o} $ fsplit ! $ drop ! $
-        use1 𝓛 (‵ ((mem R).own_at x b (at o (mem R).size i)) ⊛ raw Ways) (focus_any 𝓛 (mem R) d i xs b o lt) $
-        split ! $ rewrite ! 0 (λ (k : ℕ). ‵ ((mem R).own_at x b k)) (at_mul o (mem R).size i) refl $ move ! (2 ∷ 3 ∷ 4 ∷ 0 ∷ 1 ∷ []) $ group ! 5 $
-        use1 𝓛 (later (some (λ (δ : GName). ‵ (fobs δ (R.coded.code x)) ⊛ ‵ (fbor κ (Body (mem R) b place δ)) ⊛ ‵ (flft κ q) ⊛ ‵ (follows (Array R 0) R γ δ (set xs i)))))
-        (takes_part 𝓛 (L (length xs)) (mem R) (set xs i) κ q b o b place γ Ways put_element ((coded_list R.coded).code xs) ((coded_list R.coded).code xs) x) $ await ! tt $ pick ! (λ δ. split3 ! $
+        qed 𝓛 (‵ (slice vs) ∷ ‵ (flft κ q) ∷ []) ∵ updating ! $ fsplit3 ! $ drop ! $
+        rewrite ! 0 shows (heres_id R xs) refl $
+        use3 𝓛 (later (some Then)) (takes_at 𝓛 (mem R) κ (length xs) b o q γ xs i place d x (at_mul o (mem R).size i) lt refl) $ await ! tt $ pick ! (λ δ. split3 ! $
         feq_i ! (List Val) (vptr b place ∷ []) (vptr b place ∷ []) refl $ fjoin3 ! $ now ! $ show ! LentElement δ $ done !)

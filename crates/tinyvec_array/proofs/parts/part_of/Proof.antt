@@ -7,7 +7,8 @@ use types.ByLocal.{is as valued}
 use denote.Array.{Array}
 use denote.Slice.{MutSlice, slice_val}
 use Rattle.tinyvec_array.specs.SliceParts.{with_part}
-use Rattle.tinyvec_array.proofs.Walks.{uncapped, fewer, lends_run}
+use Rattle.core.proofs.slice.Relends.{uncapped}
+use Rattle.tinyvec_array.proofs.Walks.{fewer, lends_run}
 use Rattle.tinyvec_array.proofs.PartWalks.{refl, sym, ap, subst, ℕ, ◌+◌, ◌-◌, ◌*◌, ◌^◌, ◌<◌, ◌≤◌, arith, List, [], ◌∷◌, length, Fn, named, w64, inst_fn, vint, GName, ftrue, size, ‵, ◌⊛◌, given, ◌$◌, ◌∵◌, !, move, drop, split, split3, learn, fjoin, await, pick, suffices, frame, done, stop, fld, addr, bin, and_then, no_more, returns, enter, alloc_all, pass_all, free_all, look_at, get, get_in, through, sets, lands_as, whole, sub, tables, usize, yes, no, layout, uint_vals, uint_Tells, owns, MutBor, mut_vals, mut_Tells, plain, nothing, calls_at, Ended, framed, says, Stays, stay_dropped, Goes-dropped, Goes-spent_ref, leaves, proved, Par, S, R, args, Con, asked, begins, lends_on}
 use Rattle.tinyvec_array.specs.contracts.parts.part_of as F
 use Rattle.tinyvec_array.proofs.parts.part_of.Statement.{statement}

@@ -14,14 +14,13 @@ use prog.Memory.{Memory}
 use prog.Routine.{Routine}
 use prog.Wp.{WpFn, Tables}
 use types.Logic.{Logic}
-use types.Kit.{‵, raw, ◌⊛◌, some, later, ◌$◌, ◌∵◌, !, qed, by, move, keep, drop, use1, use3, split, join, pick, fsplit, fsplit3, fjoin, suffices, frame, await, rewrite, done}
+use types.Kit.{‵, raw, ◌⊛◌, some, later, ◌$◌, ◌∵◌, !, qed, by, move, keep, drop, use1, use3, split, split3, join, pick, fsplit, fsplit3, fjoin, suffices, frame, await, rewrite, done}
 use types.Part.{agg, whole, sub, look_in}
 use types.Run.{stop, fld, hop, addr, load, of_opd, and_then, no_more, returns, enter}
 use types.ByLocal.{alloc_all, pass_all, free_all, look_at, get, through, sets}
 use contract.Lifetimes.{AllOutlive}
 use contract.Monad.{Fun}
 use contract.Running.{tables, tables_of}
-use sound.WpLaws.{WpFn-mono}
 use denote.Builtin.{RefMutOf, SliceRefMutOf}
 use denote.Exit.{no}
 use denote.Array.{Array}
@@ -35,13 +34,11 @@ use denote.Signature.{Slot, plain}
 use denote.Slice.{MutSlice, Room, mut_slice_vals, slice_ty, slice_val, mut_slice_Tells}
 use denote.Steps.{opens, closes, peeks, nothing}
 use denote.Through.{LentSlice, renamed, lends_inner_slice}
-use denote.Triple.Clauses.{Clauses, Ended, closing}
+use denote.Triple.Clauses.{Clauses, Ended}
 use denote.Triple.Entry.{on_entry}
-use denote.Triple.Spec.{Meets, triple_of}
-use denote.Triple.Table.{entered}
-use denote.Triple.Walked.{says, Stays, stay_dropped, walk_of, ends_at, walked, Goes-spent_ref, walk_Meets}
+use denote.Triple.Walked.{says, Stays, stay_dropped, walk_of, Goes-spent_ref}
+use Rattle.std.proofs.raw_atomic.Walks.{leaves, proved}
 use Rattle.tinyvec_array.specs.contracts.slots.RefMutSliceSlots.as_slice_mut as F
-use Rattle.tinyvec_array.specs.contracts.slots.RefMutSliceSlots.as_slice_mut.Key.{name as #self}
 use Rattle.tinyvec_array.proofs.slots.RefMutSliceSlots.as_slice_mut.Statement.{statement}
 use Rattle.tinyvec_array.proofs.slots.RefMutSliceSlots.as_slice_mut.Code as code
 
@@ -96,15 +93,17 @@ module _ (X : RattleType) (d : Dict) {M : Type 1} {𝓤 : Ura M} (𝓛 : Logic �
     exits : (γ' : GName) → ent 𝓤 (sep 𝓤 (Given γ') (sep 𝓤 (A.lft κ' q') (sep 𝓤 (A.lft κT qT) (emp 𝓤)))) (Post to)
     exits γ' =
         qed 𝓛 ((‵ ((MutSlice (named 0) κ R).own_val (renamed x.now γ') (mut_slice_vals x.now)) ⊛ ‵ (flft κ q) ⊛ ‵ (follows Sl (Array R 0) x.ghost_name γ' (at_last x.now))) ∷ (‵ (flft κ' q') ⊛ ‵ (flft κT qT) ⊛ ‵ ftrue) ∷ []) ∵
-        suffices ! _ (ends_at 𝓛 (ended X d) (stayed X d) clauses bound to (renamed x.now γ') (tt, tt) (tt, tt)) $
-        split ! $ move ! (1 ∷ []) $ split ! $ move ! (0 ∷ 3 ∷ []) $ join ! $ nothing ! $ nothing ! $ fjoin ! $ move ! (0 ∷ 3 ∷ []) $ join ! $ move ! (1 ∷ 0 ∷ []) $ join ! $ frame ! $ says ! refl $ done !
+        -- [the slice; its token; what it follows; the other tokens]
+        split3 ! $ move ! (1 ∷ 3 ∷ []) $ join ! $
+        suffices ! _ (leaves 𝓛 (ended X d) (stayed X d) clauses bound to (renamed x.now γ') (tt, tt) (tt, tt)) $
+        frame ! $ nothing ! $ nothing ! $ fjoin ! $ frame ! $ frame ! $ says ! refl $ done !
 
     walk : ent 𝓤 (on_entry 𝓛 (ended X d).signature (κ, (κ', (κT, tt))) (q, (q', (qT, tt))) (x, tt) (mut_vals x, tt)) (WpFn 𝓤 H 𝓣.C 𝓣.Λ (function X d) (mut_vals x) Post)
     walk =
         qed 𝓛 ((‵ (flft κ q) ⊛ ‵ (flft κ' q') ⊛ ‵ (flft κT qT) ⊛ ‵ ftrue) ∷ ‵ (owns (MutRef (named 0) κ Sl ∷ []) (x, tt) (mut_vals x, tt)) ∷ []) ∵
-        enter ! 𝓣.C 𝓣.Λ (function X d) (mut_vals x) _ $
-        alloc_all ! (λ l. pass_all ! refl ((tt, tt), tt) $
-        move ! (1 ∷ []) $ fsplit ! $ fsplit3 ! $ drop ! $ move ! (3 ∷ []) $ split ! $ move ! (2 ∷ 3 ∷ 0 ∷ []) $
+        -- [the outer reference in two; its token; the other tokens]
+        split ! $ move ! (2 ∷ []) $ fsplit ! $ fsplit3 ! $ drop ! $ move ! (0 ∷ 1 ∷ 3 ∷ 4 ∷ []) $
+        enter ! 𝓣.C 𝓣.Λ (function X d) (mut_vals x) _ $ alloc_all ! (λ l. pass_all ! refl ((tt, tt), tt) $
         opens ! tt Sl x.ref_ptr.0 x.ref_ptr.1 (λ us. move ! (1 ∷ []) $
         peeks ! Sl (Is Sl) (shows 𝓛 Sl) x.now us (λ is. move ! (1 ∷ []) $
         -- [the inner reference; what it owns; the outer's borrow, open, in three; the other tokens; nothing; the locals]
@@ -121,15 +120,11 @@ module _ (X : RattleType) (d : Dict) {M : Type 1} {𝓤 : Ura M} (𝓛 : Logic �
         use3 𝓛 (later (some (λ (γ' : GName). raw (Given γ')))) (lends_inner_slice 𝓛 R (named 0) (named 1) κ κ' x bounds.0 rm q) $ await ! tt $ pick ! (λ γ'.
         returns ! (look_at ! 0 refl) $ free_all ! refl $ keep ! (0 ∷ 1 ∷ []) $ by ! (exits γ')))))
 
-  meets : (𝓣 : Tables 𝓤 H) → Meets 𝓛 (ended X d).signature (WpFn 𝓤 H 𝓣.C 𝓣.Λ (function X d)) (closing 𝓛 (ended X d) clauses)
-  meets 𝓣 =
-      walk_Meets 𝓛 (ended X d) (stayed X d) (Goes-spent_ref 𝓛 3 (0 ∷ []) tt (inner X d), tt) clauses (WpFn 𝓤 H 𝓣.C 𝓣.Λ (function X d)) (WpFn-mono 𝓤 H 𝓛.laws 𝓣 (function X d))
-      (walked 𝓛 (ended X d) (stayed X d) clauses (WpFn 𝓤 H 𝓣.C 𝓣.Λ (function X d)) (λ κs. (mut_vals, tt)) (λ κs. (mut_Tells (named 0) κs.0 (MutSlice (named 1) κs.1.0 R), tt))
-      (λ κs qs bounds a g _. via 𝓤 _ (fst∗ 𝓤 _ ((clauses κs a).requires g)) (walk 𝓣 κs.0 κs.1.0 κs.1.1.0 qs.0 qs.1.0 qs.1.1.0 bounds a.0)))
-
 pub as_slice_mut_spec : {M : Type 1} → statement M
 unfolding tables_of
 as_slice_mut_spec 𝓤 𝓛 𝓜 𝓡 wired X LX d met =
-    let 𝓣 : Tables 𝓤 𝓛.H = tables_of 𝓤 𝓛.H 𝓜 (tables 𝓤 𝓛.H 𝓜 𝓡 𝓡.env) in
-    entered 𝓤 𝓛.H (triple_of 𝓛 (ended X d).signature (F.spec X d 𝓛 𝓜.mem 𝓡.returns)) 𝓣.C 𝓣.Λ (#self (args X d)) (function X d) (code.unfolded 𝓤 𝓛.H 𝓜 𝓡 wired (X, tt) d)
-    (meets X d 𝓛 𝓜.mem 𝓡.returns 𝓣)
+    let c = F.clauses X d 𝓛 𝓜.mem 𝓡.returns in
+    proved 𝓛 (ended X d) (stayed X d) c 𝓜 𝓡 (Goes-spent_ref 𝓛 3 (0 ∷ []) tt (inner X d), tt) (F.Key.name (args X d)) (function X d) (code.unfolded 𝓤 𝓛.H 𝓜 𝓡 wired (X, tt) d)
+    (λ κs. (mut_vals, tt)) (λ κs. (mut_Tells (named 0) κs.0 (MutSlice (named 1) κs.1.0 (T X d)), tt)) (λ κs qs bounds a g are.
+    via 𝓤 _ (fst∗ 𝓤 _ ((c κs a).requires g))
+    (walk X d 𝓛 𝓜.mem 𝓡.returns (tables_of 𝓤 𝓛.H 𝓜 (tables 𝓤 𝓛.H 𝓜 𝓡 𝓡.env)) κs.0 κs.1.0 κs.1.1.0 qs.0 qs.1.0 qs.1.1.0 bounds a.0))
