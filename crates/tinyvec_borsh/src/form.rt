@@ -15,7 +15,7 @@ pub trait BorshForm {
     // A value of the type has this content.
     ghost Fits: { Content → Type 0 };
 
-    // A content has at most one spelling, of at least one byte, and no spelling begins, or is, that of another content.
+    // Bytes tell what they spell, and where it ends.
     ghost code: { IsCode Spells };
 
     // What fits has a spelling.

@@ -1,4 +1,4 @@
--- Examples of iterators. One that is seen as the list of what is left is written as that list.
+-- Examples of iterators. A list stands for an iterator whose state is the items to come.
 use Rattle.std.proofs.Common.{◌≡◌, ℕ, List, [], ◌∷◌, Some, true, false, refl, rules}
 use Rattle.std.specs.Prelude.{Ok, Err}
 use Rattle.std.specs.declared.iter.Fuse.{Fuse}
