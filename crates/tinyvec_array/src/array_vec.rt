@@ -121,15 +121,6 @@ impl<S: Slots> ArrayVec<S> {
         self.len = self.slots.to_len(new_len);
     }
 
-    // Returns `i`, and shows LLVM that it is at most the number of an array's slots.
-    #[inline(always)]
-    pub(crate) fn bounded(&self, i: usize) -> usize
-        requires { i ≤ length (slots_of S.Slots self.now) }
-        ensures { result ≡ i }
-    {
-        bounded_index(i, self.slots.most())
-    }
-
     // Moves the items from `start` up to `end` after the others.
     pub(crate) fn move_to_end(&mut self, start: usize, end: usize)
         requires { Within start end (length (view S.Slots self.old).items) }

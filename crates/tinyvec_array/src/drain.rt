@@ -63,8 +63,7 @@ where
     {
         let len = self.len();
         let part = resolve_range(range, len);
-        // Bounds the trip count, so loop indices fit `u32`.
-        let count = self.bounded(part.end - part.start);
+        let count = part.end - part.start;
         self.move_to_end(part.start, part.end);
         self.set_len(len - count);
         count

@@ -7,8 +7,8 @@ use crate::tuned::cloning::clone_each_from;
 use std::alloc::AllocError;
 use tinyvec_slots::authors::clone_over_from;
 
-/// Slots over which clones of small items are written by blocks: those of an array are made on the stack from defaults,
-/// those of a lent slice are taken out of it meanwhile.
+/// Slots over which clones are written: in an array by blocks of small items, which are made on the stack from defaults, in
+/// a lent slice one by one.
 pub trait TakesClones: Slots {
     /// Writes clones of `from` over the slots from `start` on.
     fn write_clones(

@@ -7,7 +7,7 @@ ghost use Rattle.std.specs.Borrow.{sem};
 ghost use Rattle.std.specs.List.{swap_remove, SwappedAt};
 
 use crate::parts::{part_of, slot_of};
-use crate::tuned::indexing::{bounded_index, bounded_len, prefers_shifting_in};
+use crate::tuned::indexing::prefers_shifting_in;
 use crate::tuned::resetting::fill_default;
 use crate::tuned::shifting::insert_within;
 use crate::{ArrayVec, Slots};
@@ -23,8 +23,7 @@ impl<S: Slots> ArrayVec<S> {
             ((view S.Slots self.old).items ++ value ∷ []) }
     {
         let len = self.len();
-        let at = bounded_index(len, self.slots.most());
-        self.slots.as_slice_mut()[at] = value;
+        self.slots.as_slice_mut()[len] = value;
         self.len = self.slots.to_len(len + 1);
     }
 
@@ -139,7 +138,7 @@ where
         if len == 0 {
             return None;
         }
-        // In a lent slice an index takes an instruction less.
+        // In a lent slice an index takes an instruction less, in an array `last_mut`. `pop_all` 64: 489 > 310.
         if self.slots.most() == usize::MAX {
             return Some(self.take_last());
         }
@@ -160,12 +159,8 @@ where
         ensures value { result ≡ slice_index_or (view S.Slots self.old).items (length (view S.Slots self.old).items - 1) result }
     {
         let len = self.len();
-        let most = self.slots.most();
-        let last = bounded_len(self.slots.as_slice(), len - 1, most);
-        let at = bounded_index(last, most);
-        let item = mem::take(&mut self.slots.as_slice_mut()[at]);
-        // Written last, so that LLVM knows the length in a loop of pops.
-        self.len = self.slots.to_len(last);
+        let item = mem::take(&mut self.slots.as_slice_mut()[len - 1]);
+        self.len = self.slots.to_len(len - 1);
         item
     }
 

@@ -14,7 +14,7 @@ use tinyvec_slots::authors::{
     put_answers, put_clones_of, put_taken, put_until_full, resolve_range,
 };
 
-// What writes clones, by blocks as the slots want them.
+// What writes clones, as the slots want them.
 impl<S: TakesClones> ArrayVec<S> {
     /// Appends clones of the slice's items. Only clones allocate.
     pub fn extend_from_slice(&mut self, other: &[S::Item]) -> Result<(), AllocError>

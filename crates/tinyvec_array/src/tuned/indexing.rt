@@ -4,10 +4,9 @@ ghost use Rattle.tinyvec_slots.specs.Ranges.{Within};
 
 use crate::{Array, Slots};
 use std::mem;
-use tinyvec_slots::authors::fit_registers;
 
 // Returns `i`. Going through `u32` shows LLVM that the address cannot wrap onto the length field, which precedes the slots.
-// So the length stays in a register, and a loop of pushes is vectorized.
+// So the length stays in a register. `tiny_into_iter` 64: 1181 > 731, `drain_taken` 64: 519 > 451.
 #[inline(always)]
 pub(crate) fn bounded_index(i: usize, most: usize) -> usize
     requires { i ≤ most }
@@ -17,20 +16,6 @@ pub(crate) fn bounded_index(i: usize, most: usize) -> usize
         return i;
     }
     i as u32 as usize
-}
-
-// The same of a length that is stored, and counts down in a loop of pops, if an item takes 4 to 16 bytes: a loop over bytes
-// LLVM vectorizes otherwise.
-#[inline(always)]
-pub(crate) fn bounded_len<T>(slots: &[T], n: usize, most: usize) -> usize
-    requires some { 0 < length slots.now }
-    requires in_bounds { n ≤ most }
-    ensures { result ≡ n }
-{
-    if fit_registers(slots) {
-        return bounded_index(n, most);
-    }
-    n
 }
 
 // Whether all items together take up to 128 bytes.

@@ -3,7 +3,6 @@ ghost use Rattle.std.specs.Prelude.{◌≡◌, ◌-◌, ◌*◌, ◌<◌, ◌≤
 ghost use Rattle.tinyvec_slots.specs.Ranges.{Within};
 ghost use Rattle.tinyvec_slots.specs.Slots.{AreDefaults};
 
-use crate::tuned::indexing::prefers_shifting;
 use tinyvec_slots::authors::are_small;
 
 // Writes a default into each slot from `start` up to `end`, which are at most `most`. A constant `most` removes the branches
@@ -24,7 +23,7 @@ pub(crate) fn fill_default<T: Default + Drop>(
 }
 
 // Writes a default into each slot. Short slices of small items are written as two overlapping runs, which beats `memset`;
-// larger ones, which may need a drop, are written once.
+// larger ones, which may need a drop, are written once. `truncate_and_refill` 4: 45 > 30.
 fn fill_at_most<T: Default + Drop>(slots: &mut [T], most: usize)
     requires { length slots.old ≤ most }
     ensures { AreDefaults T.is_default (length slots.old) slots.new }
@@ -33,10 +32,8 @@ fn fill_at_most<T: Default + Drop>(slots: &mut [T], most: usize)
     if count > 0 && !are_small(slots) {
         return fill_each(slots);
     }
-    if most > 32 && count > 32 {
-        fill_many(slots);
-    } else if most > 16 && count > 16 {
-        fill_ends::<T, 16>(slots);
+    if most > 16 && count > 16 {
+        fill_each(slots);
     } else if most > 8 && count > 8 {
         fill_ends::<T, 8>(slots);
     } else if most > 4 && count > 4 {
@@ -45,18 +42,6 @@ fn fill_at_most<T: Default + Drop>(slots: &mut [T], most: usize)
         fill_ends::<T, 2>(slots);
     } else if count > 0 {
         fill_ends::<T, 1>(slots);
-    }
-}
-
-// The same, for more than 32 slots. Up to 128 bytes two runs still beat `memset`.
-fn fill_many<T: Default + Drop>(slots: &mut [T])
-    requires { 32 < length slots.old }
-    ensures { AreDefaults T.is_default (length slots.old) slots.new }
-{
-    if slots.len() <= 64 && prefers_shifting(slots) {
-        fill_ends::<T, 32>(slots);
-    } else {
-        fill_each(slots);
     }
 }
 

@@ -23,7 +23,6 @@ set_len-requires g c =
     let kept = length-remove_range L i j order ends in
     let out = length-slice_range L i j order ends in
     let all = c.len-len.ensures.value in
-    let count = c.bounded-count.ensures in
     let long : length (view g.S.Slots moved).items ≡ c.len-len.result = omega arith in
     let le = within (g.S.Slots.count moved.len) (slots_of g.S.Slots moved) c.len-len.result (sym long) in
     omega arith
@@ -40,9 +39,9 @@ cut_parts L S i j k moved order ends fewer listed spare =
     rw cut (take_at B (M ++ S) k long, drop_at B (M ++ S) k long)
 
 module _ (g : _) (c : goal.After-set_len g) where
-  cut : (items_in (split_at (c.len-len.result - c.bounded-count.result) (slots_of g.S.Slots c.move_to_end.new.self))
+  cut : (items_in (split_at (c.len-len.result - (c.resolve_range-part.result.end - c.resolve_range-part.result.start)) (slots_of g.S.Slots c.move_to_end.new.self))
       ≡ items_before (view g.S.Slots c.args.self.now).items (g.R.RangeBounds.start_bound c.args.range) ++ items_after (view g.S.Slots c.args.self.now).items (g.R.RangeBounds.end_bound c.args.range))
-      × (spare_in (split_at (c.len-len.result - c.bounded-count.result) (slots_of g.S.Slots c.move_to_end.new.self))
+      × (spare_in (split_at (c.len-len.result - (c.resolve_range-part.result.end - c.resolve_range-part.result.start)) (slots_of g.S.Slots c.move_to_end.new.self))
       ≡ items_within (view g.S.Slots c.args.self.now).items (g.R.RangeBounds.start_bound c.args.range) (g.R.RangeBounds.end_bound c.args.range) ++ (view g.S.Slots c.args.self.now).spare)
   cut =
       let part = c.resolve_range-part.result in
@@ -53,8 +52,8 @@ module _ (g : _) (c : goal.After-set_len g) where
       let end_is = c.resolve_range-part.ensures.end ∙ ap (range_end bounds) all in
       let order : part.start ≤ part.end = search rules in
       let ends : part.end ≤ length L = search rules in
-      rw (← start_is, ← end_is) (cut_parts L _ part.start part.end (c.len-len.result - c.bounded-count.result) (view_of g.S.Slots c.move_to_end.new.self) order ends
-      (omega (arith, all, c.bounded-count.ensures)) c.move_to_end.ensures.items c.move_to_end.ensures.spare)
+      rw (← start_is, ← end_is) (cut_parts L _ part.start part.end (c.len-len.result - (c.resolve_range-part.result.end - c.resolve_range-part.result.start)) (view_of g.S.Slots c.move_to_end.new.self) order ends
+      (omega (arith, all)) c.move_to_end.ensures.items c.move_to_end.ensures.spare)
 
 pub returns-clause-items : goal.returns-clause-items
 returns-clause-items g c = ap items_in c.set_len.ensures.value ∙ (cut g c).0

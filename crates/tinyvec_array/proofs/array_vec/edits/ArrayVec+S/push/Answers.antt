@@ -13,12 +13,12 @@ returns g c =
     record {
       items = grind (arith, common_steps);
       place = one_place refl (search rules) (search rules);
-      slot_rule = rule_used NothingVacated _ _ _ _ 1 (grind (arith, common_steps)) (rw (g.S.Slots.slots_written, c.to_len.ensures.number, c.bounded_index-at.ensures, c.as_slice_mut.ensures.value) (drop-pushed (g.S.Slots.count v.len) (g.S.Slots.slots v.slots) c.len-len.result c.len-len.ensures.value c.args.value));
+      slot_rule = rule_used NothingVacated _ _ _ _ 1 (grind (arith, common_steps)) (rw (g.S.Slots.slots_written, c.to_len.ensures.number, c.as_slice_mut.ensures.value) (drop-pushed (g.S.Slots.count v.len) (g.S.Slots.slots v.slots) c.len-len.result c.len-len.ensures.value c.args.value));
       fits = within _ _ _ refl;
     }
 
 pub overflow_add-len : goal.overflow_add-len
 overflow_add-len g c = omega (arith, parts_of g.S.Slots c.args.self.now)
 
-pub bounds-as_slice_mut-at : goal.bounds-as_slice_mut-at
-bounds-as_slice_mut-at g c = omega (arith, parts_of g.S.Slots c.args.self.now, c.bounded_index-at.ensures, ap length c.as_slice_mut.ensures.value)
+pub bounds-as_slice_mut-len : goal.bounds-as_slice_mut-len
+bounds-as_slice_mut-len g c = omega (arith, parts_of g.S.Slots c.args.self.now, ap length c.as_slice_mut.ensures.value)

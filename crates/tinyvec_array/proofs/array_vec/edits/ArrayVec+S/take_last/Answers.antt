@@ -16,7 +16,7 @@ returns-clause-becomes g c =
     record {
       items = grind (arith, common_steps);
       place = one_place refl (search rules) (search rules);
-      slot_rule = rule_freed g.S.Item.Default.is_default _ _ _ _ 1 (grind (arith, common_steps)) (d ∷ [], (refl, one), rw (g.S.Slots.slots_written, c.to_len.ensures.number, c.bounded_index-at.ensures, c.bounded_len-last.ensures, c.as_slice_mut.ensures.value) (drop-popped (g.S.Slots.count v.len) (g.S.Slots.slots v.slots) n c.len-len.ensures.value d pos));
+      slot_rule = rule_freed g.S.Item.Default.is_default _ _ _ _ 1 (grind (arith, common_steps)) (d ∷ [], (refl, one), rw (g.S.Slots.slots_written, c.to_len.ensures.number, c.as_slice_mut.ensures.value) (drop-popped (g.S.Slots.count v.len) (g.S.Slots.slots v.slots) n c.len-len.ensures.value d pos));
       fits = search rules;
     }
 
