@@ -1,15 +1,10 @@
 //! A call that asks for memory twice, or for more room than it should, would pass the check. Each test here says how many requests it
 //! makes, one a call, which `tests/refuse` counts.
 use crate::steps::granted_steps;
-use std::alloc::Global;
 use std::test::Fail;
 use tinyvec::TinyVec;
 
 type Two = TinyVec<[i32; 2]>;
-
-fn full(alloc: Global) -> Two {
-    TinyVec::from_array(alloc, [1, 2])
-}
 
 // Makes each call of a full list: how many there are, whether all were granted, and whether each list has this capacity then.
 macro_rules! each {
@@ -18,7 +13,7 @@ macro_rules! each {
         let mut is_right = true;
         let mut calls = 0;
         $(
-            let mut $v = full($alloc);
+            let mut $v = Two::from_array($alloc, [1, 2]);
             are_granted &= $call.is_ok();
             is_right &= $v.capacity() == $capacity;
             calls += 1;
@@ -96,7 +91,7 @@ fn of_room(rt: HostRuntime) -> Result<(), Fail> {
 // Room that is given back, to what is to be kept and then to the list: a request each, but for the move into the array.
 #[test]
 fn of_less_room(rt: HostRuntime) -> Result<(), Fail> {
-    let mut v = full(rt.alloc());
+    let mut v = Two::from_array(rt.alloc(), [1, 2]);
     let is_granted = v.reserve(98).is_ok();
     v.shrink_to(50);
     let is_less = v.capacity() == 50;

@@ -49,6 +49,42 @@ impl Write for Closing {
     }
 }
 
+/// Moves one byte at once, and is interrupted before each.
+#[derive(Drop)]
+pub struct Interrupted<S> {
+    pub inner: S,
+    pub is_next: bool,
+}
+
+impl<S> Interrupted<S> {
+    fn turn(&mut self) -> io::Result<()> {
+        self.is_next = !self.is_next;
+        if self.is_next {
+            return Ok(());
+        }
+        Err(io::Error::from(ErrorKind::Interrupted))
+    }
+}
+
+impl<S: Read> Read for Interrupted<S> {
+    fn read(&mut self, buf: &mut [u8]) -> io::Result<usize> {
+        self.turn()?;
+        let count = buf.len().min(1);
+        self.inner.read(&mut buf[..count])
+    }
+}
+
+impl<S: Write> Write for Interrupted<S> {
+    fn write(&mut self, buf: &[u8]) -> io::Result<usize> {
+        self.turn()?;
+        self.inner.write(&buf[..buf.len().min(1)])
+    }
+
+    fn flush(&mut self) -> io::Result<()> {
+        self.inner.flush()
+    }
+}
+
 /// Reads and writes so many bytes at once, and notes each call by a digit: 1 is a read, 2 a write and 3 a flush.
 #[derive(Drop)]
 pub struct Noting<'a> {

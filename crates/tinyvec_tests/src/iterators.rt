@@ -17,10 +17,10 @@ fn of_an_array(rt: HostRuntime) -> Result<(), Fail> {
         *x = x.wrapping_neg();
     }
     let mut are_negated = true;
-    let mut at = 10;
+    let mut at = 10_i32;
     for x in &negated {
         are_negated &= x.wrapping_neg() == at;
-        at += 1;
+        at = at.wrapping_add(1);
     }
     all_steps(&[are_given, made == Ok(v), are_negated, at == 14])
 }

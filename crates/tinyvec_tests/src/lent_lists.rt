@@ -28,10 +28,10 @@ fn cut(rt: HostRuntime) -> Result<(), Fail> {
 #[test]
 fn of_another_length(rt: HostRuntime) -> Result<(), Fail> {
     let mut slots = [1, 2, 3, 7, 7];
-    let mut next = 9;
+    let mut next = 9_i32;
     let mut v = SliceVec::from_slice_len(&mut slots, 3);
     v.resize_with(1, || {
-        next += 1;
+        next = next.wrapping_add(1);
         next
     });
     let is_shorter = v.as_slice() == [1].as_slice();

@@ -50,13 +50,13 @@ fn lists_that_are_cut(rt: HostRuntime) -> Result<(), Fail> {
     let removed = v.len() == 5 && v.remove(0) == 2 && v.len() == 4 && v.swap_remove(0) == 3;
     let is_left = lies(&v, &[6, 4, 5], true);
     for x in v.iter_mut() {
-        *x += 1;
+        *x = x.wrapping_add(1);
     }
     v.as_mut_slice().reverse();
     let is_written = lies(&v, &[6, 5, 7], true);
     let is_drained = v.drain(..v.len().min(1)).next() == Some(6);
     let mut sum = 0;
-    v.drain_each(..v.len().min(1), &mut |x: i32| sum += x.clamp(0, 9));
+    v.drain_each(..v.len().min(1), &mut |x: i32| sum = x);
     let mut out = Vec::new(alloc);
     v.drain_into(..0, &mut out);
     v.truncate(1);

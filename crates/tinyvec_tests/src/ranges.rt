@@ -97,8 +97,12 @@ macro_rules! splices {
     ($v:expr, $span:ident, $start:ident, $end:ident, $new:expr) => {{
         let mut v = $v;
         let mut splice = v.splice($span, $new);
-        let cut = [1, 2, 3].iter().copied().take($end).skip($start);
-        let given = splice.by_ref().eq(cut) & splice.finish().is_ok();
+        let mut given = true;
+        for x in [1, 2, 3].iter().copied().take($end).skip($start) {
+            given &= splice.next() == Some(x);
+        }
+        given &= splice.next().is_none();
+        given &= splice.finish().is_ok();
         let before = [1, 2, 3].iter().copied().take($start).chain($new);
         given & v.iter().copied().eq(before.chain([1, 2, 3].iter().copied().skip($end)))
     }};

@@ -1,6 +1,6 @@
 //! A script or a run that answers a line otherwise, or that gives up where memory is granted, would pass the check, if a contract
 //! has the same mistake.
-use crate::failing::{Closing, Failing, note_calls};
+use crate::failing::{Closing, Failing, Interrupted, note_calls};
 use crate::lists::{holds, lends, lies};
 use crate::steps::{all_steps, granted_steps};
 use std::alloc::{AllocError, Global};
@@ -133,6 +133,25 @@ fn failing_at_each_byte(rt: HostRuntime) -> Result<(), Fail> {
         is_right &= writer.into_inner().room == 0;
     }
     all_steps(&[is_right])
+}
+
+// An interruption before each byte loses none.
+#[test]
+fn interrupted_at_each_byte(rt: HostRuntime) -> Result<(), Fail> {
+    let mut reader = Counted::new(Interrupted {
+        inner: ECHO,
+        is_next: true,
+    });
+    let mut writer = Counted::new(Interrupted {
+        inner: Bytes::new(rt.alloc()),
+        is_next: true,
+    });
+    let is_run = run(rt.alloc(), &mut reader, &mut writer).is_ok();
+    let are_noted = (reader.faults() == 31) & (writer.faults() == 77);
+    all_steps(&[
+        is_run & are_noted,
+        writer.into_inner().inner.as_slice() == ECHOED,
+    ])
 }
 
 // All lines that were read are answered before more is read, and the writer is flushed at the end.

@@ -48,9 +48,12 @@ fn debugged(rt: HostRuntime) -> Result<(), Fail> {
     let mut text = InlineText::<8>::new(rt.alloc());
     let is_pushed = text.push_str("\"é\n€").is_ok();
     let is_shown = is_debugged(&text, "\"\\\"é\\n€\"");
-    let drained = match text.drain(1..3) {
-        Ok(drain) => is_debugged(&drain, "InlineTextDrain(\"é\")"),
-        Err(_) => false,
-    };
+    let mut drained = false;
+    if text.is_char_boundary(1) && text.is_char_boundary(3) {
+        drained = match text.drain(1..3) {
+            Ok(drain) => is_debugged(&drain, "InlineTextDrain(\"é\")"),
+            Err(_) => false,
+        };
+    }
     all_steps(&[is_pushed, is_shown, drained])
 }
