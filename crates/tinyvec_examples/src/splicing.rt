@@ -7,8 +7,8 @@ ghost use Rattle.tinyvec_array.specs.Slots.{SlotRule};
 ghost use Rattle.tinyvec_array.specs.Ends.{front, back, given_items, RunsWord, TakesFromEnds};
 ghost use Rattle.tinyvec_array.specs.Fused.{fused_rest, HasTwoEnds};
 ghost use Rattle.tinyvec_array.specs.CutLaws.{KeptOf};
-ghost use Rattle.tinyvec_array.specs.Splice.{splice_view, splice_left, SpliceKeeps, SpliceCanStep, SpliceSteps, SpliceStepsBack};
-ghost use Rattle.tinyvec_array.specs.SplicedByWord.{IsSpliceRefused, SplicedByWord};
+ghost use Rattle.tinyvec_array.specs.Splice.{splice_left, SpliceCanStep, SpliceSteps, SpliceStepsBack};
+ghost use Rattle.tinyvec_array.specs.SplicedByWord.{IsSpliceRefused};
 
 use std::iter::Fuse;
 use tinyvec_array::{Array, ArrayVec, ArrayVecSplice, SpliceRest};
@@ -24,9 +24,6 @@ pub fn one_from_each_end<A: Array, I: DoubleEndedIterator<Item = A::Item>>(
         splice.old (front ∷ back ∷ []) (result.0 ∷ result.1 ∷ []) splice.new }
     ensures yields { TakesFromEnds (splice_left (λ v. (view A.Slots v).items) splice.old) (front ∷ back ∷ [])
         (result.0 ∷ result.1 ∷ []) (splice_left (λ v. (view A.Slots v).items) splice.new) }
-    ensures spliced { (rest : I → List A.Item) → HasTwoEnds I.next_gives I.next_back_gives rest
-        → SplicedByWord (splice_view (λ v. (view A.Slots v).items)) (SpliceKeeps (λ v. (view A.Slots v).items) (KeptOf A.Slots)) (fused_rest rest)
-        splice.old (front ∷ back ∷ []) splice.new }
     ensures ready { SpliceCanStep (λ v. (view A.Slots v).items) splice.new }
 {
     let first = splice.next();

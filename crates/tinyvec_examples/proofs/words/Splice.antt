@@ -1,8 +1,15 @@
 -- Examples of a splice s of `[1, 2, 3, 4] [0]` over 1..3, from which nothing was taken, and of one t that a call leaves.
-use Rattle.std.proofs.Common.{◌≡◌, ℕ, ◌≤◌, List, [], ◌∷◌, ◌++◌, length, Option, Some, refl, rules}
+use Rattle.std.proofs.Common.{◌≡◌, ℕ, ◌≤◌, List, [], ◌∷◌, ◌++◌, length, Option, Some, refl, ap, ◌∙◌, rules}
 use Rattle.std.specs.declared.iter.Fuse.{Fuse}
 use Rattle.std.specs.declared.iter.Iterator as Iterator
 use Rattle.std.specs.Prelude.{Ok}
+use Rattle.std.specs.Iterator.{YieldsLast}
+use Rattle.std.specs.Iterator.Adapters.{fuse_steps}
+use Rattle.tinyvec_slots.specs.Ends as ends
+use Rattle.tinyvec_slots.specs.Ends.{RunsWord, answered_by}
+use Rattle.tinyvec_slots.specs.Fused.{fused_rest}
+use Rattle.tinyvec_slots.proofs.EndsLemmas.{TakesFromEnds-computes}
+use Rattle.tinyvec_array.specs.IntoIter.{GivesFirst}
 use Rattle.tinyvec_slots.specs.Slots.{SlotRule}
 use Rattle.tinyvec_slots.specs.Touches.{touch_count}
 use Rattle.tinyvec_array.proofs.Named.{array_slots}
@@ -13,7 +20,7 @@ use Rattle.tinyvec_array.specs.declared.slots.Slots as Storage
 use Rattle.tinyvec_array.specs.declared.bound.UpTo.{UpTo}
 use Rattle.tinyvec_array.specs.declared.array_vec.ArrayVec.{ArrayVec}
 use Rattle.tinyvec_slots.specs.declared.splice.Splice.{Splice}
-use Rattle.tinyvec_slots.specs.Splice.{splice_view, splice_front, splice_left, splice_len, splice_back, splice_replacement, splice_touches, splice_vec, splice_lender, SpliceCanStep, SpliceCanNext, SpliceSteps, SpliceStepsBack, SpliceKeeps, SpliceEnds}
+use Rattle.tinyvec_slots.specs.Splice.{splice_view, splice_front, splice_left, splice_len, splice_back, splice_replacement, splice_touches, splice_vec, splice_lender, SpliceCanStep, SpliceCanNext, SpliceSteps, SpliceStepsBack, SpliceKeeps, SplicesFromEnds, SpliceEnds}
 use Rattle.tinyvec_examples.proofs.words.Shown.{D, array_over}
 
 -- an array of 5 slots
@@ -65,3 +72,13 @@ module _ (s t : Splice (ArrayVec (List ℕ) (UpTo 5)) (Fuse (List ℕ))) (vec : 
 
   pub example-SpliceKeeps : SpliceKeeps items (KeptOf G) s t → splice_lender t ≡ splice_lender s
   example-SpliceKeeps h = h.same_reference
+
+  -- the last item is taken, then the first
+  pub example-SplicesFromEnds : (answers : List (Option ℕ)) → SplicesFromEnds items (KeptOf G) GivesFirst s
+      → RunsWord (SpliceSteps items (KeptOf G) (fuse_steps GivesFirst)) (SpliceStepsBack items (KeptOf G) (YieldsLast (fused_rest (λ left. left)))) s (ends.back ∷ ends.front ∷ []) answers t → answers ≡ Some 3 ∷ Some 2 ∷ []
+  example-SplicesFromEnds answers h runs =
+      let takes = (h (λ left. left) (λ s r t first. first) (ends.back ∷ ends.front ∷ []) answers t runs).0 in
+      (TakesFromEnds-computes (splice_left items s) (ends.back ∷ ends.front ∷ []) answers (splice_left items t) takes).0 ∙ ap (answered_by (ends.back ∷ ends.front ∷ [])) example-splice_left
+
+pub example-KeptOf : KeptOf G (array_over (1 ∷ 2 ∷ []) (0 ∷ 0 ∷ 0 ∷ [])) (array_over (3 ∷ 4 ∷ []) (0 ∷ 0 ∷ 0 ∷ []))
+example-KeptOf = (refl, (refl, refl))

@@ -1,14 +1,10 @@
 use Rattle.std.proofs.Common.{[], ◌∷◌, refl}
 use Rattle.std.specs.Iterator.Adapters.{fuse_steps}
 use Rattle.tinyvec_slots.specs.Ends.{front, back}
-use Rattle.tinyvec_slots.specs.Fused.{fused_rest}
-use Rattle.tinyvec_slots.proofs.Fused.{fused_ends}
 use Rattle.tinyvec_slots.proofs.AnySpliceLemmas.{RunsWord-takes_removed}
 use Rattle.tinyvec_array.specs.View.{view}
 use Rattle.tinyvec_array.specs.CutLaws.{KeptOf}
 use Rattle.tinyvec_slots.specs.Splice.{splice_view, SpliceKeeps}
-use Rattle.tinyvec_array.specs.SpliceLaws.{kept_refl, kept_then}
-use Rattle.tinyvec_slots.proofs.SpliceLemmas.{RunsWord-splices}
 use Rattle.tinyvec_examples.proofs.splicing.one_from_each_end.Goals as goal
 
 pub returns-clause-asked : goal.returns-clause-asked
@@ -19,10 +15,3 @@ returns-clause-yields g c =
     let t = c.next_back-last.new.self in
     RunsWord-takes_removed (splice_view (λ v. (view g.A.Slots v).items)) (SpliceKeeps (λ v. (view g.A.Slots v).items) (KeptOf g.A.Slots)) (fuse_steps g.I.Iterator.next_gives) (fuse_steps g.I.DoubleEndedIterator.next_back_gives) c.args.splice.now (front ∷ back ∷ [])
     (c.next-first.result ∷ c.next_back-last.result ∷ []) t (c.next-first.new.self, c.next-first.ensures.steps, (t, c.next_back-last.ensures.steps, refl))
-
-pub returns-clause-spliced : goal.returns-clause-spliced
-returns-clause-spliced g c = λ rest ends.
-    let t = c.next_back-last.new.self in
-    RunsWord-splices (λ v. (view g.A.Slots v).items) (KeptOf g.A.Slots) (kept_refl g.A.Slots) (kept_then g.A.Slots) (fused_rest rest) (fuse_steps g.I.Iterator.next_gives) (fuse_steps g.I.DoubleEndedIterator.next_back_gives) (fused_ends _ _ rest ends)
-    c.args.splice.now (front ∷ back ∷ []) (c.next-first.result ∷ c.next_back-last.result ∷ []) t
-    (c.next-first.new.self, c.next-first.ensures.steps, (t, c.next_back-last.ensures.steps, refl))

@@ -6,6 +6,7 @@ use Rattle.tinyvec_array.specs.View.{view}
 use Rattle.tinyvec_slots.specs.Slots.{SlotRule}
 use Rattle.tinyvec_slots.specs.Ends.{front, back}
 use Rattle.tinyvec_slots.proofs.Lists.{length-slice_range}
+use Rattle.tinyvec_slots.proofs.SpliceLemmas.{runs_from_ends}
 use Rattle.tinyvec_slots.specs.Fused.{fused_rest}
 use Rattle.tinyvec_slots.specs.Splice.{splice_replacement}
 use Rattle.tinyvec_slots.specs.SplicedByWord.{IsSpliceRefused}
@@ -25,7 +26,9 @@ returns-clause-list g c = λ rest ends.
     let made = c.splice-splice.ensures in
     let xs = (view g.A.Slots c.args.vec.now).items in
     let P = rest c.args.replacement in
-    let along = c.one_from_each_end-ends.ensures.spliced rest ends in
+    let answers = c.one_from_each_end-ends.result.0 ∷ c.one_from_each_end-ends.result.1 ∷ [] in
+    let along = (made.both_ends rest ends.first (front ∷ back ∷ []) answers t (
+    runs_from_ends (λ v. (view g.A.Slots v).items) (KeptOf g.A.Slots) g.I.Iterator.next_gives g.I.DoubleEndedIterator.next_back_gives rest ends.last s (front ∷ back ∷ []) answers t c.one_from_each_end-ends.ensures.asked)).1 in
     let whole : R (splice_replacement s) ≡ P = rw made.unasked (rw made.replacement refl) in
     let finished = c.finish.ensures.listed rest ends.first in
     let one = length-take-le c.args.start xs (omega (arith, c.requires.start_le_end, c.requires.in_bounds)) in
