@@ -44,16 +44,13 @@ pub(crate) fn parse_line(alloc: Global, line: &[u8]) -> Command<'_>
         return Command::Bad;
     }
     if let Some(text) = line.strip_prefix(b"A ") {
-        return parse_array_call(alloc, text);
+        return parse_vector_call(alloc, Name::A, text);
     }
     if let Some(text) = line.strip_prefix(b"S ") {
-        return match parse_slots_call(text) {
-            Some(call) => Command::Vector(Name::S, call),
-            None => Command::Bad,
-        };
+        return parse_vector_call(alloc, Name::S, text);
     }
     if let Some(text) = line.strip_prefix(b"T ") {
-        return parse_movable_call(alloc, text);
+        return parse_vector_call(alloc, Name::T, text);
     }
     match parse_text_line(line) {
         Some(call) => Command::Text(call),
@@ -61,28 +58,17 @@ pub(crate) fn parse_line(alloc: Global, line: &[u8]) -> Command<'_>
     }
 }
 
-fn parse_array_call(alloc: Global, text: &[u8]) -> Command<'_>
+fn parse_vector_call(alloc: Global, name: Name, text: &[u8]) -> Command<'_>
     requires { length text.now ≤ 126 }
-    ensures { SpellsFor A text.now result }
+    ensures { SpellsFor name text.now result }
 {
-    if let Some(rest) = text.strip_prefix(b"splice ") {
-        return parse_splice_call(alloc, Name::A, rest);
+    if name != Name::S {
+        if let Some(rest) = text.strip_prefix(b"splice ") {
+            return parse_splice_call(alloc, name, rest);
+        }
     }
-    match parse_slots_call(text) {
-        Some(call) => Command::Vector(Name::A, call),
-        None => Command::Bad,
-    }
-}
-
-fn parse_movable_call(alloc: Global, text: &[u8]) -> Command<'_>
-    requires { length text.now ≤ 126 }
-    ensures { SpellsFor T text.now result }
-{
-    if let Some(rest) = text.strip_prefix(b"splice ") {
-        return parse_splice_call(alloc, Name::T, rest);
-    }
-    match parse_tiny_call(text) {
-        Some(call) => Command::Vector(Name::T, call),
+    match parse_named_call(name, text) {
+        Some(call) => Command::Vector(name, call),
         None => Command::Bad,
     }
 }
@@ -103,6 +89,17 @@ fn parse_splice_call(alloc: Global, name: Name, rest: &[u8]) -> Command<'_>
         return Command::Memory(name);
     };
     Command::Vector(name, Call::Splice(start, end, word, numbers))
+}
+
+// The call of the vector that the text after its name spells, unless it is a splice.
+fn parse_named_call(name: Name, text: &[u8]) -> Option<Call<i32>>
+    ensures { MatchOption result ((call : Call ℤ) → Has name call → IsNoSplice call → IsCall text.now call → ⊥)
+        (λ call. IsCall text.now call × Has name call) }
+{
+    match name {
+        Name::A | Name::S => parse_slots_call(text),
+        Name::T => parse_tiny_call(text),
+    }
 }
 
 // The call of `A` or `S` that the text after the vector's name spells, unless it is a splice.
