@@ -6,4 +6,3 @@ pub mod HistoryLemmas
 pub mod Written
 pub mod DrivingLemmas
 pub mod SpliceText
-pub mod WrongRuns
