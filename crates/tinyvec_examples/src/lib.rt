@@ -18,6 +18,7 @@ pub mod lending;
 pub mod ported;
 pub mod printing;
 pub mod readme;
+pub mod replacing;
 pub mod slices;
 pub mod splicing;
 pub mod tabs;
