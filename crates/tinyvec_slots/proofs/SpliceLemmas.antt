@@ -92,14 +92,17 @@ module _ {V I T : Type 0} (items : V → List T) (Kept : V → V → Type 0) (gi
   takes_last : (s : Splice V (Fuse I)) (r : Option T) (t : Splice V (Fuse I))
       → SpliceStepsBack items Kept (fuse_steps gives_back) s r t → SpliceStepsBack items Kept (YieldsLast (fused_rest rest)) s r t
   takes_last s None t h = h
-  takes_last s (Some x) t h = let step = h.0 in (record {
-    left = step.left;
-    placed = step.placed;
-    asked = fused_last gives_back rest last _ _ _ step.asked;
-    front = step.front;
-    back = step.back;
-    touches = step.touches;
-  }, h.1)
+  takes_last s (Some x) t h = let step = h.0 in (
+    record {
+      left = step.left;
+      placed = step.placed;
+      asked = fused_last gives_back rest last _ _ _ step.asked;
+      front = step.front;
+      back = step.back;
+      touches = step.touches;
+    },
+    h.1,
+  )
 
   pub runs_from_ends : (s : Splice V (Fuse I)) (word : List End) (answers : List (Option T)) (t : Splice V (Fuse I))
       → RunsWord (SpliceSteps items Kept (fuse_steps gives)) (SpliceStepsBack items Kept (fuse_steps gives_back)) s word answers t
