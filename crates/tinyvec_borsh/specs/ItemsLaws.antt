@@ -74,7 +74,7 @@ module _ {C : Type 0} (Spells : C → List ℕ → Type 0) (code : IsCode Spells
       let more = next-item Fits cs ds p.rest q.rest x y (omega arith) p.is_rest q.is_rest item.2 in
       (more.0, more.1, λ h. more.2 h.1)
 
-  -- a encoded list's count is that of its items, and they follow it
+  -- an encoded list's count is that of its items, and they follow it
   list-begins : (cs : List C) (bytes rest : List ℕ) (n : ℕ) (count x : List ℕ) (p : SpellsList Spells cs bytes) → IsCount n count → bytes ++ rest ≡ count ++ x → (length cs ≡ n) × (p.rest ++ rest ≡ x)
   list-begins cs bytes rest n count x p q e =
       let t = same-count (length cs) n p.first count (p.rest ++ rest) x p.is_first q (sym (with-tail p rest) ∙ e) in
