@@ -1,7 +1,7 @@
 -- Lemmas for proofs by hand of functions that lend on a part of a slice, which a call lent them.
 use mathlib.Core.Path.{◌≡◌, refl, sym, ap, ◌∙◌}
-use Prim.Native.Nat.{ℕ, ◌+◌, ◌-◌, ◌*◌, ◌^◌, ◌<◌, ◌≤◌}
-use native.Mathlib.Nat.{mul-le-mul_right}
+use Prim.Native.Nat.{ℕ, zero, suc, ◌+◌, ◌-◌, ◌*◌, ◌^◌, ◌<◌, ◌≤◌}
+use native.Mathlib.Nat.{mul-le-mul_right, zero-mul}
 use native.Mathlib.Omega.{arith}
 use mathlib.Core.List.{List, [], ◌∷◌, ◌++◌}
 use seplogic.Ra.Ura.{Ura}
@@ -10,6 +10,8 @@ use mir.Val.{Val, vptr}
 use base.Logic.{SProp, ent, sep, ex}
 use base.Stored.{coded_list}
 use base.Fml.{Fml, Lft, GName, Share, flft, fsep, fobs, fbor}
+use prog.Memory.{capped}
+use prog.Capped.{capped_is}
 use types.Logic.{Logic, sem}
 use types.Mut.{open_ref}
 use types.Follow.{takes_part}
@@ -35,6 +37,13 @@ pub fewer : (R : RattleType) {n : ℕ} (k : ℕ) → Room R n → k ≤ n → Ro
 fewer R {n} k room le =
     let most : n * (mem R).size < 2 ^ 63 = room.1 in
     let less : k * (mem R).size ≤ n * (mem R).size = mul-le-mul_right (mem R).size le in (omega arith, omega arith)
+
+-- the code counts the bytes before the element at i by a size that is cut to a word
+pub bytes_before : (R : RattleType) {n : ℕ} (i : ℕ) → Room R n → i ≤ n → i * capped (mem R).size ≡ i * (mem R).size
+bytes_before R zero room le = zero-mul (capped (mem R).size) ∙ sym (zero-mul (mem R).size)
+bytes_before R (suc i) room le =
+    let one : 1 * (mem R).size < 2 ^ 63 = (fewer R 1 room (omega arith)).1 in
+    ap (λ (size : ℕ). suc i * size) (capped_is (mem R).size (omega arith))
 
 module _ {M : Type 1} {𝓤 : Ura M} (𝓛 : Logic 𝓤) (R : RattleType) (κ : Lft) (q : Share) (b o : ℕ) (γ : GName) (xs : List R.Denot) where
   open 𝓛 use {H, A}

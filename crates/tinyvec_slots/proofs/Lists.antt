@@ -1,5 +1,5 @@
 -- Facts on parts of a list.
-use Rattle.std.proofs.Common.{◌≡◌, ℕ, suc, add-one, refl, ◌+◌, ◌-◌, ◌*◌, ◌<◌, ◌≤◌, min, List, [], ◌∷◌, ◌++◌, length, get_or, take, drop, set, insert, remove, slice_range, sym, ap, ◌∙◌, arith, rules, drop-set-lt, length-set, take_at, length-append}
+use Rattle.std.proofs.Common.{◌≡◌, ℕ, add-one, refl, ◌+◌, ◌-◌, ◌*◌, ◌<◌, ◌≤◌, min, List, [], ◌∷◌, ◌++◌, length, get_or, take, drop, set, insert, remove, slice_range, sym, ap, ◌∙◌, arith, rules, drop-set-lt, length-set, take_at, length-append}
 use Rattle.std.proofs.lemmas.List.{same_lists, places, same_from_push, get_or-set_same, get_or_default, get_or-drop, drop-drop, drop_more, take_min, drop_min, take-set-le}
 use Rattle.std.specs.List.{remove_range}
 use Rattle.std.proofs.Math.Seq.{take-add}

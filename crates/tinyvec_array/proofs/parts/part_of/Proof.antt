@@ -7,8 +7,7 @@ use types.ByLocal.{is as valued}
 use denote.Array.{Array}
 use denote.Slice.{MutSlice, slice_val}
 use Rattle.tinyvec_array.specs.SliceParts.{with_part}
-use Rattle.core.proofs.slice.Relends.{uncapped}
-use Rattle.tinyvec_array.proofs.Walks.{fewer, lends_run}
+use Rattle.tinyvec_array.proofs.Walks.{bytes_before, fewer, lends_run}
 use Rattle.tinyvec_array.proofs.PartWalks.{refl, sym, ap, subst, ℕ, ◌+◌, ◌-◌, ◌*◌, ◌^◌, ◌<◌, ◌≤◌, arith, List, [], ◌∷◌, length, Fn, named, w64, inst_fn, vint, GName, ftrue, size, ‵, ◌⊛◌, given, ◌$◌, ◌∵◌, !, move, drop, split, split3, learn, fjoin, await, pick, suffices, frame, done, stop, fld, addr, bin, and_then, no_more, returns, enter, alloc_all, pass_all, free_all, look_at, get, get_in, through, sets, lands_as, whole, sub, tables, usize, yes, no, layout, uint_vals, uint_Tells, owns, MutBor, mut_vals, mut_Tells, plain, nothing, calls_at, Ended, framed, says, Stays, stay_dropped, Goes-dropped, Goes-spent_ref, leaves, proved, Par, S, R, args, Con, asked, begins, lends_on}
 use Rattle.tinyvec_array.specs.contracts.parts.part_of as F
 use Rattle.tinyvec_array.proofs.parts.part_of.Statement.{statement}
@@ -44,7 +43,8 @@ part_of_spec 𝓤 𝓛 𝓜 𝓡 wired X Y L LX LY LL g d xs xi xl met gx gy gl 
     lands_as ! told refl (tt, (tt, (record { fits = room.0 }, tt))) $
     let before : i * k < 2 ^ 63 = (fewer (R Z) i room (omega arith)).1 in let fs : i * k < 2 ^ 64 = omega arith in
     let long : length slots < 2 ^ 64 = room.0 in let fm : n < 2 ^ 64 = omega arith in
-    sets ! (valued ! (bin ! (get ! refl) (size_word !) (record { fits = subst (λ (m : ℕ). m < 2 ^ 64) (sym (uncapped i k fs)) fs })) (ap (vint w64) (uncapped i k fs))) refl (tt, record { fits = fs }) $
+    let bytes = bytes_before (R Z) i room (omega arith) in
+    sets ! (valued ! (bin ! (get ! refl) (size_word !) (record { fits = subst (λ (m : ℕ). m < 2 ^ 64) (sym bytes) fs })) (ap (vint w64) bytes)) refl (tt, record { fits = fs }) $
     sets ! (bin ! (get_in ! (fld ! refl (stop !)) (sub ! 0 refl (whole !))) (get ! refl) tt) refl (tt, tt) $
     sets ! (bin ! (get ! refl) (get ! refl) le) refl (tt, record { fits = fm }) $
     sets ! (addr ! (through ! refl (stop !))) refl (tt, tt) $
