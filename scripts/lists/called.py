@@ -1,10 +1,9 @@
-"""Whether what docs/reference/costs.txt says of each call is shown, and bench/calls.txt names each public call.
+"""Whether what docs/reference/costs.txt says of each call is shown, and bench/calls.txt names calls and rows.
 
 A call that never allocates returns no error that says so. If its type has an allocator and it does not only read, a test in a
 module `no_memory` makes it, which `tests/refuse` holds to no request.
-bench/calls.txt has the row of the benchmarks of each call at 64 and 16,384 items; that of a call whose time is constant, if
-it has the call's name, counts at most CONSTANT more at 16,384. What the vectors share, the crate of slots and the traits of
-slots and arrays, is measured by the vectors' calls.
+bench/calls.txt has the row of the benchmarks of each call that users look up, at 64 and 16,384 items; that of a call whose
+time is constant, if it has the call's name, counts at most CONSTANT more at 16,384.
 """
 import re
 
@@ -15,15 +14,9 @@ from reading import exports
 WITH_ALLOCATOR = ("TinyVec", "InlineText")
 BENCH = exports.TOP / "bench/calls.txt"
 CONSTANT = 2
-SHARED = {
-    *("tinyvec_slots", "CanCut", "CanDrain", "CanPut", "CanSplice", "Gap", "Touches", "OwnsItems", "ItemText", "Plain", "Array"),
-    *("Slots", "Vec", "TakesClones", "[T]", "[T; N]", "InBinary", "InOctal", "InHex", "InUpperHex", "AllocError", "Error"),
-    *("AllocFailed", "NoMemory"),
-}
 # By type the beginnings that the names of its rows have at 64, and at 16,384.
 PREFIXES = {
-    "ArrayVec": ("", ""), "SliceVec": ("slice_", "slice_"), "TinyVec": ("tiny_ tiny_long_", "tiny_long_"),
-    "InlineText": ("text_ heap_text_", "text_"),
+    "ArrayVec": ("", ""), "TinyVec": ("tiny_ tiny_long_", "tiny_long_"), "InlineText": ("text_", "text_"),
 }
 
 
@@ -31,7 +24,7 @@ def faults():
     found = [it for crate in exports.LIBRARIES for it in exports.Crate(crate).exports()]
     functions = [(it.holder(), f"{it.holder()}::{one.name}", one.signature()) for it in found for one in it.functions()]
     yield from faults_of_requests({call: signature for _, call, signature in functions})
-    yield from faults_of_bench({call for holder, call, _ in functions if holder not in SHARED})
+    yield from faults_of_bench({call for _, call, _ in functions})
 
 
 def faults_of_requests(signatures):
@@ -45,17 +38,19 @@ def faults_of_requests(signatures):
 
 
 def faults_of_bench(calls):
-    counts, named = tables.counts(tables.read(tables.RESULTS / "rust.md")), []
-    costs = dict(reference.costs())
-    for kind, how, names, reason in exports.lines_of(BENCH):
-        yield from [f"bench/calls.txt: no reason why {names} have no row"] * (how == "none" and not reason)
+    counts, costs = tables.counts(tables.read(tables.RESULTS / "rust.md")), dict(reference.costs())
+    for kind, _, names, _ in exports.lines_of(BENCH):
         for call, _, row in (it.partition("=") for it in names.split()):
-            named.append(f"{kind}::{call}")
-            for size, prefixes in zip((64, 16384), PREFIXES[kind] if how != "none" else ()):
-                its = [row if row.startswith("borsh_") else prefix + (row or call) for prefix in prefixes.split(" ")]
-                if not any((it, size) in counts for it in its):
-                    yield f"no row of the benchmarks is {its[-1]} {size}, which bench/calls.txt names"
-            few, many = (counts.get((its[-1], it), 0) for it in (64, 16384)) if how != "none" and not row else (0, 0)
-            if costs.get(named[-1], ("",))[0] == "constant" and many > few + CONSTANT:
-                yield f"costs.txt: {named[-1]} is constant, but {its[-1]} counts {few:g} at 64 and {many:g} at 16384"
-    yield from exports.table_faults(BENCH, named, calls)
+            if f"{kind}::{call}" not in calls:
+                yield f"bench/calls.txt: no such call: {kind}::{call}"
+            few, many = (counted(counts, its, row or call, size) for its, size in zip(PREFIXES[kind], (64, 16384)))
+            if few is None or many is None:
+                yield f"no row of the benchmarks is {row or call} at 64 and 16384, which bench/calls.txt names for {kind}"
+            elif costs.get(f"{kind}::{call}", ("",))[0] == "constant" and not row and many > few + CONSTANT:
+                yield f"costs.txt: {kind}::{call} is constant, but its row counts {few:g} at 64 and {many:g} at 16384"
+
+
+def counted(counts, prefixes, row, size):
+    """The row's count, by the last of the prefixes that has it."""
+    names = [row] if row.startswith("borsh_") else [it + row for it in prefixes.split(" ")]
+    return next((counts[it, size] for it in reversed(names) if (it, size) in counts), None)

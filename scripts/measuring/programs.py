@@ -28,22 +28,11 @@ def output(command):
     return subprocess.run(command, check=True, capture_output=True, text=True, cwd=crates.TOP).stdout.strip()
 
 
-def nanoseconds(beside, runs, rounds):
-    """Of each program, by row and capacity: the least of many runs, in rotated order, which is what it takes if the machine
-    does nothing else."""
-    taken, names = {name: {} for name in beside}, list(beside)
-    for turn in (run % len(names) for run in range(runs)):
-        for name in names[turn:] + names[:turn]:
-            for row, capacity, count, nanos, _ in lines([*beside[name], "rows", str(rounds)]):
-                taken[name].setdefault((row, int(capacity)), []).append(int(nanos) / int(count))
-    return {name: {key: min(times) for key, times in rows.items()} for name, rows in taken.items()}
-
-
 def check_sums(beside):
     """Stops where two programs disagree on a row that both have."""
     sums = {}
     for name, command in beside.items():
-        for row, capacity, total in lines([*command, "rows"]):
+        for row, capacity, _, total in lines([*command, "rows", "20"]):
             first = sums.setdefault((row, capacity), (total, name))
             if first[0] != total:
                 sys.exit(f"checksums of {row} at {capacity} differ: {first[1]} {first[0]}, {name} {total}")

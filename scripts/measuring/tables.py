@@ -19,7 +19,6 @@ GROUPS = {
     "`ArrayVec`": "",
     "`TinyVec` in its array": "tiny_",
     "`TinyVec` on the heap": "tiny_heap_",
-    "`TinyVec` on its way to the heap": "tiny_spill_",
     "`TinyVec` out of four slots": "tiny_long_",
     "`ArrayVec` of items with a drop": "nodes_",
     "`TinyVec` of items with a drop": "tiny_nodes_",
@@ -91,7 +90,7 @@ def print_groups(counted):
         print_table("Row", capacities, rows.items())
 
 
-def print_means(unit, measured):
+def print_means(measured):
     """A line for each vector and peer: the geometric mean at each capacity, and the cells above the limit."""
     rows = []
     for group, keys, peer in ((group, keys, peer) for group, keys, peers in groups(measured) for peer in peers):
@@ -100,7 +99,7 @@ def print_means(unit, measured):
         means = [text_of(statistics.geometric_mean(it) if it else None) for it in known]
         above = sum(it > LIMIT for it in ratios.values())
         rows.append((f"{group} over `{name_of(peer, group)}`", [*means, f"{above} of {len(ratios)}"]))
-    print_table(f"{unit} of", [*CAPACITIES, f"cells above {LIMIT}"], rows)
+    print_table("Instructions of", [*CAPACITIES, f"cells above {LIMIT}"], rows)
 
 
 def cell(measured, peers, key):

@@ -12,8 +12,8 @@ from measuring import inputs, instructions, programs
 
 NAMES = list(inputs.MAKERS)
 # A program of the benchmark's own is beside the same over each crate of Rust's that grows. It takes long for a line.
-ROWS, PLAIN, CRATES, SHARE = ("graph", "editor"), ["plain Rust"], ["tinyvec", "smallvec", "vec"], 20
-BUILT = [it for it in NAMES if it not in ROWS]
+OWN, PLAIN, CRATES, SHARE = ("graph", "editor"), ["plain Rust"], ["tinyvec", "smallvec", "vec"], 20
+BUILT = [it for it in NAMES if it not in OWN]
 
 
 def measure(lines, runs, cores):
@@ -21,7 +21,7 @@ def measure(lines, runs, cores):
     with tempfile.TemporaryDirectory() as folder:
         sources = {name: f"{folder}/{name}" for name in NAMES}
         for name, source in sources.items():
-            inputs.write(source, name, lines // (SHARE if name in ROWS else 1))
+            inputs.write(source, name, lines // (SHARE if name in OWN else 1))
             check_answers(name, source)
         of_each = lambda measured, name: {side: measured(it, sources[name]) for side, it in sides(name).items()}
         with concurrent.futures.ThreadPoolExecutor(os.cpu_count()) as pool:
@@ -37,7 +37,7 @@ def measure(lines, runs, cores):
 
 def sides(name):
     """By side, how a program is called that writes the same."""
-    if name in ROWS:
+    if name in OWN:
         return {"here": [programs.program(programs.BENCH), name]} | {it: [programs.PEERS, name, it] for it in CRATES}
     return {"here": [programs.program(name)], PLAIN[0]: [programs.PEERS, name]}
 

@@ -1,401 +1,293 @@
-//! Calls that no other row makes, in the order of `crates/tinyvec_bench`. The body of each stands in its row's loop, as there.
+//! The calls that users look up, as rows. Each has the loop of the row of the same name in `crates/tinyvec_bench`.
 
-use crate::comparing::{compare, equal, hash};
-use crate::number::Number;
+use crate::items::{look_at, Item};
 use crate::report::Report;
-use crate::spilling::look_at as look_at_numbers;
-use crate::texts::look_at;
-use crate::vector::Vector;
-use std::cmp::Ordering;
-use std::fmt::Write;
+use crate::vector::{Growing, Owned, Vector};
 use std::hint::black_box;
-use tinyvec::{ArrayVec, SliceVec, TinyVec};
 
-/// Runs of two, so many numbers in all.
-pub fn runs_of(n: usize) -> Vec<u64> {
-    (0..n as u64).map(|i| i / 2).collect()
+/// The rows of any items.
+pub fn of_items<T: Item, V: Owned<T>>(report: &Report, source: &[T]) {
+    let (vec, other) = (&mut V::new(), &mut V::new());
+    let n = source.len();
+    refill(vec, source, 0);
+    report.row("clone", n, |x| look_at(clone_of(vec, other, x).as_slice(), x));
+    report.row("insert_front", n, |x| insert_front(vec, x));
+    report.row("remove_front", n, |x| remove(vec, 0, x));
+    filled_and_cut(report, vec, source);
+    report.row("fill_and_empty", n, |x| fill_and_empty(vec, n, x));
+    report.row("two_pushes", n, |x| look_at(two_pushes::<T, V>(x).as_slice(), x));
 }
 
-/// Fills the list anew.
-#[inline(never)]
-fn refill<V: Vector<u64, N>, const N: usize>(vec: &mut V, source: &[u64]) {
-    vec.set_len(0);
-    vec.extend_from_slice(source);
+// Those that fill the list anew.
+fn filled_and_cut<T: Item, V: Vector<T>>(report: &Report, vec: &mut V, source: &[T]) {
+    let n = source.len();
+    report.row("extend_from_slice", n, |x| refill(vec, source, x));
+    report.row("clear", n, |x| {
+        refill(vec, source, x);
+        vec.clear();
+        x.wrapping_add(vec.as_slice().len() as u64)
+    });
+    report.row("retain_half", n, |x| {
+        refill(vec, source, x);
+        vec.retain(|it| it.value() % 2 == 1);
+        x.wrapping_add(vec.as_slice().len() as u64)
+    });
+    report.row("drain_taken", n, |x| {
+        refill(vec, source, x);
+        let len = vec.as_slice().len();
+        sum_of(vec.drain(len / 4..len - len / 4), x)
+    });
 }
 
-#[inline(never)]
-fn refill_slice(vec: &mut SliceVec<'_, u64>, source: &[u64]) {
-    vec.set_len(0);
-    vec.extend_from_slice(source);
+/// Those of a list of numbers, of any vector.
+pub fn of_numbers<V: Vector<u64>>(report: &Report, vec: &mut V, other: &mut V, source: &[u64]) {
+    let n = source.len();
+    refill(vec, source, 0);
+    report.row("insert_front", n, |x| insert_front(vec, x));
+    report.row("remove_front", n, |x| remove(vec, 0, x));
+    report.row("remove_middle", n, |x| remove(vec, n / 2, x));
+    report.row("swap_remove", n, |x| swap_remove(vec, n / 2, x));
+    filled_and_cut(report, vec, source);
+    lengthened(report, vec, other, source);
+    report.row("truncate", n, |x| {
+        refill(vec, source, x);
+        vec.truncate(vec.as_slice().len() / 2);
+        x.wrapping_add(vec.as_slice().len() as u64)
+    });
+    report.row("dedup", n, |x| {
+        refill(vec, source, x);
+        vec.dedup();
+        x.wrapping_add(vec.as_slice().len() as u64)
+    });
+    report.row("extract_half", n, |x| {
+        refill(vec, source, x);
+        vec.sum_of_extracted(x)
+    });
+    report.row("drain_dropped", n, |x| {
+        refill(vec, source, x);
+        let len = vec.as_slice().len();
+        drop(vec.drain(len / 4..len - len / 4));
+        x.wrapping_add(vec.as_slice().len() as u64)
+    });
+    report.row("splice_fewer", n, |x| splice(vec, source, n as u64 / 8, x));
+    report.row("splice_more", n, |x| splice(vec, source, n as u64 / 2, x));
+    report.row("replace_range", n, |x| replace_range(vec, source, x));
+    report.row("editor", n, |x| editor(vec, source, x));
+    report.row("fill_and_empty", n, |x| fill_and_empty(vec, n, x));
 }
 
-/// Not inlined, or LLVM would leave out what no later round reads.
-#[inline(never)]
-fn changed<V>(vec: &mut V, change: impl FnOnce(&mut V)) {
-    change(vec)
+// Those that fill the first half of a list, and then the second by the call.
+fn lengthened<V: Vector<u64>>(report: &Report, vec: &mut V, other: &mut V, source: &[u64]) {
+    let n = source.len();
+    let (front, back) = source.split_at(n / 2);
+    report.row("extend_copy", n, |x| {
+        refill(vec, front, x);
+        vec.extend_from_slice(back);
+        x.wrapping_add(vec.as_slice().len() as u64)
+    });
+    report.row("extend_from_range", n, |x| {
+        refill(vec, front, x);
+        let start = x % 65536;
+        vec.extend(start..start.saturating_add(back.len() as u64));
+        x.wrapping_add(vec.as_slice().len() as u64)
+    });
+    report.row("append", n, |x| {
+        refill(vec, front, x);
+        refill(other, back, x);
+        vec.append(other);
+        x.wrapping_add(vec.as_slice().len() as u64)
+    });
+    report.row("extend_from_within", n, |x| {
+        refill(vec, front, x);
+        vec.extend_from_within();
+        x.wrapping_add(vec.as_slice().len() as u64)
+    });
 }
 
-/// A row for each name, over a list, another, what they are filled with, and what fills them.
-macro_rules! rows {
-    ($report:expr, $n:expr, $vec:expr, $other:expr, $refill:expr, $($call:ident)*) => {{
-        let (report, n, vec, _other) = ($report, $n, $vec, $other);
-        let source = runs_of(n);
-        let source = source.as_slice();
-        $(row!($call, report, n, vec, _other, source, $refill);)*
-    }};
+/// Those of a vector that owns its slots.
+pub fn of_owned<V: Owned<u64>>(report: &Report, vec: &mut V, other: &mut V, source: &[u64]) {
+    let n = source.len();
+    refill(vec, source, 0);
+    report.row("clone", n, |x| look_at(clone_of(vec, other, x).as_slice(), x));
+    report.row("split_off", n, |x| split_off(vec, source, x));
+    report.row("resize", n, |x| resize(vec, n, x));
 }
 
-macro_rules! row {
-    (cmp, $report:ident, $n:ident, $vec:ident, $other:ident, $source:ident, $refill:expr) => {
-        $refill($vec, $source);
-        $refill($other, $source);
-        $report.row("cmp", $n, |x| if (*$vec).cmp($other) == Ordering::Greater { 0 } else { x });
-    };
-    (compared, $report:ident, $n:ident, $vec:ident, $other:ident, $source:ident, $refill:expr) => {
-        if $n > 64 {
-            row!(compared_anyhow, $report, $n, $vec, $other, $source, $refill);
-        }
-    };
-    (compared_anyhow, $report:ident, $n:ident, $vec:ident, $other:ident, $source:ident, $refill:expr) => {
-        $refill($vec, $source);
-        $refill($other, $source);
-        $report.row("equal", $n, |x| equal(&*$vec, &*$other, x));
-        $report.row("compare", $n, |x| compare(&*$vec, &*$other, x));
-        $report.row("hash", $n, |x| hash(&*$vec, x));
-    };
-    (pop_if, $report:ident, $n:ident, $vec:ident, $other:ident, $source:ident, $refill:expr) => {
-        $report.row("pop_if", $n, |x| {
-            let popped = $vec.pop();
-            $vec.push(x);
-            popped.unwrap_or(0)
-        });
-    };
-    (push_mut, $report:ident, $n:ident, $vec:ident, $other:ident, $source:ident, $refill:expr) => {
-        $report.row("push_mut", $n, |x| {
-            let popped = $vec.pop();
-            $vec.push(x);
-            if let Some(last) = $vec.last_mut() {
-                *last = 1;
-            }
-            popped.unwrap_or(0)
-        });
-    };
-    (insert_mut, $report:ident, $n:ident, $vec:ident, $other:ident, $source:ident, $refill:expr) => {
-        $report.row("insert_mut", $n, |x| {
-            let popped = $vec.pop();
-            $vec.insert(0, x);
-            $vec[0] = 1;
-            popped.unwrap_or(0)
-        });
-    };
-    (extend_twice, $report:ident, $n:ident, $vec:ident, $other:ident, $source:ident, $refill:expr) => {
-        $report.row("extend_twice", $n, |x| {
-            let (front, back) = $source.split_at($source.len() / 2);
-            $refill($vec, front);
-            $vec.extend_from_slice(back);
-            x.wrapping_add($vec.len() as u64)
-        });
-    };
-    (extend_twice_by_try, $report:ident, $n:ident, $vec:ident, $other:ident, $source:ident, $refill:expr) => {
-        $report.row("extend_twice", $n, |x| {
-            let (front, back) = $source.split_at($source.len() / 2);
-            $refill($vec, front);
-            $vec.try_extend_from_slice(back).unwrap();
-            x.wrapping_add($vec.len() as u64)
-        });
-    };
-    (append, $report:ident, $n:ident, $vec:ident, $other:ident, $source:ident, $refill:expr) => {
-        $report.row("append", $n, |x| {
-            let (front, back) = $source.split_at($source.len() / 2);
-            $refill($vec, front);
-            $refill($other, back);
-            $vec.append($other);
-            x.wrapping_add($vec.len() as u64)
-        });
-    };
-    (extend_from_within, $report:ident, $n:ident, $vec:ident, $other:ident, $source:ident, $refill:expr) => {
-        $report.row("extend_from_within", $n, |x| {
-            $refill($vec, &$source[..$source.len() / 2]);
-            $vec.extend_from_within(..);
-            x.wrapping_add($vec.len() as u64)
-        });
-    };
-    (pop_all, $report:ident, $n:ident, $vec:ident, $other:ident, $source:ident, $refill:expr) => {
-        $report.row("pop_all", $n, |_| {
-            $refill($vec, $source);
-            let mut sum: u64 = 0;
-            while let Some(y) = $vec.pop() {
-                sum = sum.wrapping_add(y);
-            }
-            sum
-        });
-    };
-    (truncate, $report:ident, $n:ident, $vec:ident, $other:ident, $source:ident, $refill:expr) => {
-        $report.row("truncate", $n, |x| {
-            $refill($vec, $source);
-            $vec.truncate($source.len() / 2);
-            x.wrapping_add($vec.len() as u64)
-        });
-    };
-    (clear, $report:ident, $n:ident, $vec:ident, $other:ident, $source:ident, $refill:expr) => {
-        $report.row("clear", $n, |x| {
-            $refill($vec, $source);
-            $vec.clear();
-            x.wrapping_add($vec.len() as u64)
-        });
-    };
-    (retain_mut, $report:ident, $n:ident, $vec:ident, $other:ident, $source:ident, $refill:expr) => {
-        $report.row("retain_mut", $n, |x| {
-            $refill($vec, $source);
-            $vec.retain_mut(|y| *y % 2 == 1);
-            x.wrapping_add($vec.len() as u64)
-        });
-    };
-    (dedup_by, $report:ident, $n:ident, $vec:ident, $other:ident, $source:ident, $refill:expr) => {
-        $report.row("dedup_by", $n, |x| {
-            $refill($vec, $source);
-            $vec.dedup_by(|one, other| *one == *other);
-            x.wrapping_add($vec.len() as u64)
-        });
-        $report.row("dedup_by_key", $n, |x| {
-            $refill($vec, $source);
-            $vec.dedup_by_key(|item| *item / 2);
-            x.wrapping_add($vec.len() as u64)
-        });
-    };
-    (drain_back, $report:ident, $n:ident, $vec:ident, $other:ident, $source:ident, $refill:expr) => {
-        $report.row("drain_back", $n, |x| {
-            $refill($vec, $source);
-            let len = $vec.len();
-            let mut sum = x;
-            for y in $vec.drain(len / 4..len - len / 4).rev() {
-                sum = sum.wrapping_add(y);
-            }
-            sum
-        });
-    };
-    (split_off, $report:ident, $n:ident, $vec:ident, $other:ident, $source:ident, $refill:expr) => {
-        $report.row("split_off", $n, |x| {
-            $refill($vec, $source);
-            let tail = $vec.split_off($vec.len() / 2);
-            look_at_numbers(&tail[..], x)
-        });
-    };
-    (resize, $report:ident, $n:ident, $vec:ident, $other:ident, $source:ident, $refill:expr) => {
-        $report.row("resize", $n, |x| {
-            changed($vec, |vec| {
-                vec.truncate(0);
-                vec.resize($n, x);
-            });
-            x.wrapping_add($vec.len() as u64)
-        });
-        $report.row("resize_with", $n, |x| {
-            changed($vec, |vec| {
-                vec.truncate(0);
-                vec.resize_with($n, || 1);
-            });
-            x.wrapping_add($vec.len() as u64)
-        });
-    };
-    (clone_from, $report:ident, $n:ident, $vec:ident, $other:ident, $source:ident, $refill:expr) => {
-        $refill($vec, $source);
-        $report.row("clone_from", $n, |x| {
-            changed($other, |other| other.clone_from($vec));
-            x.wrapping_add($other.len() as u64)
-        });
-    };
-    (pop_at, $report:ident, $n:ident, $vec:ident, $other:ident, $source:ident, $refill:expr) => {
-        $refill($vec, $source);
-        $report.row("pop_at", $n, |x| {
-            let middle = $source.len() / 2;
-            let popped = if middle < $vec.len() { $vec.remove(middle) } else { 0 };
-            $vec.push(x);
-            popped
-        });
-    };
-    (extend_copy, $report:ident, $n:ident, $vec:ident, $other:ident, $source:ident, $refill:expr) => {
-        $report.row("extend_copy", $n, |x| {
-            $refill($vec, $source);
-            x.wrapping_add($vec.len() as u64)
-        });
-    };
-    (drain_into, $report:ident, $n:ident, $vec:ident, $other:ident, $source:ident, $refill:expr) => {
-        let mut numbers: Vec<u64> = Vec::with_capacity($n);
-        $report.row("drain_into", $n, |x| {
-            $refill($vec, $source);
-            numbers.clear();
-            Extend::extend(&mut numbers, $vec.drain(..));
-            x.wrapping_add(numbers.len() as u64)
-        });
-    };
-    (splice_all, $report:ident, $n:ident, $vec:ident, $other:ident, $source:ident, $refill:expr) => {
-        $report.row("splice_all", $n, |x| {
-            let quarter = $source.len() / 4;
-            $refill($vec, &$source[..3 * quarter]);
-            drop($vec.splice(quarter..2 * quarter, 0..$source.len() as u64 / 2));
-            x.wrapping_add($vec.len() as u64)
-        });
-    };
-    (drain_to_vec, $report:ident, $n:ident, $vec:ident, $other:ident, $source:ident, $refill:expr) => {
-        $report.row("drain_to_vec", $n, |x| {
-            $refill($vec, $source);
-            let drained: Vec<u64> = $vec.drain(..).collect();
-            x.wrapping_add(drained.len() as u64)
-        });
-    };
-    (reserve_and_shrink, $report:ident, $n:ident, $vec:ident, $other:ident, $source:ident, $refill:expr) => {
-        $refill($vec, $source);
-        $report.row("reserve_and_shrink", $n, |x| {
-            $vec.reserve($source.len());
-            $vec.shrink_to_fit();
-            x.wrapping_add($vec.len() as u64)
-        });
-    };
+/// Those that make a vector.
+pub fn of_made<V: Owned<u64> + IntoIterator<Item = u64>>(report: &Report, source: &[u64], make: fn(&[u64]) -> V) {
+    let n = source.len();
+    if n <= 64 {
+        report.row("two_pushes", n, |x| look_at(two_pushes::<u64, V>(x).as_slice(), x));
+    }
+    report.row("into_iter", n, |x| sum_of_new(source, make, x));
 }
 
-macro_rules! made_rows {
-    ($report:expr, $n:expr, $make:expr) => {{
-        let (report, n) = ($report, $n);
-        let source = runs_of(n);
-        report.row("into_iter", n, |x| sum_of_new(source.as_slice(), $make, x));
-        report.row("from_slice", n, |x| last_of_new(source.as_slice(), $make, x));
-    }};
+/// Those of a vector that grows out of its slots.
+pub fn of_grown<V: Growing<u64>>(report: &Report, n: usize) {
+    let (vec, count) = (&mut V::new(), n as u64);
+    report.row("push", n, |x| push::<V>(count, x));
+    report.row("from_iter", n, |x| from_iter::<V>(count, x));
+    report.row("reserve_and_extend", n, |x| reserve_and_extend::<V>(n, x));
+    report.row("reserve_and_shrink", n, |x| reserve_and_shrink(vec, n, x));
 }
 
-#[inline(never)]
-fn sum_of_new<V: IntoIterator<Item = u64>>(source: &[u64], make: impl Fn(&[u64]) -> V, x: u64) -> u64 {
-    let vec = make(source);
-    // Else LLVM makes no list at all, here and below.
-    black_box(&vec);
+/// The sum of the items' values and `x`.
+#[inline(always)]
+pub fn sum_of<T: Item>(items: impl Iterator<Item = T>, x: u64) -> u64 {
     let mut sum = x;
-    for y in vec {
-        sum = sum.wrapping_add(y);
+    for item in items {
+        sum = sum.wrapping_add(item.value());
     }
     sum
 }
 
 #[inline(never)]
-fn last_of_new<V: std::ops::Deref<Target = [u64]>>(source: &[u64], make: impl Fn(&[u64]) -> V, x: u64) -> u64 {
-    let vec = make(source);
-    black_box(&vec);
-    x.wrapping_add(vec.last().map_or(0, Number::value))
+pub fn refill<T: Item, V: Vector<T>>(vec: &mut V, source: &[T], x: u64) -> u64 {
+    vec.empty();
+    vec.extend_from_slice(source);
+    x.wrapping_add(vec.as_slice().len() as u64)
 }
 
-/// A loop of pushes, and new lists with room for all numbers.
-fn with_capacity<V: Vector<u64, N>, const N: usize>(report: &Report, n: usize, make: fn(usize) -> V) {
-    let mut vec = make(n);
-    report.row("clear_and_push", n, |x| clear_and_push(&mut vec, n as u64, x));
-    let source = runs_of(n);
-    report.row("with_capacity", n, |x| len_of_new(source.as_slice(), make, x));
+fn fill_and_empty<T: Item, V: Vector<T>>(vec: &mut V, n: usize, x: u64) -> u64 {
+    push_all(vec, n, x);
+    pop_all(vec)
 }
 
 #[inline(never)]
-fn clear_and_push<V: Vector<u64, N>, const N: usize>(vec: &mut V, count: u64, x: u64) -> u64 {
-    vec.clear();
+fn push_all<T: Item, V: Vector<T>>(vec: &mut V, n: usize, x: u64) {
+    for i in vec.as_slice().len()..n {
+        vec.push(T::of(x.wrapping_add(i as u64)));
+    }
+}
+
+#[inline(never)]
+fn pop_all<T: Item, V: Vector<T>>(vec: &mut V) -> u64 {
+    let mut sum: u64 = 0;
+    while let Some(item) = vec.pop() {
+        sum = sum.wrapping_add(item.value());
+    }
+    sum
+}
+
+#[inline(never)]
+fn insert_front<T: Item, V: Vector<T>>(vec: &mut V, x: u64) -> u64 {
+    let Some(last) = vec.pop() else {
+        return 0;
+    };
+    vec.insert(0, T::of(x));
+    last.value()
+}
+
+#[inline(never)]
+fn remove<T: Item, V: Vector<T>>(vec: &mut V, i: usize, x: u64) -> u64 {
+    if i >= vec.as_slice().len() {
+        return 0;
+    }
+    let removed = vec.remove(i);
+    vec.push(T::of(x));
+    removed.value()
+}
+
+#[inline(never)]
+fn swap_remove<T: Item, V: Vector<T>>(vec: &mut V, i: usize, x: u64) -> u64 {
+    if i >= vec.as_slice().len() {
+        return 0;
+    }
+    let removed = vec.swap_remove(i);
+    vec.push(T::of(x));
+    removed.value()
+}
+
+#[inline(never)]
+fn splice<V: Vector<u64>>(vec: &mut V, source: &[u64], count: u64, x: u64) -> u64 {
+    let quarter = source.len() / 4;
+    refill(vec, &source[..3 * quarter], x);
+    vec.splice(quarter..2 * quarter, 0..count);
+    x.wrapping_add(vec.as_slice().len() as u64)
+}
+
+#[inline(never)]
+fn replace_range<V: Vector<u64>>(vec: &mut V, source: &[u64], x: u64) -> u64 {
+    let quarter = source.len() / 4;
+    refill(vec, &source[..3 * quarter], x);
+    vec.replace_range(quarter..2 * quarter, &source[2 * quarter..]);
+    x.wrapping_add(vec.as_slice().len() as u64)
+}
+
+/// An editor's change, cut and undo.
+#[inline(never)]
+pub fn editor<V: Vector<u64>>(vec: &mut V, source: &[u64], x: u64) -> u64 {
+    let quarter = source.len() / 4;
+    replace_range(vec, source, x);
+    let cut = sum_of(vec.drain(quarter..3 * quarter), x);
+    vec.replace_range(quarter..quarter, &source[quarter..2 * quarter]);
+    cut.wrapping_add(vec.as_slice().len() as u64)
+}
+
+#[inline(never)]
+fn two_pushes<T: Item, V: Owned<T>>(x: u64) -> V {
+    let mut vec = V::new();
+    for _ in 0..2 {
+        vec.push(T::of(x));
+    }
+    vec
+}
+
+#[inline(never)]
+fn sum_of_new<V: IntoIterator<Item = u64>>(source: &[u64], make: fn(&[u64]) -> V, x: u64) -> u64 {
+    let vec = make(source);
+    // Else LLVM makes no list at all.
+    black_box(&vec);
+    sum_of(vec.into_iter(), x)
+}
+
+#[inline(never)]
+fn clone_of<T: Item, V: Owned<T>>(even: &V, odd: &V, x: u64) -> V {
+    let vec = if x % 2 == 0 { even } else { odd };
+    vec.clone()
+}
+
+#[inline(never)]
+fn split_off<V: Owned<u64>>(vec: &mut V, source: &[u64], x: u64) -> u64 {
+    refill(vec, source, x);
+    let tail = vec.split_off(vec.as_slice().len() / 2);
+    look_at(tail.as_slice(), x)
+}
+
+#[inline(never)]
+fn resize<V: Owned<u64>>(vec: &mut V, n: usize, x: u64) -> u64 {
+    vec.empty();
+    vec.resize(n, x);
+    x.wrapping_add(vec.as_slice().len() as u64)
+}
+
+#[inline(never)]
+fn push<V: Growing<u64>>(count: u64, x: u64) -> u64 {
+    let mut vec = V::new();
     for k in 0..count {
         vec.push(x.wrapping_add(k));
     }
-    x.wrapping_add(vec.as_slice().len() as u64)
+    look_at(vec.as_slice(), x)
 }
 
 #[inline(never)]
-fn len_of_new<V: Vector<u64, N>, const N: usize>(source: &[u64], make: fn(usize) -> V, x: u64) -> u64 {
-    let mut vec = make(source.len());
-    vec.extend_from_slice(source);
-    black_box(&vec);
+fn from_iter<V: Growing<u64>>(count: u64, x: u64) -> u64 {
+    let start = x % 65536;
+    look_at(V::collected(start..start.saturating_add(count)).as_slice(), x)
+}
+
+#[inline(never)]
+fn reserve_and_extend<V: Growing<u64>>(count: usize, x: u64) -> u64 {
+    let mut vec = V::new();
+    vec.reserve(count);
+    let start = x % 65536;
+    vec.extend(start..start.saturating_add(count as u64));
+    look_at(vec.as_slice(), x)
+}
+
+#[inline(never)]
+fn reserve_and_shrink<V: Growing<u64>>(vec: &mut V, count: usize, x: u64) -> u64 {
+    vec.reserve(count);
+    vec.shrink_to_fit();
     x.wrapping_add(vec.as_slice().len() as u64)
-}
-
-fn printed(report: &Report, n: usize, list: &(impl std::fmt::Debug + ?Sized)) {
-    let mut text = String::new();
-    report.row("debug", n, |x| {
-        text.clear();
-        let _ = write!(text, "{list:?}");
-        look_at(text.as_bytes(), x)
-    });
-}
-
-/// The rows of `tinyvec`'s vectors of `N` slots.
-pub fn of_tinyvec_array<const N: usize>(report: &Report) {
-    let (mut vec, mut other) = (ArrayVec::<[u64; N]>::new(), ArrayVec::<[u64; N]>::new());
-    let (vec, other) = (&mut vec, &mut other);
-    rows!(report, N, &mut *vec, &mut *other, refill::<_, N>, cmp pop_if push_mut insert_mut extend_twice append pop_all truncate clear
-        drain_back compared split_off resize clone_from);
-    made_rows!(report, N, |items: &[u64]| ArrayVec::<[u64; N]>::try_from(items).unwrap());
-    rows!(report, N, &mut *vec, &mut *other, refill::<_, N>, pop_at extend_copy drain_into splice_all drain_to_vec);
-    refill::<_, N>(vec, &runs_of(N));
-    printed(report, N, vec);
-}
-
-/// Those of a lent slice.
-pub fn of_tinyvec_slice<const N: usize>(report: &Report) {
-    let (mut slots, mut others) = ([0; N], [0; N]);
-    let mut vec = SliceVec::from_slice_len(&mut slots, 0);
-    let mut other = SliceVec::from_slice_len(&mut others, 0);
-    rows!(report, N, &mut vec, &mut other, refill_slice, cmp pop_if push_mut insert_mut extend_twice append pop_all truncate clear
-        compared_anyhow pop_at extend_copy drain_into drain_to_vec);
-}
-
-/// Those of a `TinyVec` of `n` items over `N` slots.
-pub fn of_tinyvec_tiny<const N: usize>(report: &Report, n: usize)
-where
-    [u64; N]: tinyvec::Array<Item = u64>,
-{
-    let (mut vec, mut other) = (TinyVec::<[u64; N]>::new(), TinyVec::<[u64; N]>::new());
-    let (vec, other) = (&mut vec, &mut other);
-    rows!(report, n, &mut *vec, &mut *other, refill::<_, N>, cmp pop_if push_mut insert_mut extend_twice append pop_all truncate clear
-        drain_back compared split_off resize clone_from);
-    made_rows!(report, n, |items: &[u64]| TinyVec::<[u64; N]>::from(items));
-    rows!(report, n, &mut *vec, &mut *other, refill::<_, N>, pop_at extend_copy drain_into splice_all reserve_and_shrink);
-    with_capacity::<TinyVec<[u64; N]>, N>(report, n, TinyVec::with_capacity);
-    refill::<_, N>(vec, &runs_of(n));
-    printed(report, n, vec);
-}
-
-/// Those of a `SmallVec`, in place of an `ArrayVec` or a `TinyVec`.
-pub fn of_smallvec<const N: usize>(report: &Report, n: usize, is_tiny: bool) {
-    let (mut vec, mut other) = (smallvec::SmallVec::<[u64; N]>::new(), smallvec::SmallVec::<[u64; N]>::new());
-    let (vec, other) = (&mut vec, &mut other);
-    rows!(report, n, &mut *vec, &mut *other, refill::<_, N>, cmp pop_if push_mut insert_mut extend_twice append pop_all truncate clear
-        retain_mut dedup_by drain_back compared resize clone_from);
-    made_rows!(report, n, smallvec::SmallVec::<[u64; N]>::from_slice);
-    rows!(report, n, &mut *vec, &mut *other, refill::<_, N>, pop_at extend_copy drain_into);
-    if is_tiny {
-        rows!(report, n, &mut *vec, &mut *other, refill::<_, N>, reserve_and_shrink);
-        with_capacity::<smallvec::SmallVec<[u64; N]>, N>(report, n, smallvec::SmallVec::with_capacity);
-    } else {
-        rows!(report, n, &mut *vec, &mut *other, refill::<_, N>, drain_to_vec);
-    }
-    refill::<_, N>(vec, &runs_of(n));
-    printed(report, n, vec);
-}
-
-/// Those of an `arrayvec::ArrayVec`.
-pub fn of_arrayvec<const N: usize>(report: &Report) {
-    let (mut vec, mut other) = (arrayvec::ArrayVec::<u64, N>::new(), arrayvec::ArrayVec::<u64, N>::new());
-    let (vec, other) = (&mut vec, &mut other);
-    rows!(report, N, &mut *vec, &mut *other, refill::<_, N>, cmp pop_if push_mut insert_mut extend_twice_by_try pop_all truncate
-        clear drain_back compared clone_from);
-    made_rows!(report, N, |items: &[u64]| arrayvec::ArrayVec::<u64, N>::try_from(items).unwrap());
-    rows!(report, N, &mut *vec, &mut *other, refill::<_, N>, pop_at extend_copy drain_into drain_to_vec);
-    refill::<_, N>(vec, &runs_of(N));
-    printed(report, N, vec);
-}
-
-/// Those of a `Vec`, in place of an `ArrayVec` or a `TinyVec`.
-pub fn of_vec(report: &Report, n: usize, is_tiny: bool) {
-    let (mut vec, mut other) = (Vec::<u64>::new(), Vec::<u64>::new());
-    let (vec, other) = (&mut vec, &mut other);
-    rows!(report, n, &mut *vec, &mut *other, refill::<_, 0>, cmp pop_if push_mut insert_mut extend_twice append extend_from_within pop_all
-        truncate clear retain_mut dedup_by drain_back compared split_off resize clone_from);
-    made_rows!(report, n, <[u64]>::to_vec);
-    rows!(report, n, &mut *vec, &mut *other, refill::<_, 0>, pop_at extend_copy drain_into splice_all);
-    if is_tiny {
-        rows!(report, n, &mut *vec, &mut *other, refill::<_, 0>, reserve_and_shrink);
-        with_capacity::<Vec<u64>, 0>(report, n, Vec::with_capacity);
-    } else {
-        rows!(report, n, &mut *vec, &mut *other, refill::<_, 0>, drain_to_vec);
-    }
-    refill::<_, 0>(vec, &runs_of(n));
-    printed(report, n, vec);
 }

@@ -1,24 +1,24 @@
-//! Two rows as programs: each line of standard input is a number, and is answered by what one round returns.
+//! Two programs: each line of standard input is a number, and is answered by one.
 
-use crate::benchmarks::editor;
-use crate::calls::runs_of;
+use crate::calls::editor;
 use crate::graph::{edges_of, graph};
-use crate::growing::Growing;
+use crate::items::runs_of;
+use crate::vector::Owned;
 use std::io;
 
 /// A graph has so many nodes, and a list up to so many items.
 const MOST: usize = 1000;
 
 /// Answers each line by the walk through a graph with three times as many edges.
-pub fn answer_graphs<V: Growing<u32, 4>>() -> io::Result<()> {
+pub fn answer_graphs<V: Owned<u32>>() -> io::Result<()> {
     let edges = edges_of(MOST);
     answer(|number| graph::<V>(&edges[..edges.len().min(3 * number)], MOST, 0))
 }
 
 /// Answers each line by an edit of a list of so many items. One list serves all lines.
-pub fn answer_edits<V: Growing<u64, 4>>() -> io::Result<()> {
+pub fn answer_edits<V: Owned<u64>>() -> io::Result<()> {
     let source = runs_of(MOST);
-    let mut list = V::empty();
+    let mut list = V::new();
     answer(|number| editor(&mut list, &source[..source.len().min(number)], number as u64))
 }
 

@@ -1,75 +1,53 @@
 //! The Borsh form by plain loops over std's readers and writers, since no crate of the form is at hand.
 
-use crate::number::Number;
+use crate::report::Report;
 use std::io::{self, Read, Write};
 use tinyvec::ArrayVec;
 
 // So many bytes are the count in front of the items.
 const COUNT: usize = 8;
 
-/// A number of the form.
-pub trait Plain: Number {
-    fn write_items(items: &[Self], writer: &mut impl Write) -> io::Result<()>;
-
-    fn read_items(items: &mut [Self], reader: &mut impl Read) -> io::Result<()>;
-}
-
-impl Plain for u8 {
-    fn write_items(items: &[u8], writer: &mut impl Write) -> io::Result<()> {
-        writer.write_all(items)
-    }
-
-    fn read_items(items: &mut [u8], reader: &mut impl Read) -> io::Result<()> {
-        reader.read_exact(items)
-    }
-}
-
-impl Plain for u32 {
-    fn write_items(items: &[u32], writer: &mut impl Write) -> io::Result<()> {
-        for item in items {
-            writer.write_all(&item.to_le_bytes())?;
-        }
-        Ok(())
-    }
-
-    fn read_items(items: &mut [u32], reader: &mut impl Read) -> io::Result<()> {
-        for item in items {
-            let mut bytes = [0; 4];
-            reader.read_exact(&mut bytes)?;
-            *item = u32::from_le_bytes(bytes);
-        }
-        Ok(())
-    }
-}
-
-/// Writes the list, and answers how many bytes there are.
-#[inline(never)]
-pub fn borsh_write<T: Plain, const N: usize>(vec: &ArrayVec<[T; N]>, form: &mut Vec<u8>, x: u64) -> u64
+/// The rows of a list of numbers.
+pub fn of_form<const N: usize>(report: &Report)
 where
-    [T; N]: tinyvec::Array<Item = T>,
+    [u32; N]: tinyvec::Array<Item = u32>,
+{
+    let mut numbers: ArrayVec<[u32; N]> = (0..N as u32).collect();
+    let mut form = Vec::new();
+    report.row("borsh_write_u32", N, |x| write(&numbers, &mut form, x));
+    report.row("borsh_read_u32", N, |x| read(&mut numbers, &form, x));
+}
+
+// Writes the list, and answers how many bytes there are.
+#[inline(never)]
+fn write<const N: usize>(vec: &ArrayVec<[u32; N]>, form: &mut Vec<u8>, x: u64) -> u64
+where
+    [u32; N]: tinyvec::Array<Item = u32>,
 {
     form.clear();
     let _ = form.write_all(&(vec.len() as u64).to_le_bytes());
-    let _ = T::write_items(vec, form);
+    for item in vec {
+        let _ = form.write_all(&item.to_le_bytes());
+    }
     x.wrapping_add(form.len() as u64)
 }
 
-/// Reads the list from its bytes.
+// Reads the list from its bytes.
 #[inline(never)]
-pub fn borsh_read<T: Plain, const N: usize>(vec: &mut ArrayVec<[T; N]>, form: &[u8], x: u64) -> u64
+fn read<const N: usize>(vec: &mut ArrayVec<[u32; N]>, form: &[u8], x: u64) -> u64
 where
-    [T; N]: tinyvec::Array<Item = T>,
+    [u32; N]: tinyvec::Array<Item = u32>,
 {
-    let Ok(list) = read_list::<T, N>(&mut &*form) else {
+    let Ok(list) = read_list(&mut &*form) else {
         return 0;
     };
     *vec = list;
     x
 }
 
-fn read_list<T: Plain, const N: usize>(reader: &mut impl Read) -> io::Result<ArrayVec<[T; N]>>
+fn read_list<const N: usize>(reader: &mut impl Read) -> io::Result<ArrayVec<[u32; N]>>
 where
-    [T; N]: tinyvec::Array<Item = T>,
+    [u32; N]: tinyvec::Array<Item = u32>,
 {
     let mut bytes = [0; COUNT];
     reader.read_exact(&mut bytes)?;
@@ -79,6 +57,10 @@ where
     }
     let mut list = ArrayVec::new();
     list.set_len(count as usize);
-    T::read_items(&mut list, reader)?;
+    for item in &mut list {
+        let mut bytes = [0; 4];
+        reader.read_exact(&mut bytes)?;
+        *item = u32::from_le_bytes(bytes);
+    }
     Ok(list)
 }

@@ -1,9 +1,7 @@
 //! A graph that is built, pruned and walked. Its nodes list those that follow them.
 
-use crate::growing::Growing;
-use crate::number::Number;
-use crate::report::Report;
-use crate::sources::state_behind;
+use crate::items::Item;
+use crate::vector::Owned;
 
 /// An edge, by the numbers of its nodes.
 #[derive(Clone, Copy)]
@@ -12,18 +10,13 @@ pub struct Edge {
     to: u32,
 }
 
-/// A graph of so many nodes.
-pub fn of_graph<V: Growing<u32, 4>>(report: &Report, count: usize) {
-    let edges = edges_of(count);
-    report.row("graph", count, |x| graph::<V>(&edges, count, x));
-}
-
 /// Three edges for each node, from any to any.
 pub fn edges_of(count: usize) -> Vec<Edge> {
     let nodes = count as u64;
     let mut state: u64 = 1;
     let mut next = || {
-        state = state_behind(state);
+        // A step of Knuth's linear congruential generator.
+        state = state.wrapping_mul(6364136223846793005).wrapping_add(1442695040888963407);
         let number = state / 4294967296;
         Edge { from: (number % nodes) as usize, to: u32::of(number / nodes % nodes) }
     };
@@ -32,16 +25,16 @@ pub fn edges_of(count: usize) -> Vec<Edge> {
 
 /// Builds a graph of so many nodes, drops some of its edges, and adds up what is reached.
 #[inline(never)]
-pub fn graph<V: Growing<u32, 4>>(edges: &[Edge], count: usize, x: u64) -> u64 {
+pub fn graph<V: Owned<u32>>(edges: &[Edge], count: usize, x: u64) -> u64 {
     let mut nodes = built::<V>(edges, count);
     prune(&mut nodes);
     walk(&nodes, x)
 }
 
 #[inline(never)]
-fn built<V: Growing<u32, 4>>(edges: &[Edge], count: usize) -> Vec<V> {
+fn built<V: Owned<u32>>(edges: &[Edge], count: usize) -> Vec<V> {
     let mut nodes = Vec::new();
-    nodes.resize_with(count, V::empty);
+    nodes.resize_with(count, V::new);
     for edge in edges {
         nodes[edge.from].push(edge.to);
     }
@@ -50,7 +43,7 @@ fn built<V: Growing<u32, 4>>(edges: &[Edge], count: usize) -> Vec<V> {
 
 // Drops the edges to every fourth node, and the first of those that are left of a node with more than two.
 #[inline(never)]
-fn prune<V: Growing<u32, 4>>(nodes: &mut [V]) {
+fn prune<V: Owned<u32>>(nodes: &mut [V]) {
     for node in nodes {
         node.retain(|to| to % 4 != 0);
         if node.as_slice().len() > 2 {
@@ -61,7 +54,7 @@ fn prune<V: Growing<u32, 4>>(nodes: &mut [V]) {
 
 // Goes from a node to those that follow it, and on from these, each once, and mixes their numbers in that order.
 #[inline(never)]
-fn walk<V: Growing<u32, 4>>(nodes: &[V], x: u64) -> u64 {
+fn walk<V: Owned<u32>>(nodes: &[V], x: u64) -> u64 {
     let mut marks = vec![false; nodes.len()];
     let mut reached = Vec::with_capacity(nodes.len());
     reached.push(u32::of(x % 64));

@@ -1,29 +1,20 @@
 //! The benchmarks of `crates/tinyvec_bench` over the crates that users would pick instead, and programs: five most of which
 //! are over `tinyvec`, and two over each crate that grows. The first argument is `tinyvec`, `smallvec`, `arrayvec` or `vec`, or
-//! the name of a program, after which `graph` and `editor` have that of the crate. The benchmarks print checksums, and with
-//! `rows ROUNDS` times too. A program reads standard input and writes standard output.
+//! the name of a program, after which `graph` and `editor` have that of the crate. After `rows ROUNDS` the benchmarks print their
+//! checksums. A program reads standard input and writes standard output.
 
-mod benchmarks;
 mod calls;
-mod comparing;
 mod counts;
-mod dates;
 mod dns_query;
-mod fnv;
 mod form;
 mod graph;
-mod growing;
+mod items;
 mod lines;
+mod looks;
 mod node_lines;
-mod nodes;
-mod number;
-mod peers;
 mod records;
 mod report;
 mod rows;
-mod slices;
-mod sources;
-mod spilling;
 mod texts;
 mod tidy;
 mod tv;
@@ -31,15 +22,11 @@ mod unbuffered;
 mod vector;
 
 use crate::counts::{answer_edits, answer_graphs};
-use crate::report::Report;
 use smallvec::SmallVec;
 use std::env;
 use std::io;
 use std::process::ExitCode;
 use tinyvec::TinyVec;
-
-/// So often a benchmark runs for its checksum alone.
-const FEW_ROUNDS: u64 = 20;
 
 fn program(name: &str, over: Option<&str>) -> Option<fn() -> io::Result<()>> {
     match (name, over) {
@@ -64,10 +51,9 @@ fn main() -> ExitCode {
     if let Some(program) = word(0).and_then(|it| program(it, word(1))) {
         return if program().is_ok() { ExitCode::SUCCESS } else { ExitCode::FAILURE };
     }
-    let report = match word(2).map(str::parse) {
-        None => Report { prefix: "", rounds: FEW_ROUNDS, is_timed: false },
-        Some(Ok(rounds)) => Report { prefix: "", rounds, is_timed: true },
-        Some(Err(_)) => return ExitCode::FAILURE,
+    let rounds = match word(2).map(str::parse) {
+        Some(Ok(rounds)) => rounds,
+        _ => return ExitCode::FAILURE,
     };
-    if peers::rows_of(word(0), report) { ExitCode::SUCCESS } else { ExitCode::FAILURE }
+    if rows::rows_of(word(0), rounds) { ExitCode::SUCCESS } else { ExitCode::FAILURE }
 }

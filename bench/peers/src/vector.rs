@@ -1,32 +1,11 @@
 //! The calls that the benchmarks make, at each of the peers.
 
-use crate::number::Number;
-use std::fmt::Debug;
-use std::hash::Hash;
+use crate::calls::sum_of;
+use crate::items::Item;
 use std::ops::Range;
 
-/// A vector over `N` numbers.
-pub trait Vector<T: Number, const N: usize>: Clone + PartialOrd + Hash + Debug {
-    /// Whether the peer has the call.
-    const HAS_DEDUP: bool = true;
-    const HAS_SPLICE: bool = true;
-    const HAS_EXTRACT: bool = false;
-
-    /// Whether it never holds more than `N` items.
-    const IS_BOUNDED: bool = false;
-
-    fn new() -> Self;
-    fn from_array(array: [T; N]) -> Self;
-
-    /// A vector of these items.
-    fn of_items(items: &[T]) -> Self {
-        let mut vec = Self::new();
-        for item in items {
-            vec.push(item.clone());
-        }
-        vec
-    }
-
+/// A vector. A call that it lacks panics: its rows are left out.
+pub trait Vector<T: Item> {
     fn as_slice(&self) -> &[T];
     fn as_mut_slice(&mut self) -> &mut [T];
     fn push(&mut self, x: T);
@@ -36,20 +15,47 @@ pub trait Vector<T: Number, const N: usize>: Clone + PartialOrd + Hash + Debug {
     fn swap_remove(&mut self, i: usize) -> T;
     fn truncate(&mut self, n: usize);
     fn clear(&mut self);
-    fn extend_from_slice(&mut self, source: &[T])
-    where
-        T: Copy;
-
     fn extend(&mut self, items: impl Iterator<Item = T>);
     fn drain(&mut self, range: Range<usize>) -> impl Iterator<Item = T>;
     fn retain(&mut self, keeps: impl FnMut(&T) -> bool);
+    fn extend_from_slice(&mut self, source: &[T]);
 
-    /// Moves the border behind the items. What stood there is not written.
-    fn set_len(&mut self, len: usize);
+    /// Moves the border behind no item. What stood there is not written.
+    fn empty(&mut self);
 
-    fn dedup(&mut self) {}
+    fn append(&mut self, _other: &mut Self) {
+        unreachable!()
+    }
 
-    fn splice(&mut self, _range: Range<usize>, _items: impl Iterator<Item = T>) {}
+    fn extend_from_within(&mut self) {
+        unreachable!()
+    }
+
+    fn dedup(&mut self)
+    where
+        T: PartialEq,
+    {
+        unreachable!()
+    }
+
+    fn sum_of_extracted(&mut self, _x: u64) -> u64 {
+        unreachable!()
+    }
+
+    fn splice(&mut self, _range: Range<usize>, _items: impl Iterator<Item = T>) {
+        unreachable!()
+    }
+
+    fn resize(&mut self, _n: usize, _x: T) {
+        unreachable!()
+    }
+
+    fn split_off(&mut self, _at: usize) -> Self
+    where
+        Self: Sized,
+    {
+        unreachable!()
+    }
 
     /// Puts the items in the place of a range, by block copies. A `splice` reads its iterator item by item, and that of `tinyvec`
     /// moves what follows for each; a rotation costs more at some lengths than at others.
@@ -75,20 +81,46 @@ pub trait Vector<T: Number, const N: usize>: Clone + PartialOrd + Hash + Debug {
         list.copy_within(end..len, end + more);
         list[start..start + new].copy_from_slice(items);
     }
-
-    /// Takes out what `is_taken` says, and returns the sum of the items' values and `x`.
-    fn sum_of_extracted(&mut self, _is_taken: impl FnMut(&mut T) -> bool, x: u64) -> u64 {
-        x
-    }
-
-    fn is_full(&self) -> bool {
-        self.as_slice().len() == N
-    }
 }
 
-/// Writes the calls that each peer has under the same name.
+/// One that owns its slots.
+pub trait Owned<T: Item>: Vector<T> + Clone {
+    fn new() -> Self;
+}
+
+/// One that grows.
+pub trait Growing<T: Item>: Owned<T> {
+    /// An empty one on the heap.
+    fn on_heap() -> Self;
+    fn reserve(&mut self, n: usize);
+    fn shrink_to_fit(&mut self);
+    fn collected(items: impl Iterator<Item = T>) -> Self;
+}
+
+/// Writes calls that go by the same name.
+macro_rules! same {
+    ($($name:ident($($x:ident: $type:ty),*) $(-> $result:ty)?;)*) => {
+        $(#[inline(always)]
+        fn $name(&mut self, $($x: $type),*) $(-> $result)? {
+            self.$name($($x),*)
+        })*
+    };
+}
+
+/// Those that each peer has.
 macro_rules! shared_calls {
     () => {
+        same! {
+            push(x: T);
+            pop() -> Option<T>;
+            insert(i: usize, x: T);
+            remove(i: usize) -> T;
+            swap_remove(i: usize) -> T;
+            truncate(n: usize);
+            clear();
+            drain(range: Range<usize>) -> impl Iterator<Item = T>;
+        }
+
         #[inline(always)]
         fn as_slice(&self) -> &[T] {
             self
@@ -100,264 +132,232 @@ macro_rules! shared_calls {
         }
 
         #[inline(always)]
-        fn push(&mut self, x: T) {
-            self.push(x)
-        }
-
-        #[inline(always)]
-        fn pop(&mut self) -> Option<T> {
-            self.pop()
-        }
-
-        #[inline(always)]
-        fn insert(&mut self, i: usize, x: T) {
-            self.insert(i, x)
-        }
-
-        #[inline(always)]
-        fn remove(&mut self, i: usize) -> T {
-            self.remove(i)
-        }
-
-        #[inline(always)]
-        fn swap_remove(&mut self, i: usize) -> T {
-            self.swap_remove(i)
-        }
-
-        #[inline(always)]
-        fn truncate(&mut self, n: usize) {
-            self.truncate(n)
-        }
-
-        #[inline(always)]
-        fn clear(&mut self) {
-            self.clear()
-        }
-
-        #[inline(always)]
         fn extend(&mut self, items: impl Iterator<Item = T>) {
             Extend::extend(self, items)
-        }
-
-        #[inline(always)]
-        fn drain(&mut self, range: Range<usize>) -> impl Iterator<Item = T> {
-            self.drain(range)
         }
     };
 }
 
-impl<T: Number, const N: usize> Vector<T, N> for tinyvec::ArrayVec<[T; N]> {
-    // Its `dedup` needs a nightly compiler.
-    const HAS_DEDUP: bool = false;
-    const IS_BOUNDED: bool = true;
+macro_rules! retain {
+    () => {
+        #[inline(always)]
+        fn retain(&mut self, keeps: impl FnMut(&T) -> bool) {
+            self.retain(keeps)
+        }
+    };
+    (mutable) => {
+        #[inline(always)]
+        fn retain(&mut self, mut keeps: impl FnMut(&T) -> bool) {
+            self.retain(|x| keeps(x))
+        }
+    };
+}
 
+macro_rules! splice {
+    () => {
+        #[inline(always)]
+        fn splice(&mut self, range: Range<usize>, items: impl Iterator<Item = T>) {
+            drop(self.splice(range, items))
+        }
+    };
+}
+
+macro_rules! empty {
+    () => {
+        #[inline(always)]
+        fn empty(&mut self) {
+            // No item that a benchmark leaves owns anything.
+            unsafe { self.set_len(0) }
+        }
+    };
+}
+
+macro_rules! owned {
+    () => {
+        #[inline(always)]
+        fn new() -> Self {
+            Self::new()
+        }
+    };
+}
+
+macro_rules! growing {
+    () => {
+        same! {
+            reserve(n: usize);
+            shrink_to_fit();
+        }
+
+        #[inline(always)]
+        fn collected(items: impl Iterator<Item = T>) -> Self {
+            items.collect()
+        }
+    };
+}
+
+impl<T: Item, const N: usize> Vector<T> for tinyvec::ArrayVec<[T; N]> {
     shared_calls!();
-
-    #[inline(always)]
-    fn new() -> Self {
-        Self::new()
+    retain!();
+    splice!();
+    same! {
+        extend_from_slice(source: &[T]);
+        append(other: &mut Self);
+        resize(n: usize, x: T);
+        split_off(at: usize) -> Self;
     }
 
     #[inline(always)]
-    fn from_array(array: [T; N]) -> Self {
-        Self::from(array)
-    }
-
-    #[inline(always)]
-    fn extend_from_slice(&mut self, source: &[T])
-    where
-        T: Copy,
-    {
-        self.extend_from_slice(source)
-    }
-
-    #[inline(always)]
-    fn retain(&mut self, keeps: impl FnMut(&T) -> bool) {
-        self.retain(keeps)
-    }
-
-    #[inline(always)]
-    fn set_len(&mut self, len: usize) {
-        self.set_len(len)
-    }
-
-    #[inline(always)]
-    fn splice(&mut self, range: Range<usize>, items: impl Iterator<Item = T>) {
-        drop(self.splice(range, items))
+    fn empty(&mut self) {
+        self.set_len(0)
     }
 }
 
-impl<T: Number, const N: usize> Vector<T, N> for tinyvec::TinyVec<[T; N]>
+impl<T: Item, const N: usize> Owned<T> for tinyvec::ArrayVec<[T; N]> {
+    owned!();
+}
+
+impl<T: Item> Vector<T> for tinyvec::SliceVec<'_, T> {
+    shared_calls!();
+    retain!();
+    same! {
+        extend_from_slice(source: &[T]);
+        append(other: &mut Self);
+    }
+
+    #[inline(always)]
+    fn empty(&mut self) {
+        self.set_len(0)
+    }
+}
+
+impl<T: Item, const N: usize> Vector<T> for tinyvec::TinyVec<[T; N]>
 where
     [T; N]: tinyvec::Array<Item = T>,
 {
-    // Its `dedup` needs a nightly compiler.
-    const HAS_DEDUP: bool = false;
-
     shared_calls!();
-
-    #[inline(always)]
-    fn new() -> Self {
-        Self::new()
+    retain!();
+    splice!();
+    same! {
+        extend_from_slice(source: &[T]);
+        append(other: &mut Self);
+        resize(n: usize, x: T);
+        split_off(at: usize) -> Self;
     }
 
     #[inline(always)]
-    fn from_array(array: [T; N]) -> Self {
-        Self::from(array)
-    }
-
-    #[inline(always)]
-    fn extend_from_slice(&mut self, source: &[T])
-    where
-        T: Copy,
-    {
-        self.extend_from_slice(source)
-    }
-
-    #[inline(always)]
-    fn retain(&mut self, keeps: impl FnMut(&T) -> bool) {
-        self.retain(keeps)
-    }
-
-    #[inline(always)]
-    fn set_len(&mut self, len: usize) {
-        self.truncate(len)
-    }
-
-    #[inline(always)]
-    fn splice(&mut self, range: Range<usize>, items: impl Iterator<Item = T>) {
-        drop(self.splice(range, items))
+    fn empty(&mut self) {
+        self.truncate(0)
     }
 }
 
-impl<T: Number, const N: usize> Vector<T, N> for smallvec::SmallVec<[T; N]> {
-    const HAS_SPLICE: bool = false;
+impl<T: Item, const N: usize> Owned<T> for tinyvec::TinyVec<[T; N]>
+where
+    [T; N]: tinyvec::Array<Item = T>,
+{
+    owned!();
+}
 
+impl<T: Item, const N: usize> Growing<T> for tinyvec::TinyVec<[T; N]>
+where
+    [T; N]: tinyvec::Array<Item = T>,
+{
+    growing!();
+
+    fn on_heap() -> Self {
+        Self::Heap(Vec::new())
+    }
+}
+
+impl<T: Item, const N: usize> Vector<T> for smallvec::SmallVec<[T; N]> {
     shared_calls!();
-
-    #[inline(always)]
-    fn new() -> Self {
-        Self::new()
+    retain!(mutable);
+    empty!();
+    same! {
+        append(other: &mut Self);
+        resize(n: usize, x: T);
     }
 
     #[inline(always)]
-    fn from_array(array: [T; N]) -> Self {
-        Self::from_buf(array)
+    fn extend_from_slice(&mut self, source: &[T]) {
+        T::extend_small(self, source)
     }
 
     #[inline(always)]
-    fn extend_from_slice(&mut self, source: &[T])
+    fn dedup(&mut self)
     where
-        T: Copy,
+        T: PartialEq,
     {
-        self.extend_from_slice(source)
-    }
-
-    #[inline(always)]
-    fn retain(&mut self, mut keeps: impl FnMut(&T) -> bool) {
-        self.retain(|x| keeps(x))
-    }
-
-    #[inline(always)]
-    fn set_len(&mut self, len: usize) {
-        // The benchmarks move the border over slots that were written before.
-        unsafe { self.set_len(len) }
-    }
-
-    #[inline(always)]
-    fn dedup(&mut self) {
         self.dedup()
     }
-
 }
 
-impl<T: Number, const N: usize> Vector<T, N> for arrayvec::ArrayVec<T, N> {
-    const HAS_DEDUP: bool = false;
-    const HAS_SPLICE: bool = false;
-    const IS_BOUNDED: bool = true;
+impl<T: Item, const N: usize> Owned<T> for smallvec::SmallVec<[T; N]> {
+    owned!();
+}
 
-    shared_calls!();
+impl<T: Item, const N: usize> Growing<T> for smallvec::SmallVec<[T; N]> {
+    growing!();
 
-    #[inline(always)]
-    fn new() -> Self {
-        Self::new()
-    }
-
-    #[inline(always)]
-    fn from_array(array: [T; N]) -> Self {
-        Self::from(array)
-    }
-
-    #[inline(always)]
-    fn extend_from_slice(&mut self, source: &[T])
-    where
-        T: Copy,
-    {
-        self.try_extend_from_slice(source).unwrap()
-    }
-
-    #[inline(always)]
-    fn retain(&mut self, mut keeps: impl FnMut(&T) -> bool) {
-        self.retain(|x| keeps(x))
-    }
-
-    #[inline(always)]
-    fn set_len(&mut self, len: usize) {
-        // The benchmarks move the border over slots that were written before.
-        unsafe { self.set_len(len) }
+    fn on_heap() -> Self {
+        // Room for `N` items would be that of the array.
+        Self::with_capacity(N + 1)
     }
 }
 
-impl<T: Number, const N: usize> Vector<T, N> for Vec<T> {
-    const HAS_EXTRACT: bool = true;
-
+impl<T: Item, const N: usize> Vector<T> for arrayvec::ArrayVec<T, N> {
     shared_calls!();
+    retain!(mutable);
+    empty!();
 
     #[inline(always)]
-    fn new() -> Self {
-        Self::with_capacity(N)
+    fn extend_from_slice(&mut self, source: &[T]) {
+        T::extend_array(self, source)
+    }
+}
+
+impl<T: Item, const N: usize> Owned<T> for arrayvec::ArrayVec<T, N> {
+    owned!();
+}
+
+impl<T: Item> Vector<T> for Vec<T> {
+    shared_calls!();
+    retain!();
+    splice!();
+    empty!();
+    same! {
+        extend_from_slice(source: &[T]);
+        append(other: &mut Self);
+        resize(n: usize, x: T);
+        split_off(at: usize) -> Self;
     }
 
     #[inline(always)]
-    fn from_array(array: [T; N]) -> Self {
-        Self::from(array)
+    fn extend_from_within(&mut self) {
+        self.extend_from_within(..)
     }
 
     #[inline(always)]
-    fn extend_from_slice(&mut self, source: &[T])
+    fn dedup(&mut self)
     where
-        T: Copy,
+        T: PartialEq,
     {
-        self.extend_from_slice(source)
-    }
-
-    #[inline(always)]
-    fn retain(&mut self, keeps: impl FnMut(&T) -> bool) {
-        self.retain(keeps)
-    }
-
-    #[inline(always)]
-    fn set_len(&mut self, len: usize) {
-        // The benchmarks move the border over slots that were written before.
-        unsafe { self.set_len(len) }
-    }
-
-    #[inline(always)]
-    fn dedup(&mut self) {
         self.dedup()
     }
 
     #[inline(always)]
-    fn splice(&mut self, range: Range<usize>, items: impl Iterator<Item = T>) {
-        drop(self.splice(range, items))
+    fn sum_of_extracted(&mut self, x: u64) -> u64 {
+        sum_of(self.extract_if(.., |it| it.value() % 2 == 1), x)
     }
+}
 
-    #[inline(always)]
-    fn sum_of_extracted(&mut self, is_taken: impl FnMut(&mut T) -> bool, x: u64) -> u64 {
-        let mut sum = x;
-        for y in self.extract_if(.., is_taken) {
-            sum = sum.wrapping_add(y.value());
-        }
-        sum
+impl<T: Item> Owned<T> for Vec<T> {
+    owned!();
+}
+
+impl<T: Item> Growing<T> for Vec<T> {
+    growing!();
+
+    fn on_heap() -> Self {
+        Self::new()
     }
 }

@@ -1,121 +1,181 @@
-//! Every row at every capacity.
-ghost use Rattle.std.specs.Prelude.{◌*◌, ◌^◌, ◌<◌};
+//! Every row: of each kind of list, at a few lengths.
 
-use crate::dates::of_dates;
-use crate::form::{of_forms, of_heap_forms};
-use crate::graph::of_graph;
-use crate::long::of_long_lists;
-use crate::nodes::{Node, of_nodes};
-use crate::report::Report;
-use crate::rows::{of_bytes, of_edits, of_looks};
-use crate::slices::of_lent;
-use crate::slot_calls::of_slots;
-use crate::spilling::{of_long, of_spilling};
-use crate::text_calls::of_text_calls;
-use crate::text_own::{of_front_half, of_text_own};
-use crate::texts::of_texts;
-use crate::tiny_calls::of_tiny_calls;
-use crate::vector::{Place, Vector, Words};
+use crate::calls::{Call, Calls, Grown, Lists, Owned, Word, of_items, of_numbers, of_owned};
+use crate::form::of_forms;
+use crate::items::{Item, Node, part_of, runs_of};
+use crate::looks::{Look, Looks, of_looks};
+use crate::report::{Bench, Report, rows, run};
+use crate::texts::{TextCall, Texts, letters_of, of_text};
 use std::alloc::Global;
 use std::hash::Hash;
 use tinyvec::TinyVec;
-use tinyvec_array::ArrayVec;
-use tinyvec_text::InlineText;
+use tinyvec_array::{ArrayVec, SliceVec};
 
-// These rows at each of these capacities.
-macro_rules! at_capacities {
-    ($report:expr, $alloc:expr, $rows:ident: $($n:literal)+) => {
-        $($rows::<R, $n>($report, $alloc);)+
+// The rows of lists over each of these numbers of slots, as long as that.
+macro_rules! at {
+    ($rows:ident $report:ident $runs:ident, $list:ident $new:ident $from:tt $item:ty: $($n:literal)+) => {
+        $($rows(
+            $report,
+            $n,
+            &mut Lists {
+                vec: &mut $list::<[$item; $n]>::$new $from,
+                other: &mut $list::<[$item; $n]>::$new $from,
+                source: part_of($runs, 0, $n),
+            },
+        );)+
     };
 }
 
 pub fn all_rows<R: Report>(report: &mut R, alloc: Global) {
-    at_capacities!(report, alloc, of_all: 4 16 64);
-    at_capacities!(report, alloc, of_all_nodes: 4 16);
-    report.set_prefix("tiny_long_");
-    of_long(report, alloc, 64);
-    of_long(report, alloc, 16384);
-    of_calls(report, alloc);
+    let runs = runs_of::<u64>(alloc, 16384);
+    let numbers = runs.as_slice();
     report.set_prefix("");
-    at_capacities!(report, alloc, of_forms: 64 16384);
-    of_heap_forms(report, alloc, 64);
-    of_heap_forms(report, alloc, 16384);
-    in_texts(report, alloc);
-    // Last, since it leaves many blocks to the allocator.
-    report.set_prefix("tiny_long_");
-    of_graph(report, alloc, 64);
-    of_graph(report, alloc, 16384);
-}
-
-// Each call, at 64 and 16384 items.
-fn of_calls<R: Report>(report: &mut R, alloc: Global) {
-    report.set_prefix("slice_");
-    at_capacities!(report, alloc, of_lent: 64 16384);
-    report.set_prefix("");
-    at_capacities!(report, alloc, of_slots: 64 16384);
-    of_edits::<R, ArrayVec<[u64; 16384]>, 16384>(report, alloc, Place::Inline);
+    at!(of_owner report numbers, ArrayVec new() u64: 4 16 64 16384);
     report.set_prefix("tiny_");
-    of_tiny_calls::<R, 64>(report, alloc, 64);
-    report.set_prefix("tiny_long_");
-    of_tiny_calls::<R, 4>(report, alloc, 64);
-    of_tiny_calls::<R, 4>(report, alloc, 16384);
-    of_long_lists(report, alloc, 64);
-    of_long_lists(report, alloc, 16384);
-}
-
-// The rows of each vector of `N` slots.
-fn of_all<R: Report, const N: usize>(report: &mut R, alloc: Global)
-    requires { N * 64 < 2 ^ 63 }
-{
-    report.set_prefix("");
-    of_vectors::<R, ArrayVec<[u64; N]>, ArrayVec<[u8; N]>, N>(report, alloc, Place::Inline);
-    report.set_prefix("tiny_");
-    of_vectors::<R, TinyVec<[u64; N]>, TinyVec<[u8; N]>, N>(report, alloc, Place::Inline);
+    at!(of_owner report numbers, TinyVec new(alloc) u64: 4 16 64);
     report.set_prefix("tiny_heap_");
-    of_vectors::<R, TinyVec<[u64; N]>, TinyVec<[u8; N]>, N>(report, alloc, Place::Heap);
-    report.set_prefix("tiny_spill_");
-    of_spilling::<R, N>(report, alloc);
-}
-
-// The rows that every vector has.
-fn of_vectors<
-    R: Report,
-    V: Words<N> + Hash + PartialOrd,
-    B: Vector<u8, N> + Hash + PartialOrd,
-    const N: usize,
->(report: &mut R, alloc: Global, place: Place)
-    requires { N * 64 < 2 ^ 63 }
-{
-    of_edits::<R, V, N>(report, alloc, place);
-    of_looks::<R, V, N>(report, alloc, place);
-    of_bytes::<R, B, N>(report, alloc, place);
-}
-
-fn of_all_nodes<R: Report, const N: usize>(report: &mut R, alloc: Global)
-    requires { N * 64 < 2 ^ 63 }
-{
-    report.set_prefix("nodes_");
-    of_nodes::<R, ArrayVec<[Node; N]>, N>(report, alloc);
-    report.set_prefix("tiny_nodes_");
-    of_nodes::<R, TinyVec<[Node; N]>, N>(report, alloc);
-}
-
-fn in_texts<R: Report>(report: &mut R, alloc: Global) {
-    of_texts::<R, 4>(report, InlineText::new(alloc), alloc, 4);
-    of_texts::<R, 16>(report, InlineText::new(alloc), alloc, 16);
-    of_texts::<R, 64>(report, InlineText::new(alloc), alloc, 64);
-    of_texts::<R, 2>(report, InlineText::new(alloc), alloc, 4);
-    of_texts::<R, 8>(report, InlineText::new(alloc), alloc, 16);
-    of_texts::<R, 32>(report, InlineText::new(alloc), alloc, 64);
-    of_dates::<R, 64>(report, InlineText::new(alloc), alloc);
-    of_text_calls::<R, 128>(report, alloc, 64);
-    of_text_own::<R, 64>(report, alloc, 64);
-    report.set_prefix("heap_");
-    of_text_calls::<R, 16>(report, alloc, 64);
-    of_text_own::<R, 16>(report, alloc, 64);
-    of_front_half(report, alloc, 64);
+    at!(of_heap report numbers, TinyVec from_vec(Vec::new(alloc)) u64: 16 64);
+    report.set_prefix("tiny_long_");
+    of_long(report, alloc, part_of(numbers, 0, 64));
+    of_long(report, alloc, numbers);
+    report.set_prefix("slice_");
+    of_slice(report, &mut [0; 64], &mut [0; 64], part_of(numbers, 0, 64));
+    of_slice(report, &mut [0; 16384], &mut [0; 16384], numbers);
+    of_other_items(report, alloc);
     report.set_prefix("");
-    of_text_calls::<R, 16>(report, alloc, 16384);
-    of_text_own::<R, 16>(report, alloc, 16384);
-    of_front_half(report, alloc, 16384);
+    of_forms::<R, 64>(report, alloc);
+    of_forms::<R, 16384>(report, alloc);
+    of_texts(report, alloc);
+}
+
+fn of_other_items<R: Report>(report: &mut R, alloc: Global) {
+    let runs = runs_of::<u8>(alloc, 64);
+    let bytes = runs.as_slice();
+    report.set_prefix("bytes_");
+    at!(of_bytes report bytes, ArrayVec new() u8: 16 64);
+    report.set_prefix("tiny_bytes_");
+    at!(of_bytes report bytes, TinyVec new(alloc) u8: 16 64);
+    let runs = runs_of::<u32>(alloc, 64);
+    let numbers = runs.as_slice();
+    report.set_prefix("u32_");
+    at!(of_items report numbers, ArrayVec new() u32: 16 64);
+    report.set_prefix("tiny_u32_");
+    at!(of_items report numbers, TinyVec new(alloc) u32: 16 64);
+    let runs = runs_of::<(u64, u64)>(alloc, 64);
+    let pairs = runs.as_slice();
+    report.set_prefix("pairs_");
+    at!(of_items report pairs, ArrayVec new() (u64, u64): 16 64);
+    report.set_prefix("tiny_pairs_");
+    at!(of_items report pairs, TinyVec new(alloc) (u64, u64): 16 64);
+    let runs = runs_of::<Node>(alloc, 64);
+    let nodes = runs.as_slice();
+    report.set_prefix("nodes_");
+    at!(of_items report nodes, ArrayVec new() Node: 4 16 64);
+    report.set_prefix("tiny_nodes_");
+    at!(of_items report nodes, TinyVec new(alloc) Node: 4 16 64);
+}
+
+fn of_bytes<R: Report, V: Calls<Call, u8> + Calls<Owned, u8> + Hash + PartialOrd + Drop>(
+    report: &mut R,
+    n: usize,
+    lists: &mut Lists<'_, V, u8>,
+) {
+    of_items(report, n, lists);
+    looks(report, n, lists);
+}
+
+// Of numbers, in a vector that owns its slots.
+fn of_owner<
+    R: Report,
+    V: Calls<Call, u64> + Calls<Word, u64> + Calls<Owned, u64> + Hash + PartialOrd + Drop,
+>(report: &mut R, n: usize, lists: &mut Lists<'_, V, u64>) {
+    if n <= 64 {
+        run(report, "two_pushes", n, Owned::TwoPushes, lists);
+    }
+    run(report, "into_iter", n, Owned::IntoIter, lists);
+    of_heap(report, n, lists);
+    looks(report, n, lists);
+}
+
+fn of_heap<R: Report, S: Bench<Call> + Bench<Word> + Bench<Owned>>(
+    report: &mut R,
+    n: usize,
+    lists: &mut S,
+) {
+    of_owned(report, n, lists);
+    of_numbers(report, n, lists);
+}
+
+// Out of four slots.
+fn of_long<R: Report>(report: &mut R, alloc: Global, numbers: &[u64]) {
+    let lists = &mut Lists {
+        vec: &mut TinyVec::<[u64; 4]>::new(alloc),
+        other: &mut TinyVec::<[u64; 4]>::new(alloc),
+        source: numbers,
+    };
+    let n = numbers.len();
+    rows!(report, n, lists:
+        "push" Grown::Push,
+        "from_iter" Grown::FromIter,
+        "reserve_and_extend" Grown::ReserveAndExtend,
+        "reserve_and_shrink" Grown::ReserveAndShrink,
+    );
+    of_owner(report, n, lists);
+}
+
+fn of_slice<'a, R: Report>(
+    report: &mut R,
+    slots: &'a mut [u64],
+    other: &'a mut [u64],
+    numbers: &'a [u64],
+) {
+    let lists = &mut Lists {
+        vec: &mut SliceVec::from_slice(slots),
+        other: &mut SliceVec::from_slice(other),
+        source: numbers,
+    };
+    of_numbers(report, numbers.len(), lists);
+}
+
+// A list beside one that is equal, and beside one whose first item is higher.
+fn looks<R: Report, T: Item, V: Calls<Call, T> + Hash + PartialOrd + Drop>(
+    report: &mut R,
+    n: usize,
+    lists: &mut Lists<'_, V, T>,
+) {
+    lists.round(Call::ExtendFromSlice, 0);
+    lists
+        .other
+        .call(lists.vec, lists.source, Call::ExtendFromSlice, 0);
+    let both = &mut Looks {
+        list: &*lists.vec,
+        other: &*lists.other,
+    };
+    of_looks(report, n, both);
+    lists.other.call(
+        lists.vec,
+        part_of(lists.source, 2, n),
+        Call::ExtendFromSlice,
+        0,
+    );
+    let both = &mut Looks {
+        list: &*lists.vec,
+        other: &*lists.other,
+    };
+    run(report, "compare_first", n, Look::Compare, both);
+}
+
+// In an array and on the heap.
+fn of_texts<R: Report>(report: &mut R, alloc: Global) {
+    let source = letters_of(alloc, 16384);
+    let letters = source.as_str();
+    report.set_prefix("text_");
+    of_text(report, &mut Texts::<16>::new(alloc, letters, 4));
+    of_text(report, &mut Texts::<32>::new(alloc, letters, 16));
+    of_text(report, &mut Texts::<128>::new(alloc, letters, 64));
+    of_text(report, &mut Texts::<16>::new(alloc, letters, 16384));
+    let texts = &mut Texts::<64>::new(alloc, letters, 64);
+    run(report, "mail_date", 64, TextCall::MailDate, texts);
+    report.set_prefix("heap_text_");
+    of_text(report, &mut Texts::<16>::new(alloc, letters, 64));
 }

@@ -1,197 +1,133 @@
-//! Calls that the other rows leave out. Those of a vector are arms of a few functions: a function for each would be proved for
-//! each.
+//! The calls that users look up, as rows. What a row measures is a function that is not inlined and gets its vector by `&mut`,
+//! as programs hold it, or follows one that fills the vector.
 
-use crate::comparing::{compare, equal, hash};
-use crate::looks::Look;
 use crate::report::{Bench, Report, rows};
-use std::alloc::Global;
-use std::cmp::Ordering;
-use std::hash::Hash;
 
-/// Calls that all vectors have by the same methods, and std's `Vec` too.
+/// Calls of any vector, of any items.
 #[derive(Clone, Copy)]
 pub enum Call {
-    Fill,
-    PopIf,
-    PushMut,
-    InsertMut,
-    PopAll,
+    FillAndEmpty,
+    InsertFront,
+    RemoveFront,
+    RemoveMiddle,
+    SwapRemove,
+    ExtendFromSlice,
+    Append,
+    ExtendFromWithin,
     Truncate,
     Clear,
-    RetainMut,
-    DedupBy,
-    DedupByKey,
-    DrainBack,
-    Append,
-    ExtendFromSlice,
-    ExtendFromWithin,
-    Cmp,
+    RetainHalf,
+    DrainTaken,
+    DrainDropped,
 }
 
-/// Calls that each has by methods of its own.
+/// Calls of any vector, of numbers.
 #[derive(Clone, Copy)]
-pub enum Whole {
-    SplitOff,
-    Resize,
-    ResizeWith,
+pub enum Word {
+    Editor,
+    ExtendFromRange,
+    ExtendCopy,
+    Dedup,
+    ExtractHalf,
+    SpliceFewer,
+    SpliceMore,
+    ReplaceRange,
 }
 
-/// Those of a vector that owns its items.
+/// Calls of a vector that owns its slots.
 #[derive(Clone, Copy)]
 pub enum Owned {
-    CloneFrom,
+    TwoPushes,
     IntoIter,
-    FromSlice,
+    Clone,
+    SplitOff,
+    Resize,
 }
 
-/// Calls that std's `Vec` lacks.
+/// Calls of a vector that grows.
 #[derive(Clone, Copy)]
-pub enum Own {
-    PopAt,
-    ExtendCopy,
-    DrainInto,
-    DrainToVec,
-    SpliceAll,
+pub enum Grown {
+    Push,
+    FromIter,
+    ReserveAndExtend,
     ReserveAndShrink,
-    ToVecAndBack,
-    WithCapacity,
-    ClearAndPush,
 }
 
-/// The vector, one that is joined or compared to it, runs of numbers that both are filled with, and room for some.
+/// A vector that has the calls `B`.
+pub trait Calls<B: Copy, T> {
+    /// Runs the call once, with the number of the round, and maybe with another vector and with the items that are put in.
+    fn call(&mut self, other: &mut Self, source: &[T], benchmark: B, x: u64) -> u64;
+}
+
+/// A vector, another, and what both are filled with.
 #[derive(Drop)]
-pub struct CallBench<'a, V> {
-    pub alloc: Global,
+pub struct Lists<'a, V, T> {
     pub vec: &'a mut V,
     pub other: &'a mut V,
-    pub source: &'a [u64],
-    pub numbers: &'a mut Vec<u64>,
+    pub source: &'a [T],
 }
 
-impl<V: PartialOrd + Hash> Bench<Look> for CallBench<'_, V> {
+impl<B: Copy, T, V: Calls<B, T>> Bench<B> for Lists<'_, V, T> {
     #[inline(always)]
-    fn round(&mut self, benchmark: Look, x: u64) -> u64 {
-        match benchmark {
-            Look::Equal => equal(self.vec, self.other, x),
-            Look::Hash => hash(self.vec, x),
-            _ => compare(self.vec, self.other, x),
-        }
+    fn round(&mut self, benchmark: B, x: u64) -> u64 {
+        self.vec.call(self.other, self.source, benchmark, x)
     }
 }
 
-/// The calls that all vectors have.
-pub fn calls<R: Report, S: Bench<Call>>(report: &mut R, n: usize, list: &mut S) {
-    list.round(Call::Fill, 0);
-    rows!(report, n, list:
-        "cmp" Call::Cmp,
-        "pop_if" Call::PopIf,
-        "push_mut" Call::PushMut,
-        "insert_mut" Call::InsertMut,
-        "extend_twice" Call::ExtendFromSlice,
+/// The rows of any items.
+pub fn of_items<R: Report, S: Bench<Call> + Bench<Owned>>(report: &mut R, n: usize, lists: &mut S) {
+    lists.round(Call::ExtendFromSlice, 0);
+    rows!(report, n, lists:
+        "clone" Owned::Clone,
+        "insert_front" Call::InsertFront,
+        "remove_front" Call::RemoveFront,
+        "extend_from_slice" Call::ExtendFromSlice,
+        "clear" Call::Clear,
+        "retain_half" Call::RetainHalf,
+        "drain_taken" Call::DrainTaken,
+        "fill_and_empty" Call::FillAndEmpty,
+        "two_pushes" Owned::TwoPushes,
+    );
+}
+
+/// Those of a list of numbers, of any vector.
+pub fn of_numbers<R: Report, S: Bench<Call> + Bench<Word>>(
+    report: &mut R,
+    n: usize,
+    lists: &mut S,
+) {
+    lists.round(Call::ExtendFromSlice, 0);
+    rows!(report, n, lists:
+        "insert_front" Call::InsertFront,
+        "remove_front" Call::RemoveFront,
+        "remove_middle" Call::RemoveMiddle,
+        "swap_remove" Call::SwapRemove,
+        "extend_from_slice" Call::ExtendFromSlice,
+        "extend_copy" Word::ExtendCopy,
+        "extend_from_range" Word::ExtendFromRange,
         "append" Call::Append,
         "extend_from_within" Call::ExtendFromWithin,
-        "pop_all" Call::PopAll,
         "truncate" Call::Truncate,
         "clear" Call::Clear,
-        "retain_mut" Call::RetainMut,
-        "dedup_by" Call::DedupBy,
-        "dedup_by_key" Call::DedupByKey,
-        "drain_back" Call::DrainBack,
+        "retain_half" Call::RetainHalf,
+        "dedup" Word::Dedup,
+        "extract_half" Word::ExtractHalf,
+        "drain_taken" Call::DrainTaken,
+        "drain_dropped" Call::DrainDropped,
+        "splice_fewer" Word::SpliceFewer,
+        "splice_more" Word::SpliceMore,
+        "replace_range" Word::ReplaceRange,
+        "editor" Word::Editor,
+        "fill_and_empty" Call::FillAndEmpty,
     );
 }
 
-/// Those that each has by methods of its own.
-pub fn whole_calls<R: Report, S: Bench<Whole>>(report: &mut R, n: usize, list: &mut S) {
-    rows!(report, n, list:
-        "split_off" Whole::SplitOff,
-        "resize" Whole::Resize,
-        "resize_with" Whole::ResizeWith,
+/// Those of a vector that owns its slots.
+pub fn of_owned<R: Report, S: Bench<Call> + Bench<Owned>>(report: &mut R, n: usize, lists: &mut S) {
+    lists.round(Call::ExtendFromSlice, 0);
+    rows!(report, n, lists:
+        "clone" Owned::Clone,
+        "split_off" Owned::SplitOff,
+        "resize" Owned::Resize,
     );
-}
-
-/// Those of a vector that owns its items.
-pub fn owned_calls<R: Report, S: Bench<Owned>>(report: &mut R, n: usize, list: &mut S) {
-    rows!(report, n, list:
-        "clone_from" Owned::CloneFrom,
-        "into_iter" Owned::IntoIter,
-        "from_slice" Owned::FromSlice,
-    );
-}
-
-/// Those that std's `Vec` lacks.
-pub fn own_calls<R: Report, S: Bench<Own>>(report: &mut R, n: usize, list: &mut S) {
-    rows!(report, n, list:
-        "pop_at" Own::PopAt,
-        "extend_copy" Own::ExtendCopy,
-        "drain_into" Own::DrainInto,
-        "splice_all" Own::SpliceAll,
-    );
-}
-
-/// Those that an `ArrayVec` and a `SliceVec` have besides.
-pub fn of_slots_alone<R: Report, S: Bench<Own>>(report: &mut R, n: usize, list: &mut S) {
-    rows!(report, n, list:
-        "drain_to_vec" Own::DrainToVec,
-    );
-}
-
-/// Those of a vector that may be on the heap.
-pub fn of_tiny_alone<R: Report, S: Bench<Own>>(report: &mut R, n: usize, list: &mut S) {
-    rows!(report, n, list:
-        "reserve_and_shrink" Own::ReserveAndShrink,
-        "to_vec_and_back" Own::ToVecAndBack,
-        "with_capacity" Own::WithCapacity,
-        "clear_and_push" Own::ClearAndPush,
-    );
-}
-
-/// Whether two numbers are of one run.
-#[inline(always)]
-pub fn is_same(one: &mut u64, other: &mut u64) -> bool {
-    *one == *other
-}
-
-/// The key of a number, which four in a row have.
-#[inline(always)]
-pub fn key_of(item: &mut u64) -> u64 {
-    *item / 2
-}
-
-/// Takes any item.
-#[inline(always)]
-pub fn is_any(_item: &mut u64) -> bool {
-    true
-}
-
-/// The number that new places get.
-#[inline(always)]
-pub fn one() -> u64 {
-    1
-}
-
-/// Runs of two, so many numbers in all.
-pub fn runs_of(alloc: Global, n: usize) -> Vec<u64> {
-    let mut runs = Vec::new(alloc);
-    for i in 0..n {
-        let _ = runs.push(i as u64 / 2);
-    }
-    runs
-}
-
-/// The number, or 0 where there is none.
-#[inline(always)]
-pub fn number_of(popped: Option<u64>) -> u64 {
-    match popped {
-        Some(y) => y,
-        None => 0,
-    }
-}
-
-/// `x` where the first list comes before the other or is equal to it.
-#[inline(always)]
-pub fn ordered(order: Ordering, x: u64) -> u64 {
-    match order {
-        Ordering::Greater => 0,
-        _ => x,
-    }
 }

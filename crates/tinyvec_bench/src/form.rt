@@ -2,7 +2,6 @@
 ghost use Rattle.std.specs.Prelude.{◌*◌, ◌^◌, ◌<◌};
 
 use crate::report::{Bench, Report, run};
-use crate::sources::{letters_of, scattered};
 use std::alloc::Global;
 use tinyvec::TinyVec;
 use tinyvec_array::ArrayVec;
@@ -35,20 +34,12 @@ impl<V: BorshSerialize + BorshDeserialize + Drop> Bench<Form> for FormBench<'_, 
     }
 }
 
-/// Lists of bytes and of `u32`.
+/// Lists of numbers in an array, and a `TinyVec` and a text of bytes, on the heap if there are more than 64.
 pub fn of_forms<R: Report, const N: usize>(report: &mut R, alloc: Global)
     requires { N * 64 < 2 ^ 63 }
 {
-    let bytes = ArrayVec::from_array(scattered::<u8, N>());
-    forms(
-        report,
-        alloc,
-        "borsh_write_bytes",
-        "borsh_read_bytes",
-        N,
-        bytes,
-    );
-    let numbers = ArrayVec::from_array(scattered::<u32, N>());
+    let mut numbers: ArrayVec<[u32; N]> = ArrayVec::new();
+    let _rest = numbers.extend(0..N as u32);
     forms(
         report,
         alloc,
@@ -57,29 +48,26 @@ pub fn of_forms<R: Report, const N: usize>(report: &mut R, alloc: Global)
         N,
         numbers,
     );
-}
-
-/// A `TinyVec` and a text of so many bytes, on the heap if there are more than 64.
-pub fn of_heap_forms<R: Report>(report: &mut R, alloc: Global, n: usize) {
-    let source = letters_of(alloc, n);
-    let mut list: TinyVec<[u8; 64]> = TinyVec::new(alloc);
-    let _refused = list.extend_from_slice(source.as_bytes());
+    let mut bytes: TinyVec<[u8; 64]> = TinyVec::new(alloc);
+    let _refused = bytes.resize(N, b'a');
     forms(
         report,
         alloc,
         "borsh_write_tiny",
         "borsh_read_tiny",
-        n,
-        list,
+        N,
+        bytes,
     );
     let mut text: InlineText<64> = InlineText::new(alloc);
-    let _refused = text.push_str(source.as_str());
+    for _i in 0..N {
+        let _refused = text.push('a');
+    }
     forms(
         report,
         alloc,
         "borsh_write_text",
         "borsh_read_text",
-        n,
+        N,
         text,
     );
 }

@@ -1,8 +1,6 @@
 //! A graph that is built, pruned and walked. Its nodes list those that follow them: most in the array, some on the heap.
 
-use crate::number::Item;
-use crate::report::{Bench, Report, run};
-use crate::sources::state_behind;
+use crate::items::Item;
 use std::alloc::{AllocError, Global};
 use tinyvec::TinyVec;
 
@@ -13,44 +11,16 @@ pub struct Edge {
     to: u32,
 }
 
-/// The edges of a graph of `count` nodes.
-#[derive(Drop)]
-struct GraphBench<'a> {
-    alloc: Global,
-    edges: &'a [Edge],
-    count: usize,
-}
-
-impl Bench<()> for GraphBench<'_> {
-    #[inline(always)]
-    fn round(&mut self, _benchmark: (), x: u64) -> u64 {
-        match graph(self.alloc, self.edges, self.count, x) {
-            Ok(sum) => sum,
-            Err(AllocError) => 0,
-        }
-    }
-}
-
-/// A graph of so many nodes.
-pub fn of_graph<R: Report>(report: &mut R, alloc: Global, count: usize) {
-    let Ok(edges) = edges_of(alloc, count) else {
-        return;
-    };
-    let mut bench = GraphBench {
-        alloc,
-        edges: edges.as_slice(),
-        count,
-    };
-    run(report, "graph", count, (), &mut bench);
-}
-
 /// Three edges for each node, from any to any.
 pub fn edges_of(alloc: Global, count: usize) -> Result<Vec<Edge>, AllocError> {
     let mut edges = Vec::new(alloc);
     let nodes = count.max(1) as u64;
     let mut state: u64 = 1;
     for _i in 0..count.saturating_mul(3) {
-        state = state_behind(state);
+        // A step of Knuth's linear congruential generator.
+        state = state
+            .wrapping_mul(6364136223846793005)
+            .wrapping_add(1442695040888963407);
         let number = state / 4294967296;
         edges.push(Edge {
             from: (number % nodes) as usize,
@@ -88,15 +58,11 @@ fn built(
 #[inline(never)]
 fn prune(nodes: &mut [TinyVec<[u32; 4]>]) {
     for node in nodes.iter_mut() {
-        node.retain(is_kept);
+        node.retain(|to| *to % 4 != 0);
         if node.len() > 2 {
             node.swap_remove(0);
         }
     }
-}
-
-fn is_kept(to: &u32) -> bool {
-    *to % 4 != 0
 }
 
 // Goes from a node to those that follow it, and on from these, each once, and mixes their numbers in that order.

@@ -1,46 +1,58 @@
-//! The rows of vectors that are looked at as a whole, whichever they are.
+//! Vectors and texts that are compared and hashed, each as a whole.
 
-use crate::comparing::{compare, equal, hash, hash_key};
 use crate::report::{Bench, Report, rows};
-use std::hash::Hash;
+use std::hash::{DefaultHasher, Hash, Hasher};
 
-/// What is done with a vector, and with those that it is compared to.
+/// What is done with a list.
 #[derive(Clone, Copy)]
 pub enum Look {
     Equal,
     Compare,
-    CompareFirst,
     Hash,
-    HashKey,
 }
 
-/// A vector, an equal one, and ones that are higher at their end and at their start.
+/// A list, and one that it is compared to.
 #[derive(Drop)]
-pub struct LookBench<'a, V> {
-    pub vec: &'a V,
-    pub same: &'a V,
-    pub last_higher: &'a V,
-    pub first_higher: &'a V,
+pub struct Looks<'a, V> {
+    pub list: &'a V,
+    pub other: &'a V,
 }
 
-impl<V: PartialOrd + Hash> Bench<Look> for LookBench<'_, V> {
+impl<V: PartialOrd + Hash> Bench<Look> for Looks<'_, V> {
     #[inline(always)]
     fn round(&mut self, benchmark: Look, x: u64) -> u64 {
         match benchmark {
-            Look::Equal => equal(self.vec, self.same, x),
-            Look::Compare => compare(self.vec, self.last_higher, x),
-            Look::CompareFirst => compare(self.vec, self.first_higher, x),
-            Look::Hash => hash(self.vec, x),
-            Look::HashKey => hash_key(self.vec, x),
+            Look::Equal => equal(self.list, self.other, x),
+            Look::Compare => compare(self.list, self.other, x),
+            Look::Hash => hash(self.list, x),
         }
     }
 }
 
-/// Compares a vector to an equal one and to one that is higher at its end, and hashes it.
-pub fn compared<R: Report, S: Bench<Look>>(report: &mut R, n: usize, look: &mut S) {
-    rows!(report, n, look:
+/// The rows of a list and one that is equal to it.
+pub fn of_looks<R: Report, S: Bench<Look>>(report: &mut R, n: usize, looks: &mut S) {
+    rows!(report, n, looks:
         "equal" Look::Equal,
         "compare" Look::Compare,
         "hash" Look::Hash,
     );
+}
+
+// Those that only look use the round's number, or LLVM would look once for all rounds.
+#[inline(never)]
+fn equal<V: PartialEq>(list: &V, other: &V, x: u64) -> u64 {
+    x ^ (*list == *other) as u64
+}
+
+#[inline(never)]
+fn compare<V: PartialOrd>(list: &V, other: &V, x: u64) -> u64 {
+    x ^ (*list < *other) as u64
+}
+
+// The hash of the list as the key of a map, and `x`.
+#[inline(never)]
+fn hash<V: Hash>(list: &V, x: u64) -> u64 {
+    let mut state = DefaultHasher::new();
+    list.hash(&mut state);
+    x.wrapping_add(state.finish())
 }

@@ -1,8 +1,8 @@
-//! Two rows as programs: each line of standard input is a number, and is answered by what one round returns.
+//! Two programs: each line of standard input is a number, and is answered by one.
 
-use crate::calls::runs_of;
 use crate::graph::{edges_of, graph};
-use crate::splicing::editor;
+use crate::items::runs_of;
+use crate::tiny::editor;
 use std::alloc::Global;
 use std::io;
 use std::rt::Runtime;
@@ -24,7 +24,7 @@ pub fn answer_graphs<R: Runtime>(rt: &R, alloc: Global) -> io::Result<()> {
 
 /// Answers each line by an edit of a list of so many items. One list serves all lines.
 pub fn answer_edits<R: Runtime>(rt: &R, alloc: Global) -> io::Result<()> {
-    let source = runs_of(alloc, MOST);
+    let source = runs_of::<u64>(alloc, MOST);
     let mut list = TinyVec::<[u64; 4]>::new(alloc);
     for line in rt.lines(rt.alloc()) {
         let count = number_of(line?.as_str());

@@ -2,7 +2,6 @@
 
 use std::io;
 use std::rt::Runtime;
-use std::time::Instant;
 
 /// Where the lines of the rows go. The rows know it by this trait alone, or each would be proved for what a runtime has
 /// besides.
@@ -10,12 +9,12 @@ pub trait Report {
     /// Has the names of the rows that follow begin with `prefix`.
     fn set_prefix(&mut self, prefix: &'static str);
 
-    /// Begins a row, and returns how many rounds it has. Neither it nor `end_rounds` is inlined, so that the
-    /// instructions between the two can be counted.
-    fn begin_rounds(&mut self, capacity: usize) -> u64;
+    /// Begins a row of lists of `len` items, and returns how many rounds it has. Neither it nor `end_rounds` is inlined, so
+    /// that the instructions between the two can be counted.
+    fn begin_rounds(&mut self, len: usize) -> u64;
 
     /// Ends the row.
-    fn end_rounds(&mut self, name: &str, capacity: usize, sum: u64);
+    fn end_rounds(&mut self, name: &str, len: usize, rounds: u64, sum: u64);
 }
 
 /// What the rows of one kind work on. A row names its benchmark by a constant and both functions are inlined, so each
@@ -31,16 +30,16 @@ pub trait Bench<B: Copy> {
 pub fn run<R: Report, B: Copy, S: Bench<B>>(
     report: &mut R,
     name: &str,
-    capacity: usize,
+    len: usize,
     benchmark: B,
     bench: &mut S,
 ) {
-    let rounds = report.begin_rounds(capacity);
+    let rounds = report.begin_rounds(len);
     let mut sum: u64 = 0;
     for x in 0..rounds {
-        sum = mixed(sum, bench.round(benchmark, x));
+        sum = sum.rotate_left(5) ^ bench.round(benchmark, x);
     }
-    report.end_rounds(name, capacity, sum);
+    report.end_rounds(name, len, rounds, sum);
 }
 
 // Runs each row.
@@ -52,55 +51,24 @@ macro_rules! rows {
 
 pub(crate) use rows;
 
-// The answers of the rounds so far, and one more.
-#[inline(always)]
-fn mixed(sum: u64, answer: u64) -> u64 {
-    sum.rotate_left(5) ^ answer
-}
-
-/// What is printed.
-#[derive(Clone, Copy)]
-pub enum Printed {
-    /// One checksum of all rows.
-    Whole,
-    /// A line for each row, with its checksum.
-    Rows,
-    /// The same, with times.
-    Times,
-}
-
-/// Prints the rows. If one cannot be printed, none follows.
+/// Prints a line for each row, or one checksum of all. If a line cannot be printed, none follows.
 #[derive(Drop)]
 pub struct Printer<'r, R: Runtime> {
     rt: &'r R,
     prefix: &'static str,
-    what: Printed,
-    // Of a short list.
-    rounds: u64,
-    begun: Begun,
+    // Those of a short list, where each row has a line.
+    rounds: Option<u64>,
     // The checksums so far.
     whole: u64,
     printed: io::Result<()>,
 }
 
-// How often the row is run, and when it began.
-#[derive(Clone, Copy)]
-struct Begun {
-    rounds: u64,
-    start: Option<Instant>,
-}
-
 impl<'r, R: Runtime> Printer<'r, R> {
-    pub fn new(rt: &'r R, rounds: u64, what: Printed) -> Self {
+    pub fn new(rt: &'r R, rounds: Option<u64>) -> Self {
         Printer {
             rt,
             prefix: "",
-            what,
             rounds,
-            begun: Begun {
-                rounds,
-                start: None,
-            },
             whole: 0,
             printed: Ok(()),
         }
@@ -110,25 +78,15 @@ impl<'r, R: Runtime> Printer<'r, R> {
     pub fn finish(self) -> io::Result<()> {
         let Printer {
             rt,
-            what,
+            rounds,
             whole,
             printed,
             ..
         } = self;
-        match what {
-            Printed::Whole => println!(rt; "{whole}"),
-            _ => printed,
+        match rounds {
+            None => println!(rt; "{whole}"),
+            Some(_) => printed,
         }
-    }
-
-    fn print(&self, name: &str, capacity: usize, sum: u64) -> io::Result<()> {
-        let prefix = self.prefix;
-        let Begun { rounds, start } = self.begun;
-        let Some(start) = start else {
-            return println!(self.rt; "{prefix}{name} {capacity} {sum}");
-        };
-        let nanos = start.elapsed(self.rt)?.as_nanos();
-        println!(self.rt; "{prefix}{name} {capacity} {rounds} {nanos} {sum}")
     }
 }
 
@@ -137,52 +95,27 @@ impl<R: Runtime> Report for Printer<'_, R> {
         self.prefix = prefix;
     }
 
-    // Long lists have fewer rounds.
+    // So that a row of long lists takes about as long as one of short ones. Of the longest there are some more, or a run of
+    // twice as many rounds would count as many. For a checksum, few are enough.
     #[inline(never)]
-    fn begin_rounds(&mut self, capacity: usize) -> u64 {
-        if let Printed::Times = self.what {
-            match Instant::now(self.rt) {
-                Ok(start) => {
-                    self.begun = Begun {
-                        rounds: rounds_at(self.rounds, capacity),
-                        start: Some(start),
-                    };
-                }
-                Err(error) => {
-                    self.printed = Err(error);
-                    self.begun = Begun {
-                        rounds: 0,
-                        start: None,
-                    };
-                }
-            }
-        }
-        match self.what {
-            Printed::Times => self.begun.rounds,
-            // For a checksum, two of the longest are enough.
-            _ if capacity > 1024 => 2,
-            _ => self.begun.rounds,
+    fn begin_rounds(&mut self, len: usize) -> u64 {
+        let share = (len / 16) as u64;
+        match self.rounds {
+            None if len > 1024 => 2,
+            None => 20,
+            Some(rounds) if share < 2 => rounds,
+            Some(rounds) => (rounds / share)
+                .max((rounds / 32).min(24))
+                .saturating_add(1),
         }
     }
 
     #[inline(never)]
-    fn end_rounds(&mut self, name: &str, capacity: usize, sum: u64) {
-        match self.what {
-            Printed::Whole => self.whole = mixed(self.whole, sum),
-            _ if self.printed.is_ok() => self.printed = self.print(name, capacity, sum),
-            _ => (),
+    fn end_rounds(&mut self, name: &str, len: usize, rounds: u64, sum: u64) {
+        self.whole = self.whole.rotate_left(5) ^ sum;
+        if self.rounds.is_some() && self.printed.is_ok() {
+            let prefix = self.prefix;
+            self.printed = println!(self.rt; "{prefix}{name} {len} {rounds} {sum}");
         }
     }
-}
-
-// So that a run takes about as long for long lists as for short ones. Of the longest there are some more, or a run of twice
-// as many rounds would count as many.
-fn rounds_at(rounds: u64, capacity: usize) -> u64 {
-    let share = (capacity / 16) as u64;
-    if share < 2 {
-        return rounds;
-    }
-    (rounds / share)
-        .max((rounds / 32).min(24))
-        .saturating_add(1)
 }
