@@ -1,5 +1,5 @@
 //! What only a vector in a lent slice has.
-ghost use Rattle.std.specs.Prelude.{◌≡◌, ◌<◌, ◌≤◌, ◌-◌, ◌↔◌, ◌++◌, [], length, take, drop, min, reverse, List, IsSome, IfSome, IsOk, OnOk, IfErr};
+ghost use Rattle.std.specs.Prelude.{◌≡◌, ◌<◌, ◌≤◌, ◌-◌, ◌↔◌, ◌++◌, [], length, take, drop, reverse, List, IsSome, IfSome, IsOk, OnOk, IfErr};
 ghost use Rattle.std.specs.List.{AppendsResults};
 ghost use Rattle.std.specs.Borrow.{sem};
 ghost use Rattle.tinyvec_slots.specs.Slots.{split_at};
@@ -34,19 +34,8 @@ impl<'s, T: Drop> ArrayVec<&'s mut [T]> {
         Self::from_slice_len(slice, len)
     }
 
-    /// A vector whose list is the first `len` slots of the slice, or all slots if there are fewer.
-    pub fn from_slice_at_most(slice: &'s mut [T], len: usize) -> Self
-        ensures same_reference { slice_name result ≡ slice.entry.ghost_name }
-        ensures value { slice_view result ≡ split_at (min len (length slice.old)) slice.old }
-        ensures items { slice_items result ≡ take len slice.old }
-        ensures spare { slice_spare result ≡ drop len slice.old }
-    {
-        let all = slice.len();
-        Self::from_slice_len(slice, len.min(all))
-    }
-
     /// A vector whose list is the first `len` slots of the slice. `None` if the slice is too short; it is then
-    /// unchanged. Limitation: the owner's proof learns neither; use `from_slice_at_most`.
+    /// unchanged. Limitation: the owner's proof learns neither; compare the lengths, and call `from_slice_len`.
     pub fn try_from_slice_len(slice: &'s mut [T], len: usize) -> Option<Self>
         ensures some { IsSome result ↔ (len ≤ length slice.old) }
         ensures same_reference { IfSome result (λ v. slice_name v ≡ slice.entry.ghost_name) }
