@@ -56,7 +56,8 @@ where
 }
 
 /// Moves the items of `from` to the end, and leaves defaults there.
-// Bytes are moved as fast one by one, and a block of large items would fill the stack.
+// Bytes are moved as fast one by one, and a block of large items would fill the stack. By 16 `drain_into` 64: 312 > 260,
+// `tiny_reserve_and_shrink` 64: 1224 > 671.
 #[inline(always)]
 pub fn put_taken<V: CanPut>(vec: &mut V, from: &mut [V::Item])
 where

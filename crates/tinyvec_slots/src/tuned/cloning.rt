@@ -24,6 +24,7 @@ pub fn clone_over_from<T: Clone + Default>(
 }
 
 /// Writes clones of `from` over the first slots of `to`, in blocks of 16, and then item by item.
+// `extend_from_slice` 64: 140 > 81, `bytes_extend_from_slice` 64: 141 > 21.
 pub fn clone_over<T: Clone + Default>(to: &mut [T], from: &[T]) -> Result<(), AllocError>
     requires fits { length from.now ≤ length to.old }
     ensures { WritesClones T.Clone (λ ys n. ClonesOver T.is_clone ys n to.old to.new) from.now result }

@@ -12,6 +12,7 @@ use std::hash::{Hash, Hasher};
 
 /// What `a == b` returns. Small items are compared in blocks with no branch inside a block, so LLVM compares several
 /// numbers at once. No pair is compared twice.
+// `equal` 64: 414 > 170, `bytes_equal` 16: 69 > 35.
 #[inline(always)]
 pub fn eq_slices<T: PartialEq>(a: &[T], b: &[T]) -> bool
     ensures { result ≡ pointwise T.eq a.now b.now }
@@ -82,6 +83,7 @@ fn partial_order_at<T: PartialOrd>(a: &[T], b: &[T], first: usize) -> Option<Ord
 }
 
 /// What `a.cmp(b)` returns: the order of the first pair that is not equal, else of the lengths.
+// `compare` 64: 922 > 250.
 #[inline(always)]
 pub fn cmp_slices<T: Ord>(a: &[T], b: &[T]) -> Ordering
     ensures { result ≡ slice_cmp T.cmp a.now b.now }
@@ -134,6 +136,7 @@ fn order_at<T: Ord>(a: &[T], b: &[T], first: usize) -> Ordering
 }
 
 /// Feeds the hasher what the slice's own `hash` does, in the caller's loop.
+// `hash` 4: 223 > 169.
 #[inline(always)]
 pub fn hash_items<T: Hash, H: Hasher>(items: &[T], state: &mut H)
     ensures { state.new ≡ fold H.write state.old (fed.slice T.hash_input items.now) }
@@ -146,7 +149,7 @@ pub fn hash_items<T: Hash, H: Hasher>(items: &[T], state: &mut H)
 }
 
 // Whether there is no pair, or the first is not equal. Most lists that differ do so in their first items, and such a list is
-// ordered without a loop.
+// ordered without a loop. `compare_first`: 40 > 31.
 #[inline(always)]
 fn differ_at_once<T: PartialEq>(a: &[T], b: &[T]) -> bool
     requires as_long { length a.now ≡ length b.now }

@@ -15,7 +15,8 @@ pub fn move_to_end<T>(items: &mut [T], start: usize, end: usize)
     if end == items.len() {
         return;
     }
-    // `rotate_left` clears a buffer first, unless it goes by one. For few items that costs more than swaps.
+    // `rotate_left` clears a buffer first, unless it goes by one. For few items that costs more than swaps. `drain_dropped` 16:
+    // 482 > 210.
     if end - start != 1 && items.len() - start <= 64 {
         rotate_few(&mut items[start..], end - start);
         return;
@@ -62,7 +63,7 @@ pub fn close_gap<T>(items: &mut [T], start: usize, gap: usize) -> usize
     let start = start.min(len);
     let gap = gap.min(len - start);
     let behind = len - start - gap;
-    // If all that follows fits the gap, one swap of blocks beats a rotation.
+    // If all that follows fits the gap, one swap of blocks beats a rotation. `tiny_drain_dropped` 64: 659 > 254.
     if behind <= gap {
         swap_ends(&mut items[start..], behind);
         return len - gap;
@@ -73,6 +74,7 @@ pub fn close_gap<T>(items: &mut [T], start: usize, gap: usize) -> usize
 
 /// Puts copies of `new` in the place of the items `start..end` of the first `len`, of which the later ones move. Neither are
 /// more than `most`.
+// One move of what follows, in place of a splice. `replace_range` 64: 349 > 226, `tiny_replace_range` 64: 474 > 267.
 #[inline(always)]
 pub fn replace_within<T: Copy + Default>(
     items: &mut [T],
@@ -125,7 +127,7 @@ fn write_over<T: Copy>(to: &mut [T], from: &[T], most: usize)
     }
 }
 
-// The same, the first N and the last N.
+// The same, the first N and the last N. An undo log takes 3.7 % more without.
 #[inline(always)]
 fn write_ends<T: Copy, const N: usize>(to: &mut [T], from: &[T])
     requires same_len { length to.old ≡ length from.now }

@@ -14,7 +14,7 @@ pub fn are_bytes<T>(items: &[T]) -> bool
     items[..1].len() * mem::size_of::<T>() == 1
 }
 
-/// Whether an item takes 4 to 16 bytes.
+/// Whether an item takes 4 to 8 bytes.
 #[inline(always)]
 pub fn fit_registers<T>(items: &[T]) -> bool
     requires some { 0 < length items.now }
@@ -23,7 +23,7 @@ pub fn fit_registers<T>(items: &[T]) -> bool
     4 <= size && size <= 8
 }
 
-/// Whether an item takes up to 16 bytes.
+/// Whether an item takes up to 8 bytes.
 #[inline(always)]
 pub fn are_small<T>(items: &[T]) -> bool
     requires some { 0 < length items.now }
@@ -31,7 +31,7 @@ pub fn are_small<T>(items: &[T]) -> bool
     items[..1].len() * mem::size_of::<T>() <= 8
 }
 
-/// Whether an item takes more than 16 bytes, also of a slice that may be empty. A short slice of items that take few more
+/// Whether an item takes more than 8 bytes, also of a slice that may be empty. A short slice of items that take few more
 /// counts as small.
 #[inline(always)]
 pub(crate) fn are_large<T>(items: &[T]) -> bool {
