@@ -1,9 +1,9 @@
 -- What a splice made of a list, once it was driven by a word of ends and finished.
-use Rattle.std.proofs.Common.{◌≡◌, ℕ, ◌+◌, ◌-◌, ◌≤◌, List, ◌∷◌, ◌++◌, length, drop, Result, Ok, Err, IsOk, OnOk, IfErr, ◌↔◌, ap, ◌∙◌, arith}
+use Rattle.std.proofs.Common.{◌≡◌, ℕ, ◌+◌, ◌-◌, ◌≤◌, List, [], ◌∷◌, ◌++◌, length, drop, Option, Some, None, Result, Ok, Err, IsOk, OnOk, IfErr, ◌↔◌, false, true, sym, ap, ◌∙◌, arith}
 use Rattle.std.specs.declared.iter.Fuse.{Fuse}
 use Rattle.tinyvec_slots.specs.Slots.{SlotRule}
 use Rattle.tinyvec_slots.specs.Ends.{End}
-use Rattle.tinyvec_slots.specs.AnySplice.{SpliceView, FinishesWith}
+use Rattle.tinyvec_slots.specs.AnySplice.{SpliceView, Splices, FinishesWith}
 use Rattle.tinyvec_slots.specs.SplicedByWord.{IsSpliceRefused, SplicedByWord}
 use Rattle.tinyvec_slots.specs.declared.no_room.NoRoom.{NoRoom}
 use Rattle.tinyvec_slots.proofs.AnySpliceLemmas.{spliced_len, spliced_all, spliced_refused}
@@ -37,6 +37,11 @@ module _ {S I T : Type 0} {view : S → SpliceView I T} {keeps : S → S → Typ
       let h = f.refused in
       spliced_refused view keeps rest s t word list before removed after replacement along ahead left behind whole h.0 refused.item (rest refused.rest) h.1 h.2
 
+  pub ended_all : (result : Result Unit (NoRoom T I)) → FinishesWith rest capacity (view t) result list → length before + length replacement + length after ≤ capacity
+      → list ≡ before ++ replacement ++ after
+  ended_all (Ok u) f le = ended_list (Ok u) f
+  ended_all (Err refused) f le = absurd (let no : false ≡ true = (ended_fits (Err refused) f).1 le in cc)
+
 -- the slot rule from the splice on
 pub ended_slots : {S T L I : Type 0} (g : Storage.Ghosts S T L) (D : T → Type 0) (s t : Splice (ArrayVec S L) (Fuse I)) (old v : ArrayVec S L) → SpliceKeeps (λ v. (view g v).items) (KeptOf g) s t
     → splice_vec s ≡ old → SlotRule D (view_of g (splice_vec t)) (view_of g v) → SlotRule D (view_of g old) (view_of g v)
@@ -55,3 +60,9 @@ ended_count g s t old v keeps slots place =
     let count : length (view g (splice_vec t)).items ≡ length (view g old).items = keeps.kept.1.1 ∙ ap (λ v. length (view g v).items) slots in
     let behind : length (view g (splice_vec t)).spare ≡ length (view g old).spare = ap length (keeps.kept.1.0 ∙ ap (λ v. (view g v).spare) slots) in
     omega (arith, ap (λ p. p.capacity) place, count, behind, parts_of g (splice_vec t), parts_of g old)
+
+-- what was taken from an end
+module _ {S I T : Type 0} (view : S → SpliceView I T) (keeps : S → S → Type 0) (gives : I → Option T → I → Type 0) (s t : S) where
+  pub first_taken : (r : Option T) (x : T) (xs : List T) → Splices view keeps gives s r t → (view s).left ≡ x ∷ xs → (r ≡ Some x) × ((view t).left ≡ xs)
+  first_taken None x xs h is = absurd (let no : x ∷ xs ≡ [] = sym is ∙ h.0 in cc)
+  first_taken (Some y) x xs h is = let same : y ∷ (view t).left ≡ x ∷ xs = sym h.0.left ∙ is in (cc, cc)

@@ -1,17 +1,45 @@
 //! Callers of a splice of a `TinyVec`.
-ghost use Rattle.std.specs.Prelude.{◌≡◌, ◌≤◌, ◌+◌, ◌-◌, ◌++◌, ◌∷◌, [], List, length, take, drop, IsOk, OnOk, OnErr, IfErr};
+ghost use Rattle.std.specs.Prelude.{◌≡◌, ◌≤◌, ◌+◌, ◌-◌, ◌++◌, ◌∷◌, [], List, pos, Some, length, take, drop, IsTrue, IsOk, OnOk, OnErr, IfErr};
 ghost use Rattle.std.specs.Iterator.{IsFinite};
 ghost use Rattle.std.specs.Iterator.Adapters.{fuse_steps};
 ghost use Rattle.tinyvec.specs.Ends.{front, back, RunsWord};
 ghost use Rattle.tinyvec.specs.Fused.{fused_rest, FusedFinite, HasTwoEnds};
 ghost use Rattle.tinyvec.specs.SplicedByWord.{IsSpliceRefused, SplicedByWord};
-ghost use Rattle.tinyvec.specs.TinyVec.{view};
+ghost use Rattle.tinyvec.specs.TinyVec.{view, tiny_items, tiny_capacity, IsInline};
 ghost use Rattle.tinyvec.specs.Room.{GrowsByPushes};
 ghost use Rattle.tinyvec.specs.FrameLaws.{FrameOf};
 ghost use Rattle.tinyvec.specs.Splice.{splice_view, splice_replacement, SpliceKeeps, SpliceCanStep, SpliceSteps, SpliceStepsBack};
 
+use std::alloc::Global;
 use std::iter::Fuse;
 use tinyvec::{Array, SpliceRest, TinyVec, TinyVecSplice};
+
+/// Pushes that have room allocate nothing, so they need no test.
+fn three(alloc: Global) -> TinyVec<[i32; 4]>
+    ensures items { tiny_items result ≡ pos 1 ∷ pos 2 ∷ pos 3 ∷ [] }
+    ensures place { IsInline result }
+    ensures capacity { tiny_capacity result ≡ 4 }
+{
+    let mut v: TinyVec<[i32; 4]> = TinyVec::new(alloc);
+    let _one = v.push(1);
+    let _two = v.push(2);
+    let _three = v.push(3);
+    v
+}
+
+/// A replacement that fits the array: it is all there, the list stays inline, and no memory can be refused.
+pub fn replaced_inline(alloc: Global) -> (Option<i32>, bool, TinyVec<[i32; 4]>)
+    ensures first { result.0 ≡ Some (pos 2) }
+    ensures all_fit { IsTrue result.1 }
+    ensures items { tiny_items result.2 ≡ pos 1 ∷ pos 7 ∷ pos 8 ∷ pos 3 ∷ [] }
+    ensures place { IsInline result.2 }
+{
+    let mut v = three(alloc);
+    let mut splice = v.splice(1..2, [7, 8]);
+    let first = splice.next();
+    let finished = splice.finish();
+    (first, finished.is_ok(), v)
+}
 
 /// One item from each end of any splice, whose replacement may be any iterator with two ends.
 pub fn one_from_each_end<A: Array, I: DoubleEndedIterator<Item = A::Item>>(
