@@ -1,5 +1,6 @@
 //! `ArrayVec` and `SliceVec`.
-ghost use Rattle.std.specs.Prelude.{◌≡◌, ◌<◌, ◌≤◌, ◌==◌, ◌+◌, ◌^◌, length, take, drop, slice_range, slice_index_or, slice_set, List, ◌++◌, ⊤};
+ghost use Rattle.std.specs.Prelude.{◌≡◌, ◌<◌, ◌≤◌, ◌==◌, ◌+◌, ◌^◌, length, take, drop, slice_range, slice_index_or};
+ghost use Rattle.std.specs.Prelude.{slice_set, List, ◌++◌, ⊤};
 ghost use Rattle.std.specs.List.{remove_range};
 ghost use Rattle.tinyvec_slots.specs.Slots.{AreDefaults, split_at};
 ghost use Rattle.tinyvec_slots.specs.Ranges.{Within};

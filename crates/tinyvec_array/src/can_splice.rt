@@ -10,7 +10,8 @@ where
     S::Item: Default,
 {
     ghost use Rattle.tinyvec_array.specs.View.{view, StaysInPlace};
-    ghost use Rattle.tinyvec_array.specs.SpliceLaws.{kept_refl, kept_then, kept_count, changed_around, cut_changes, not_fewer};
+    ghost use Rattle.tinyvec_array.specs.SpliceLaws.{kept_refl, kept_then, kept_count, changed_around, cut_changes};
+    ghost use Rattle.tinyvec_array.specs.SpliceLaws.{not_fewer};
 
     ghost counted = { true };
 

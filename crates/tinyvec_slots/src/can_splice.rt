@@ -1,5 +1,6 @@
 //! The trait `CanSplice`.
-ghost use Rattle.std.specs.Prelude.{◌≡◌, ◌++◌, ◌≤◌, ◌+◌, ◌-◌, ℕ, ⊤, true, All, take, drop, Bool, List, Some, length, OnErr, IfErr, MatchResult};
+ghost use Rattle.std.specs.Prelude.{◌≡◌, ◌++◌, ◌≤◌, ◌+◌, ◌-◌, ℕ, ⊤, true, All, take, drop, Bool, List, Some, length};
+ghost use Rattle.std.specs.Prelude.{OnErr, IfErr, MatchResult};
 ghost use Rattle.std.specs.Bool.{MatchBool};
 ghost use Rattle.std.specs.Iterator.{Drains, YieldsThen, IsFinite};
 ghost use Rattle.tinyvec_slots.specs.Touches.{touch_count, FitsBits};

@@ -2,7 +2,8 @@
 //!
 //! Each loop holds the place itself, and the length of a list in slots is set once, at its end: LLVM makes vector code only
 //! if no turn writes the length. A `Vec` is best in a local variable of the caller meanwhile.
-ghost use Rattle.std.specs.Prelude.{◌≡◌, ◌+◌, ◌<◌, ◌≤◌, ◌++◌, ◌-◌, ◌^◌, List, length, take, drop, replicate, Some, MatchResult, OnOk, OnErr, IsOk, slice_range, vec_len, vec_capacity};
+ghost use Rattle.std.specs.Prelude.{◌≡◌, ◌+◌, ◌<◌, ◌≤◌, ◌++◌, ◌-◌, ◌^◌, List, length, take, drop, replicate, Some};
+ghost use Rattle.std.specs.Prelude.{MatchResult, OnOk, OnErr, IsOk, slice_range, vec_len, vec_capacity};
 ghost use Rattle.std.specs.List.{FoldsTo, AllZip};
 ghost use Rattle.std.specs.Iterator.{IsFinite, Drains, YieldsThen};
 ghost use Rattle.tinyvec_slots.specs.Ranges.{Within};

@@ -102,7 +102,8 @@ impl<'a, V: CanSplice, I: Iterator<Item = V::Item>> Iterator for Splice<'a, V, F
 
 impl<'a, V: CanSplice, I: DoubleEndedIterator<Item = V::Item>> DoubleEndedIterator
     for Splice<'a, V, Fuse<I>> {
-    ghost use Rattle.tinyvec_slots.specs.Splice.{splice_len, splice_replacement, SpliceCanStep, SpliceCanNext, SpliceStepsBack};
+    ghost use Rattle.tinyvec_slots.specs.Splice.{splice_len, splice_replacement, SpliceCanStep, SpliceCanNext};
+    ghost use Rattle.tinyvec_slots.specs.Splice.{SpliceStepsBack};
 
     ghost can_next_back = { SpliceCanNext V.items I.can_next_back };
 
@@ -147,7 +148,8 @@ where
 }
 
 impl<'a, V: CanSplice, I: Iterator<Item = V::Item>> Splice<'a, V, Fuse<I>> {
-    ghost use Rattle.tinyvec_slots.specs.Splice.{splice_view, splice_front, splice_back, splice_replacement, splice_vec, splice_touches, SpliceCanStep, SpliceCanNext, SpliceEnds};
+    ghost use Rattle.tinyvec_slots.specs.Splice.{splice_view, splice_front, splice_back, splice_replacement};
+    ghost use Rattle.tinyvec_slots.specs.Splice.{splice_vec, splice_touches, SpliceCanStep, SpliceCanNext, SpliceEnds};
 
     /// The number of touches since `splice`, as `Touches` counts them.
     pub fn touches(&self) -> u128

@@ -1,5 +1,6 @@
 //! The slots that a splice reaches, each touch counted.
-ghost use Rattle.std.specs.Prelude.{◌≡◌, ◌≢◌, ◌+◌, ◌-◌, ◌<◌, ◌≤◌, ◌++◌, List, Some, None, length, take, drop, slice_index_or, slice_set, slice_range};
+ghost use Rattle.std.specs.Prelude.{◌≡◌, ◌≢◌, ◌+◌, ◌-◌, ◌<◌, ◌≤◌, ◌++◌, List, Some, None, length, take, drop};
+ghost use Rattle.std.specs.Prelude.{slice_index_or, slice_set, slice_range};
 ghost use Rattle.std.specs.Bool.{MatchBool};
 ghost use Rattle.std.specs.List.{SwappedAt};
 ghost use Rattle.tinyvec_slots.specs.Slots.{AreDefaults};

@@ -1,5 +1,6 @@
 //! Items that are pushed, popped, inserted, removed and cut off.
-ghost use Rattle.std.specs.Prelude.{◌≡◌, ◌+◌, ◌-◌, ◌<◌, ◌↔◌, [], ◌∷◌, ◌++◌, length, take, drop, slice_get, slice_index_or, IsSome, IfNone, IfSome, ◌≤◌, remove, insert};
+ghost use Rattle.std.specs.Prelude.{◌≡◌, ◌+◌, ◌-◌, ◌<◌, ◌↔◌, [], ◌∷◌, ◌++◌, length, take, drop, slice_get};
+ghost use Rattle.std.specs.Prelude.{slice_index_or, IsSome, IfNone, IfSome, ◌≤◌, remove, insert};
 ghost use Rattle.tinyvec_array.specs.ArrayVec.{slots_of, SameLender};
 ghost use Rattle.tinyvec_array.specs.View.{view, Becomes, NothingVacated};
 ghost use Rattle.tinyvec_slots.specs.Ranges.{Within};

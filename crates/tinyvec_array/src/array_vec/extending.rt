@@ -1,6 +1,9 @@
 //! Growing by other lists, by clones, by iterators and by closures.
-ghost use Rattle.std.specs.Prelude.{◌≡◌, ◌+◌, ◌≤◌, ◌++◌, length, take, drop, IsOk, OnOk, OnErr, [], ◌-◌, ◌∷◌, List, IfErr, Some, ◌<◌, ◌↔◌, ℕ, All, Err, reverse, IsSome, IfSome, IfNone, IfOk, MatchResult};
-ghost use Rattle.tinyvec_slots.specs.Clones.{AddsClones, AppendsAllOrNone, ClonesOver, RefusedAt, ResizesByClones, CutsToClones};
+ghost use Rattle.std.specs.Prelude.{◌≡◌, ◌+◌, ◌≤◌, ◌++◌, length, take, drop, IsOk, OnOk, OnErr, [], ◌-◌, ◌∷◌, List};
+ghost use Rattle.std.specs.Prelude.{IfErr, Some, ◌<◌, ◌↔◌, ℕ, All, Err, reverse, IsSome, IfSome, IfNone, IfOk};
+ghost use Rattle.std.specs.Prelude.{MatchResult};
+ghost use Rattle.tinyvec_slots.specs.Clones.{AddsClones, AppendsAllOrNone, ClonesOver, RefusedAt, ResizesByClones};
+ghost use Rattle.tinyvec_slots.specs.Clones.{CutsToClones};
 ghost use Rattle.tinyvec_array.specs.ArrayVec.{slots_of, view_of, SameLender};
 ghost use Rattle.tinyvec_array.specs.View.{view, Becomes, StaysInPlace, NothingVacated};
 ghost use Rattle.tinyvec_slots.specs.Ranges.{IsRangeOf, items_within};

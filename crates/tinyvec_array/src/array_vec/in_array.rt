@@ -1,5 +1,6 @@
 //! What only a vector in an array has.
-ghost use Rattle.std.specs.Prelude.{◌≡◌, ◌-◌, ◌<◌, ◌≤◌, ◌↔◌, ℕ, All, length, [], take, drop, min, ⊤, Err, IsOk, IsErr, IfOk, IfErr, OnOk, OnErr};
+ghost use Rattle.std.specs.Prelude.{◌≡◌, ◌-◌, ◌<◌, ◌≤◌, ◌↔◌, ℕ, All, length, [], take, drop, min, ⊤, Err, IsOk, IsErr};
+ghost use Rattle.std.specs.Prelude.{IfOk, IfErr, OnOk, OnErr};
 ghost use Rattle.std.specs.Borrow.{sem};
 ghost use Rattle.std.specs.List.{AllZip, AppendsResults};
 ghost use Rattle.tinyvec_slots.specs.Slots.{AreDefaults, SlotRule, split_at};

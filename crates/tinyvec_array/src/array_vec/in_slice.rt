@@ -1,5 +1,6 @@
 //! What only a vector in a lent slice has.
-ghost use Rattle.std.specs.Prelude.{◌≡◌, ◌<◌, ◌≤◌, ◌-◌, ◌↔◌, ◌++◌, [], length, take, drop, reverse, List, IsSome, IfSome, IsOk, OnOk, IfErr};
+ghost use Rattle.std.specs.Prelude.{◌≡◌, ◌<◌, ◌≤◌, ◌-◌, ◌↔◌, ◌++◌, [], length, take, drop, reverse, List, IsSome};
+ghost use Rattle.std.specs.Prelude.{IfSome, IsOk, OnOk, IfErr};
 ghost use Rattle.std.specs.List.{AppendsResults};
 ghost use Rattle.std.specs.Borrow.{sem};
 ghost use Rattle.tinyvec_slots.specs.Slots.{split_at};

@@ -1,12 +1,14 @@
 //! Comparisons, hashes, texts, writers, indexing and iteration.
-ghost use Rattle.std.specs.Prelude.{◌≡◌, ◌<◌, List, length, slice_index_or, true, false, ◌+◌, ◌≤◌, ◌↔◌, ◌++◌, drop, IsOk, OnOk, OnErr};
+ghost use Rattle.std.specs.Prelude.{◌≡◌, ◌<◌, List, length, slice_index_or, true, false, ◌+◌, ◌≤◌, ◌↔◌, ◌++◌, drop};
+ghost use Rattle.std.specs.Prelude.{IsOk, OnOk, OnErr};
 ghost use Rattle.std.specs.Borrow.{sem};
 ghost use Rattle.tinyvec_array.specs.ArrayVec.{slots_of, name_of};
 ghost use Rattle.tinyvec_array.specs.View.{view};
 ghost use Rattle.tinyvec_array.specs.Lends.{lends_items, lends_item};
 ghost use Rattle.tinyvec_slots.specs.Filling.{Iterates, IteratesMut};
 ghost use Rattle.std.specs.Cmp.{on_equiv, on_total, on_po, on_per};
-ghost use Rattle.std.specs.Cmp.Lexicographic.{pointwise, slice_cmp, slice_partial_cmp, lists_per, lists_equiv, lists_po, lists_total, lists_agrees, lists_ties};
+ghost use Rattle.std.specs.Cmp.Lexicographic.{pointwise, slice_cmp, slice_partial_cmp, lists_per, lists_equiv};
+ghost use Rattle.std.specs.Cmp.Lexicographic.{lists_po, lists_total, lists_agrees, lists_ties};
 ghost use Rattle.std.specs.Hash.{on_Alike, items_Alike};
 ghost use Rattle.std.specs.Fmt.{DisplaysOnOk, debug_list};
 ghost use Rattle.tinyvec_slots.specs.Texts.{list_in_radix};

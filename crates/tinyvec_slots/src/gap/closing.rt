@@ -1,6 +1,7 @@
 //! Finishing a splice: fill the gap, then close what is left of it, or rotate the surplus in. All of it is inlined, since
 //! calls would cost a short splice as much as its moves.
-ghost use Rattle.std.specs.Prelude.{◌≡◌, ◌+◌, ◌*◌, ◌-◌, ◌<◌, ◌≤◌, ◌++◌, List, Some, None, length, take, drop, slice_range, slice_set, true, All};
+ghost use Rattle.std.specs.Prelude.{◌≡◌, ◌+◌, ◌*◌, ◌-◌, ◌<◌, ◌≤◌, ◌++◌, List, Some, None, length, take, drop};
+ghost use Rattle.std.specs.Prelude.{slice_range, slice_set, true, All};
 ghost use Rattle.std.specs.Bool.{MatchBool};
 ghost use Rattle.std.specs.Iterator.{Drains, Yields, IsFinite};
 ghost use Rattle.tinyvec_slots.specs.Ranges.{Within};
