@@ -120,7 +120,8 @@ pub fn put_iter<V: CanPut, I: Iterator<Item = V::Item>>(
 ) -> Result<(), NoRoom<V::Item, I>>
     requires { I.can_next iter × IsFinite (I.remaining iter) }
     ensures ran { (xs : List V.Item) × V.Gets vec.old xs vec.new
-        × MatchResult result (λ _. Drains I.next_gives iter xs) (λ refused. YieldsThen I.next_gives iter xs (Some refused.item) refused.rest)
+        × MatchResult result (λ _. Drains I.next_gives iter xs)
+        (λ refused. YieldsThen I.next_gives iter xs (Some refused.item) refused.rest)
         × OnErr result (length (V.items vec.old) + length xs ≡ V.room vec.old)
         × Follows I.can_next I.remaining iter (length (V.items vec.old)) (length (V.items vec.old) + length xs) result }
 {

@@ -74,7 +74,8 @@ impl<'a, T: Drop + 'a, S: Slots<Item = T>> IntoIterator for &'a mut ArrayVec<S> 
     fn into_iter(self) -> slice::IterMut<'a, T>
         ensures* writes_back { sem 𝓛 (lends_iter S.row S.Len.row T.row S.Slots self.entry result) }
         ensures into_iter_gives { IteratesMut (view S.Slots self.old).items result }
-        ensures keeps_len { (ws : List T) → length (view S.Slots (with_items_of S.Slots self.old ws)).items ≡ length (view S.Slots self.old).items }
+        ensures keeps_len { (ws : List T)
+            → length (view S.Slots (with_items_of S.Slots self.old ws)).items ≡ length (view S.Slots self.old).items }
     {
         self.iter_mut()
     }
