@@ -52,22 +52,6 @@ fn into_an_array(rt: HostRuntime) -> Result<(), Fail> {
 }
 
 #[test]
-fn a_replacement_that_ends(rt: HostRuntime) -> Result<(), Fail> {
-    let mut v = ArrayVec::from_array_len([1, 2, 3, 0], 3);
-    let mut splice = v.splice(1..2, [7, 8, 9, 10]);
-    let taken = splice.next();
-    let left = match splice.finish() {
-        Ok(()) => None,
-        Err(mut refused) => Some((refused.item, refused.rest.next())),
-    };
-    all_steps(&[
-        taken == Some(2),
-        left == Some((9, Some(10))),
-        holds(&v, &[1, 7, 8, 3], &[]),
-    ])
-}
-
-#[test]
 fn a_replacement_without_end(rt: HostRuntime) -> Result<(), Fail> {
     let mut v = ArrayVec::from_array_len([1, 2, 0, 0], 2);
     let left = match v.splice(1..2, 5..).finish() {

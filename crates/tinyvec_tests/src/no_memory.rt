@@ -41,7 +41,7 @@ fn lists_that_are_looked_at(rt: HostRuntime) -> Result<(), Fail> {
 #[test]
 fn lists_that_are_cut(rt: HostRuntime) -> Result<(), Fail> {
     let alloc = rt.alloc();
-    let Ok(mut v) = TinyVec::try_from_array_len(alloc, [1, 2, 3, 4, 5, 6, 7, 8], 8) else {
+    let Ok(mut v) = TinyVec::try_from_array_len(alloc, [1_i32, 2, 3, 4, 5, 6, 7, 8], 8) else {
         return all_steps(&[false]);
     };
     let popped = (v.pop() == Some(8))

@@ -80,8 +80,10 @@ fn on_the_heap(rt: HostRuntime) -> Result<(), Fail> {
     let Ok(mut v) = TinyVec::<[i32; 4]>::from_slice(rt.alloc(), &[1, 2, 3, 4, 5]) else {
         return granted_steps(true, &[]);
     };
-    let range = v.len().min(1)..v.len().min(4);
-    let is_placed = splices!(v, range, [7], [next_back Some(4), next Some(2)], None);
+    let mut is_placed = false;
+    if v.len() == 5 {
+        is_placed = splices!(v, 1..4, [7], [next_back Some(4), next Some(2)], None);
+    }
     all_steps(&[is_placed & lies(&v, &[1, 7, 5], false)])
 }
 
