@@ -43,7 +43,7 @@ MEANS = re.compile(r"^\| Instructions of (.*)\n.*\n((?:\|.*\n)+)", re.M)
 # What documents quote.
 PLACE = re.compile(r"^<!-- (programs|rust|means) -->\n(?:\|.*\n)*", re.M)
 # Groups of few users, and the columns of `means`: a crate, with its other types and std's.
-FEW = ("`TinyVec` on its way to the heap", "`TinyVec` out of four slots", "Borsh form")
+FEW = ("`TinyVec` out of four slots", "Borsh form")
 PEERS = {"`tinyvec`": ["tinyvec"], "`arrayvec`": ["arrayvec", "ArrayString"], "`smallvec`": ["smallvec"], "`Vec`, `String`": ["Vec", "String"]}
 QUOTED = re.compile(r"(?:\d+(?:\.(\d+))?|\?)<!-- rust (.+?) -->")
 
