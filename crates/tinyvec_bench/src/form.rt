@@ -1,6 +1,7 @@
 //! Lists and texts, written and read in the Borsh form.
 ghost use Rattle.std.specs.Prelude.{◌*◌, ◌^◌, ◌<◌};
 
+use crate::items::Item;
 use crate::report::{Bench, Report, run};
 use std::alloc::Global;
 use tinyvec::TinyVec;
@@ -39,7 +40,9 @@ pub fn of_forms<R: Report, const N: usize>(report: &mut R, alloc: Global)
     requires { N * 64 < 2 ^ 63 }
 {
     let mut numbers: ArrayVec<[u32; N]> = ArrayVec::new();
-    let _rest = numbers.extend(0..N as u32);
+    for i in 0..N {
+        let _full = numbers.try_push(Item::of(i as u64));
+    }
     forms(
         report,
         alloc,
