@@ -4,11 +4,11 @@ ghost use Rattle.std.specs.Iterator.{IsFinite};
 ghost use Rattle.std.specs.Iterator.Adapters.{fuse_steps};
 ghost use Rattle.tinyvec.specs.Ends.{front, back, RunsWord};
 ghost use Rattle.tinyvec.specs.Fused.{fused_rest, FusedFinite, HasTwoEnds};
-ghost use Rattle.tinyvec.specs.SplicedByWord.{IsSpliceRefused, SplicedByWord};
+ghost use Rattle.tinyvec.specs.SplicedByWord.{IsSpliceRefused};
 ghost use Rattle.tinyvec.specs.TinyVec.{view, tiny_items, tiny_capacity, IsInline};
 ghost use Rattle.tinyvec.specs.Room.{GrowsByPushes};
 ghost use Rattle.tinyvec.specs.FrameLaws.{FrameOf};
-ghost use Rattle.tinyvec.specs.Splice.{splice_view, splice_replacement, SpliceKeeps, SpliceCanStep, SpliceSteps, SpliceStepsBack};
+ghost use Rattle.tinyvec.specs.Splice.{splice_replacement, SpliceKeeps, SpliceCanStep, SpliceSteps, SpliceStepsBack};
 
 use std::alloc::Global;
 use std::iter::Fuse;
@@ -50,9 +50,6 @@ pub fn one_from_each_end<A: Array, I: DoubleEndedIterator<Item = A::Item>>(
     ensures asked { RunsWord (SpliceSteps (λ v. (view A.Slots v).items) (FrameOf A.Slots) (fuse_steps I.next_gives))
         (SpliceStepsBack (λ v. (view A.Slots v).items) (FrameOf A.Slots) (fuse_steps I.next_back_gives))
         splice.old (front ∷ back ∷ []) (result.0 ∷ result.1 ∷ []) splice.new }
-    ensures spliced { (rest : I → List A.Item) → HasTwoEnds I.next_gives I.next_back_gives rest
-        → SplicedByWord (splice_view (λ v. (view A.Slots v).items))
-        (SpliceKeeps (λ v. (view A.Slots v).items) (FrameOf A.Slots)) (fused_rest rest) splice.old (front ∷ back ∷ []) splice.new }
     ensures kept { SpliceKeeps (λ v. (view A.Slots v).items) (FrameOf A.Slots) splice.old splice.new }
     ensures ready { SpliceCanStep (λ v. (view A.Slots v).items) splice.new }
     ensures finite { FusedFinite I.remaining (splice_replacement splice.old)

@@ -14,6 +14,7 @@ use Rattle.tinyvec.specs.Refused.{RefusedFor, ClonesBehind, ClonesRefused}
 use Rattle.tinyvec.specs.Following.{PushesItems}
 use Rattle.tinyvec_slots.specs.Filling.{IntoIterYields}
 use Rattle.tinyvec_slots.specs.declared.no_room.NoRoom.{NoRoom}
+use Rattle.tinyvec.specs.FrameLaws.{FrameOf}
 use Rattle.tinyvec.specs.Lends.{tiny_with_items, tiny_with_item}
 use Rattle.tinyvec_examples.proofs.words.Shown.{D, C, I}
 
@@ -155,3 +156,6 @@ module _ (alloc : Global) where
 pub example-PushesItems : (becomes : List ℕ → List ℕ → Type 0) (steps : List ℕ → Option ℕ → List ℕ → Type 0) (r : Result Unit (NoRoom ℕ (List ℕ))) (new : List ℕ)
     → IntoIterYields becomes steps (5 ∷ []) (5 ∷ []) → PushesItems becomes steps (5 ∷ []) 4 r (1 ∷ []) new → new ≡ 1 ∷ 5 ∷ []
 example-PushesItems becomes steps r new yields h = ((h.known (5 ∷ []) yields).1 (omega arith)).1
+
+pub example-FrameOf : (v w : TinyVec (List ℕ) ℕ (UpTo 4)) → FrameOf G v w → tiny_capacity w ≡ tiny_capacity v
+example-FrameOf v w h = ap (λ p. p.capacity) h.place

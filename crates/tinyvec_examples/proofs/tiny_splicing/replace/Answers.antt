@@ -4,6 +4,7 @@ use Rattle.tinyvec_slots.specs.Ends.{front, back}
 use Rattle.tinyvec_slots.specs.Fused.{fused_rest}
 use Rattle.tinyvec_slots.specs.SplicedByWord.{IsSpliceRefused}
 use Rattle.tinyvec_slots.proofs.Lists.{length-slice_range}
+use Rattle.tinyvec_slots.proofs.SpliceLemmas.{runs_from_ends}
 use Rattle.tinyvec_slots.proofs.AnySpliceLemmas.{spliced_len}
 use Rattle.tinyvec.specs.TinyVec.{view}
 use Rattle.tinyvec.specs.View.{SpareRule, place_pushed}
@@ -24,7 +25,9 @@ returns-clause-list g c = λ rest ends.
     let made = c.splice-splice.ensures in
     let xs = (view g.A.Slots c.args.vec.now).items in
     let P = rest c.args.replacement in
-    let along = c.one_from_each_end-ends.ensures.spliced rest ends in
+    let answers = c.one_from_each_end-ends.result.0 ∷ c.one_from_each_end-ends.result.1 ∷ [] in
+    let along = (made.both_ends rest ends.first (front ∷ back ∷ []) answers t (
+    runs_from_ends (λ v. (view g.A.Slots v).items) (FrameOf g.A.Slots) g.I.Iterator.next_gives g.I.DoubleEndedIterator.next_back_gives rest ends.last s (front ∷ back ∷ []) answers t c.one_from_each_end-ends.ensures.asked)).1 in
     let whole : R (splice_replacement s) ≡ P = rw made.unasked (rw made.replacement refl) in
     let finished = c.finish.ensures.listed rest ends.first in
     let n = length-slice_range xs c.args.start c.args.end c.requires.start_le_end c.requires.in_bounds in
@@ -45,7 +48,9 @@ returns-clause-succeeds g c = λ rest ends room.
     let made = c.splice-splice.ensures in
     let xs = (view g.A.Slots c.args.vec.now).items in
     let P = rest c.args.replacement in
-    let along = c.one_from_each_end-ends.ensures.spliced rest ends in
+    let answers = c.one_from_each_end-ends.result.0 ∷ c.one_from_each_end-ends.result.1 ∷ [] in
+    let along = (made.both_ends rest ends.first (front ∷ back ∷ []) answers t (
+    runs_from_ends (λ v. (view g.A.Slots v).items) (FrameOf g.A.Slots) g.I.Iterator.next_gives g.I.DoubleEndedIterator.next_back_gives rest ends.last s (front ∷ back ∷ []) answers t c.one_from_each_end-ends.ensures.asked)).1 in
     let whole : fused_rest rest (splice_replacement s) ≡ P = rw made.unasked (rw made.replacement refl) in
     let one = length-take-le c.args.start xs (omega (arith, c.requires.start_le_end, c.requires.in_bounds)) in
     let two = length-drop c.args.end xs in
