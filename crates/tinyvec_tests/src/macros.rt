@@ -72,6 +72,27 @@ fn of_a_tiny_vec(rt: HostRuntime) -> Result<(), Fail> {
     )
 }
 
+type Four = Result<TinyVec<[u8; 4]>, AllocError>;
+
+#[test]
+fn equal_by_each_form(rt: HostRuntime) -> Result<(), Fail> {
+    let alloc = rt.alloc();
+    let mut pushed = ArrayVec::<[i32; 3]>::new();
+    let two = pushed.try_push(1).is_none() & pushed.try_push(2).is_none();
+    let three = two & pushed.try_push(3).is_none();
+    let listed: ArrayVec<[i32; 3]> = array_vec!(1, 2, 3);
+    let (repeated, inferred): (Four, Four) = (
+        tiny_vec!(alloc; 0u8; 4),
+        tiny_vec!(alloc; 0, 0, 0, 0),
+    );
+    let named = tiny_vec!(alloc; [u8; 4] => 0, 0, 0, 0);
+    let is_equal = (repeated == inferred) & (repeated == named);
+    all_steps(&[
+        three & (pushed == listed),
+        is_equal & makes(repeated, &[0, 0, 0, 0], &[]),
+    ])
+}
+
 // An item that is not `Copy`.
 #[derive(Default, Drop, PartialEq)]
 struct Own(u8);
