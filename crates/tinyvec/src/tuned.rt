@@ -42,7 +42,8 @@ fn push_until_refused<T: Clone + Default + Drop>(vec: &mut Vec<T>, from: &[T]) -
     ensures capacity { vec_capacity vec.new ≡ vec_capacity vec.old }
 {
     let mut done = 0;
-    // Bytes too: LLVM's own blocks have 32 of them. Items of 2 or 3 bytes are left to it.
+    // Bytes too: LLVM's own blocks have 32 of them. Items of 2 or 3 bytes are left to it. `tiny_heap_extend_from_slice` 16:
+    // 80 > 71, `tiny_heap_bytes_extend_from_slice` 16: 79 > 49.
     while 16 <= from.len() - done && are_bytes(from) {
         let Ok(block) = clone_block::<T, 16>(&from[done..]) else {
             return done;
@@ -88,52 +89,6 @@ fn push_four<T: Clone>(vec: &mut Vec<T>, from: &[T]) -> Result<(), AllocError>
     vec.push_reserved(second);
     vec.push_reserved(third);
     vec.push_reserved(fourth);
-    Ok(())
-}
-
-// `push_clones` of a list that may be long. Items that fit registers go by blocks, of which one is worth its call from 512
-// items on.
-#[inline(always)]
-pub(crate) fn push_many_clones<T: Clone + Default + Drop>(
-    heap: &mut Vec<T>,
-    from: &[T],
-) -> Result<(), AllocError>
-    requires room { vec_len heap.old + length from.now ≤ vec_capacity heap.old }
-    ensures { PushesClones T.Clone from.now result heap.old heap.new }
-{
-    if 512 <= from.len() && fit_registers(from) {
-        return push_clones_by_blocks::<T, 512>(heap, from);
-    }
-    push_clones(heap, from)
-}
-
-// `push_clones`, in blocks of N while N items are left. Not inlined, since a block is on the stack.
-#[inline(never)]
-fn push_clones_by_blocks<T: Clone + Default + Drop, const N: usize>(
-    heap: &mut Vec<T>,
-    from: &[T],
-) -> Result<(), AllocError>
-    requires some { 0 < N }
-    requires room { vec_len heap.old + length from.now ≤ vec_capacity heap.old }
-    ensures { PushesClones T.Clone from.now result heap.old heap.new }
-{
-    let mut vec = mem::replace(heap, Vec::new(*heap.allocator()));
-    let len = vec.len();
-    let mut done = 0;
-    while N <= from.len() - done {
-        let Ok(block) = clone_block::<T, N>(&from[done..]) else {
-            vec.truncate(len);
-            *heap = vec;
-            return Err(AllocError);
-        };
-        push_whole(&mut vec, block);
-        done += N;
-    }
-    *heap = vec;
-    let Ok(()) = push_clones(heap, &from[done..]) else {
-        heap.truncate(len);
-        return Err(AllocError);
-    };
     Ok(())
 }
 
@@ -208,36 +163,9 @@ pub(crate) fn push_copies<T: Copy>(heap: &mut Vec<T>, from: &[T])
     requires room { vec_len heap.old + length from.now ≤ vec_capacity heap.old }
     ensures { HeapBecomes heap.old heap.new (heap.old.items ++ from.now) }
 {
-    if 512 <= from.len() {
-        return push_many_copies::<T, 512>(heap, from);
-    }
-    push_few_copies(heap, from);
-}
-
-// `push_copies`, in blocks of N while N items are left, each of which LLVM moves by one `memcpy`. Not inlined, since a
-// block is on the stack.
-#[inline(never)]
-fn push_many_copies<T: Copy, const N: usize>(heap: &mut Vec<T>, from: &[T])
-    requires some { 0 < N }
-    requires room { vec_len heap.old + length from.now ≤ vec_capacity heap.old }
-    ensures { HeapBecomes heap.old heap.new (heap.old.items ++ from.now) }
-{
     let mut vec = mem::replace(heap, Vec::new(*heap.allocator()));
-    let done = push_blocks::<T, N>(&mut vec, from);
-    *heap = vec;
-    push_few_copies(heap, &from[done..]);
-}
-
-// `push_copies`, in blocks of 16 and of 4.
-#[inline(always)]
-fn push_few_copies<T: Copy>(heap: &mut Vec<T>, from: &[T])
-    requires room { vec_len heap.old + length from.now ≤ vec_capacity heap.old }
-    ensures { HeapBecomes heap.old heap.new (heap.old.items ++ from.now) }
-{
-    let mut vec = mem::replace(heap, Vec::new(*heap.allocator()));
-    let most = push_blocks::<T, 16>(&mut vec, from);
-    let more = most + push_blocks::<T, 4>(&mut vec, &from[most..]);
-    for i in more..from.len() {
+    let done = push_blocks::<T, 16>(&mut vec, from);
+    for i in done..from.len() {
         vec.push_reserved(from[i]);
     }
     *heap = vec;

@@ -15,7 +15,7 @@ use std::alloc::AllocError;
 use std::mem;
 use tinyvec_array::{Array, ArrayVec};
 use tinyvec_slots::NoMemory;
-use tinyvec_slots::authors::{move_to_end, remove_shifting, take_all};
+use tinyvec_slots::authors::{remove_shifting, take_all};
 
 impl<A: Array> TinyVec<A> {
     /// Appends `value` to a list that has room. It allocates nothing, so it cannot fail.
@@ -86,14 +86,7 @@ impl<A: Array> TinyVec<A> {
             (view A.Slots self.new) (take (length (view A.Slots self.old).items - 1) (view A.Slots self.old).items) }
     {
         match self {
-            TinyVec::Inline(v, _) => {
-                let len = v.len();
-                if len == 0 {
-                    return None;
-                }
-                // Its index of 32 bits shows LLVM that no write reaches the variant.
-                Some(v.swap_remove(len - 1))
-            }
+            TinyVec::Inline(v, _) => v.pop(),
             TinyVec::Heap(v) => v.pop(),
         }
     }
@@ -115,8 +108,6 @@ impl<A: Array> TinyVec<A> {
 
     /// Inserts `element` at `index`, and moves the later items up. A full list first doubles its capacity, to one at
     /// least, which moves an inline one to the heap. If the allocator refuses, nothing changes and `element` is returned.
-    // Inlined, so that the variant is tested once for this call and the next.
-    #[inline(always)]
     pub fn insert(&mut self, index: usize, element: A::Item) -> Result<(), NoMemory<A::Item>>
         requires { index ≤ length (view A.Slots self.old).items }
         ensures ok { OnOk result (BecomesIn A.Item.is_default (view A.Slots self.old)
@@ -162,7 +153,7 @@ impl<A: Array> TinyVec<A> {
     }
 
     /// Removes the item at `index` and returns it. The later ones move down.
-    // Inlined like `insert`.
+    // Inlined, so that the variant is tested once for this call and the next.
     #[inline(always)]
     pub fn remove(&mut self, index: usize) -> A::Item
         requires { index < length (view A.Slots self.old).items }
@@ -252,7 +243,7 @@ impl<A: Array> TinyVec<A> {
     }
 }
 
-// `is_full` of an array. A loop of pushes of small items is faster by `<` than by `==`.
+// `is_full` of an array. A loop of pushes of small items is faster by `<` than by `==`. `tiny_clear_and_push` 64: 876 > 807.
 #[inline(always)]
 fn is_full<A: Array>(v: &ArrayVec<A>) -> bool
     ensures value { result ≡ (length (slots_view A.Slots v.now).spare == 0) }
@@ -270,10 +261,7 @@ fn is_full<A: Array>(v: &ArrayVec<A>) -> bool
 // Up to this many items, shifting one by one beats a rotation, and `Vec::remove`.
 const FEW: usize = 4;
 
-// From more items than this on, `move_to_end` goes by pieces, which is worth its call.
-const ONE_PIECE: usize = 257;
-
-// `remove` of a list on the heap.
+// `remove` of a list on the heap. `tiny_heap_remove_middle` 64: 120 > 97.
 #[inline(always)]
 fn remove_on_heap<T: Default + Drop>(heap: &mut Vec<T>, i: usize) -> T
     requires { i < vec_len heap.old }
@@ -290,26 +278,13 @@ fn remove_on_heap<T: Default + Drop>(heap: &mut Vec<T>, i: usize) -> T
     item
 }
 
-// `move_to_end`, but up to a piece in its caller.
+// Moves the items from `start` up to `end` to the end.
 #[inline(always)]
 fn few_to_end<T>(items: &mut [T], start: usize, end: usize)
     requires { (start ≤ end) × (end ≤ length items.old) }
     ensures { items.new ≡ remove_range items.old start end ++ slice_range items.old start end }
 {
-    if items.len() - start > ONE_PIECE {
-        move_to_end(items, start, end);
-        return;
-    }
-    first_to_end(&mut items[start..], end - start);
-}
-
-// Moves the first `count` items to the end.
-#[inline(always)]
-fn first_to_end<T>(items: &mut [T], count: usize)
-    requires { count ≤ length items.old }
-    ensures { items.new ≡ drop count items.old ++ take count items.old }
-{
-    items.rotate_left(count);
+    items[start..].rotate_left(end - start);
 }
 
 // `split_off` on the heap.

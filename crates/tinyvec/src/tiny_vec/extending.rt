@@ -15,7 +15,7 @@ ghost use Rattle.tinyvec_slots.specs.Filling.{ShowsItems, IntoIterYields, Append
 ghost use Rattle.tinyvec.specs.Following.{FillsRoom, PushesItems};
 
 use crate::TinyVec;
-use crate::tuned::{push_clones_within, push_copies, push_many_clones};
+use crate::tuned::{push_clones, push_clones_within, push_copies};
 use std::alloc::{AllocError, Global};
 use std::iter::ExactSizeIterator;
 use std::mem;
@@ -37,7 +37,7 @@ impl<A: Array> TinyVec<A> {
     {
         match self {
             TinyVec::Inline(v, _) => v.extend_from_slice(other),
-            TinyVec::Heap(v) => push_many_clones(v, other),
+            TinyVec::Heap(v) => push_clones(v, other),
         }
     }
 
@@ -63,7 +63,7 @@ impl<A: Array> TinyVec<A> {
             TinyVec::Inline(v, _) if other.len() <= v.capacity() - v.len() => v.extend_from_slice(
                 other,
             ),
-            TinyVec::Heap(v) if other.len() <= v.capacity() - v.len() => push_many_clones(v, other),
+            TinyVec::Heap(v) if other.len() <= v.capacity() - v.len() => push_clones(v, other),
             _ => {
                 self.grow(other.len())?;
                 self.extend_reserved(other)
@@ -159,7 +159,7 @@ impl<A: Array> TinyVec<A> {
         }
     }
 
-    // Empties a list of defaults. Those of an inline one stay in their slots.
+    // Empties a list of defaults. Those of an inline one stay in their slots. `tiny_append` 64: 276 > 248.
     #[inline(always)]
     fn clear_defaults(&mut self)
         requires { All A.Item.is_default (view A.Slots self.old).items }

@@ -20,8 +20,8 @@ returns-in-Inline g c =
     (inline_clones g.A.Item.Clone _ _ (view_of g.A.Slots v) (view_of g.A.Slots c.extend_from_slice.new.self) c.extend_from_slice.ensures.clones c.extend_from_slice.ensures.lender.slot_count) room in
     record { clones = made.clones; ok = made.ok; succeeds = made.succeeds; refused = made.refused })
 
-pub push_many_clones-requires : goal.push_many_clones-requires
-push_many_clones-requires g c = record { room = omega arith }
+pub push_clones-requires : goal.push_clones-requires
+push_clones-requires g c = record { room = omega arith }
 
 pub returns-in-Heap : goal.returns-in-Heap
 returns-in-Heap g c =
@@ -29,7 +29,7 @@ returns-in-Heap g c =
     let room : length v.items + length c.args.other.now ≤ vec_capacity v = omega (arith, v.ok.0, v.ok.1) in
     rw c.in-Heap.is
     (let made = extended_in_room g.A.Item.Default.is_default g.A.Item.Clone _ _ _ _
-    (heap_clones g.A.Item.Clone _ _ v c.push_many_clones.new.heap c.push_many_clones.ensures) room in
+    (heap_clones g.A.Item.Clone _ _ v c.push_clones.new.heap c.push_clones.ensures) room in
     record { clones = made.clones; ok = made.ok; succeeds = made.succeeds; refused = made.refused })
 
 -- a list that had no room is as it was before it grows

@@ -9,8 +9,8 @@ extend_from_slice-requires g c =
     let room = rw c.in-Inline.is at c.requires.room in
     record { room = omega (arith, room, parts_of g.A.Slots c.in-Inline.v) }
 
-pub push_many_clones-requires : goal.push_many_clones-requires
-push_many_clones-requires g c =
+pub push_clones-requires : goal.push_clones-requires
+push_clones-requires g c =
     let room = rw c.in-Heap.is at c.requires.room in
     record { room = omega (arith, room, c.in-Heap.v.ok.0) }
 
@@ -20,4 +20,4 @@ returns-in-Inline g c =
     c.extend_from_slice.ensures.clones c.extend_from_slice.ensures.lender.slot_count)
 
 pub returns-in-Heap : goal.returns-in-Heap
-returns-in-Heap g c = rw c.in-Heap.is (heap_clones g.A.Item.Clone _ _ c.in-Heap.v c.push_many_clones.new.heap c.push_many_clones.ensures)
+returns-in-Heap g c = rw c.in-Heap.is (heap_clones g.A.Item.Clone _ _ c.in-Heap.v c.push_clones.new.heap c.push_clones.ensures)

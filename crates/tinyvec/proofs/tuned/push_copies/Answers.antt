@@ -1,23 +1,14 @@
-use Rattle.std.proofs.Common.{◌++◌, take, drop, length, ◌-◌, ap, sym, ◌∙◌, vec_len, vec_capacity, ◌∷◌, [], arith, take_all, length-append, length-drop, length-take}
+use Rattle.std.proofs.Common.{◌++◌, take, length, ap, sym, ◌∙◌, vec_capacity, ◌∷◌, [], arith, take_all, length-append, length-take}
 use Rattle.std.proofs.lemmas.List.{take_more, append_assoc}
-use Rattle.tinyvec.proofs.CloneLemmas.{appended_further}
-use Rattle.tinyvec.proofs.tuned.push_few_copies.Goals as goal
-
-pub push_blocks-requires-clause-room : goal.push_blocks-requires-clause-room
-push_blocks-requires-clause-room g c =
-    let from = c.args.from.now in
-    let most = c.push_blocks-most in
-    let same = c.replace-vec.ensures.value in
-    omega (arith, simp (length-append, length-take) at (ap length most.ensures.becomes.items), length-take (length from - most.result) (drop most.result from), length-drop most.result from, ap vec_len same, ap vec_capacity same)
+use Rattle.tinyvec.proofs.tuned.push_copies.Goals as goal
 
 pub loop-i-init : goal.loop-i-init
 loop-i-init g c =
     let from = c.args.from.now in
-    let most = c.push_blocks-most in
-    let more = c.push_blocks in
+    let done = c.push_blocks-done in
     let same = c.replace-vec.ensures.value in (
-      appended_further c.args.heap.now.items most.new.vec.items more.new.vec.items from most.result more.result (most.ensures.becomes.items ∙ ap (λ v. v.items ++ take most.result from) same) more.ensures.becomes.items,
-      more.ensures.becomes.capacity ∙ most.ensures.becomes.capacity ∙ ap vec_capacity same,
+      done.ensures.becomes.items ∙ ap (λ v. v.items ++ take done.result from) same,
+      done.ensures.becomes.capacity ∙ ap vec_capacity same,
     )
 
 pub push_reserved-requires : goal.push_reserved-requires
