@@ -3,3 +3,4 @@
 pub mod draining;
 pub mod edits;
 pub mod lending;
+pub mod split;
