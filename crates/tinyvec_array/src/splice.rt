@@ -26,9 +26,9 @@ where
 {
     ghost use Rattle.tinyvec_slots.specs.Splice.{splice_view, splice_len, splice_replacement, splice_vec, splice_lender, SpliceCanStep, SplicesFromEnds};
 
-    /// Removes the range, yields its items from both ends, and puts those of `replacement` in their place. On a `SliceVec`
-    /// call it in a function that is generic over `Slots`: the borrow checker does not cover a call that names `SliceVec`,
-    /// for which `splice_all` is.
+    /// Removes the range, yields its items from both ends, and puts those of `replacement` in their place. Of a `SliceVec`
+    /// end it in a function that is generic over `Slots`: the borrow checker covers no `finish` and no `stop` where
+    /// `SliceVec` is named, for which `splice_all` is.
     ///
     /// `not_exhausted` fails only for a `RangeInclusive` that was iterated to its end.
     pub fn splice<R: RangeBounds<usize>, I: IntoIterator<Item = S::Item>>(
