@@ -1,5 +1,5 @@
 -- Items that are read into slots, a block at a time.
-use Rattle.std.proofs.Common.{◌≡◌, ◌∙◌, ap, sym, subst, ℕ, ◌+◌, ◌-◌, ◌<◌, ◌≤◌, List, [], ◌∷◌, ◌++◌, length, length-append, arith, Bool, Option, Err, map, take, drop, slice_set, length-take-le, take_at, drop-drop, take-append-drop}
+use Rattle.std.proofs.Common.{◌≡◌, ◌∙◌, ap, sym, subst, ℕ, ◌+◌, ◌-◌, ◌<◌, ◌≤◌, List, [], ◌∷◌, ◌++◌, length, length-append, arith, refl, Bool, Option, Err, map, take, drop, slice_set, length-take-le, take_at, drop-drop, take-append-drop}
 use Rattle.std.proofs.lemmas.List.{drop-set-lt, length-map, map-append, take_all, take_more_set}
 use Rattle.std.specs.List.{AllByRecursion}
 use Rattle.std.proofs.lemmas.Slice.{take-put_mid}
@@ -9,9 +9,10 @@ use Rattle.tinyvec_borsh.specs.declared.borsh_error.BorshError.TheVariants.{Ende
 use Rattle.tinyvec_borsh.specs.Fronts.{FrontsAreCut}
 use Rattle.tinyvec_borsh.specs.FrontsLaws.{cut-items}
 use Rattle.tinyvec_borsh.specs.Items.{SpellsItems, AfterItems}
-use Rattle.tinyvec_borsh.specs.Reading.{FailsFor, LeavesSlots, ReadsSpelling}
+use Rattle.tinyvec_borsh.specs.Reading.{FailsFor, LeavesSlots, ReadsSpelling, TakesSome}
+use Rattle.tinyvec_borsh.specs.TwoParts.{joined}
 use Rattle.tinyvec_io.specs.Counted.{CountedView}
-use Rattle.tinyvec_borsh.proofs.ItemByItem.{fails-after, fit-join, one-item, takes-items, takes-so}
+use Rattle.tinyvec_borsh.proofs.ItemByItem.{fails-after, fit-join, one-item, some-so, takes-items, takes-so}
 
 module _ {C : Type 0} (Spells : C → List ℕ → Type 0) (Fits : C → Type 0) where
   -- these items were read
@@ -46,6 +47,10 @@ module _ {C : Type 0} (Spells : C → List ℕ → Type 0) (Fits : C → Type 0)
   pub of-more : (Reason : BorshError → List ℕ → Type 0) (k n : ℕ) → k ≤ n → (e : BorshError) (input : List ℕ) → AfterItems Spells Fits Reason k e input → AfterItems Spells Fits Reason n e input
   of-more Reason k n fewer e input t = record { items = t.items; fewer = omega (arith, t.fewer, fewer); fit = t.fit; parts = t.parts }
 
+  -- what is cut of one item is cut of more
+  pub cut-first : (Reason : BorshError → List ℕ → Type 0) (n : ℕ) (old new : Option (List ℕ)) (e : BorshError) → TakesSome (Reason Ended) old new e → TakesSome (AfterItems Spells Fits Reason (n + 1) Ended) old new e
+  cut-first Reason n old new e = some-so old new e (λ bytes cut. record { items = []; fewer = omega arith; fit = tt; parts = joined [] bytes refl cut })
+
 -- lists that are the same from one place on are so from a later one on
 pub further : {T : Type 0} (a b : ℕ) (xs ys : List T) → drop a xs ≡ drop a ys → drop (a + b) xs ≡ drop (a + b) ys
 further a b xs ys same = sym (drop-drop b a xs) ∙ ap (drop b) same ∙ drop-drop b a ys
@@ -55,9 +60,9 @@ pub left-slot : {T : Type 0} (i : ℕ) (xs old : List T) (x : T) → drop i xs �
 left-slot i xs old x same = drop-set-lt (i + 1) xs i x (omega arith) ∙ further i 1 xs old same
 
 -- the first i slots were read, and then it failed
-pub left-at : {T C : Type 0} (content : T → C) (Spells : C → List ℕ → Type 0) (Fits : C → Type 0) (in_place : Bool) (i : ℕ) (old now : List T) (was mid is : Option (List ℕ))
-    → TookItems Spells Fits (map content (take i now)) was mid → ReadsSpelling (λ _. Unit {0}) mid is → length now ≡ length old → i < length old → drop i now ≡ drop i old
-    → LeavesSlots content Spells Fits in_place old now was is
+pub left-at : {T C : Type 0} (content : T → C) (Spells : C → List ℕ → Type 0) (Fits : C → Type 0) (in_place : Bool) {IsCut : List ℕ → Type 0} {e : BorshError} (i : ℕ) (old now : List T) (was mid is : Option (List ℕ))
+    → TookItems Spells Fits (map content (take i now)) was mid → TakesSome IsCut mid is e → length now ≡ length old → i < length old → drop i now ≡ drop i old
+    → LeavesSlots content Spells Fits in_place IsCut old now was is e
 left-at content Spells Fits in_place i old now was mid is t more same less kept =
     let long = length-take-le i now (omega (arith, same, less)) in
     record {

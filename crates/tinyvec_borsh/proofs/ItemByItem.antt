@@ -71,7 +71,7 @@ module _ {IsCut All : List ℕ → Type 0} where
     short = λ no. cut t.bytes (t.short no);
   }
 
-  some-so : (old new : Option (List ℕ)) (e : BorshError) → ((bytes : List ℕ) → IsCut bytes → All bytes) → TakesSome IsCut old new e → TakesSome All old new e
+  pub some-so : (old new : Option (List ℕ)) (e : BorshError) → ((bytes : List ℕ) → IsCut bytes → All bytes) → TakesSome IsCut old new e → TakesSome All old new e
   some-so old new e cut t = record { bytes = t.bytes; taken = t.taken; end = t.end; needed = λ front back some is. cut front (t.needed front back some is); short = λ no. cut t.bytes (t.short no) }
 
 module _ {R T U : Type 0} {remaining : R → Option (List ℕ)} {Inner Outer : BorshError → List ℕ → Type 0} {old mid new : CountedView R} {e : BorshError} where

@@ -13,11 +13,11 @@ use Rattle.tinyvec_borsh.specs.Items.{SpellsItems, AfterItems}
 use Rattle.tinyvec_borsh.specs.Number.{SpellsNumber, TooFewBytes}
 use Rattle.tinyvec_borsh.specs.TwoParts.{HasParts, group-first, joined}
 use Rattle.tinyvec_borsh.proofs.Parts.{first-so, rest-so}
-use Rattle.tinyvec_borsh.specs.Reading.{FailsFor, FewBytes}
+use Rattle.tinyvec_borsh.specs.Reading.{FailsFor, FewBytes, TakesSome}
 use Rattle.tinyvec_io.specs.Counted.{CountedView}
 use Rattle.tinyvec_borsh.specs.Fronts.{FrontsAreCut}
-use Rattle.tinyvec_borsh.proofs.Blocks.{TookItems, after-fronts}
-use Rattle.tinyvec_borsh.proofs.ItemByItem.{WroteItems, fails-after, fit-join, fit-more, items-join, items-more}
+use Rattle.tinyvec_borsh.proofs.Blocks.{TookItems, after-fronts, of-more}
+use Rattle.tinyvec_borsh.proofs.ItemByItem.{WroteItems, fails-after, fit-join, fit-more, items-join, items-more, some-so}
 
 -- a number more takes as many bytes more
 one-more : (i width : ℕ) → (i + 1) * width ≡ i * width + width
@@ -111,3 +111,7 @@ module _ {C : Type 0} (Spells : C → List ℕ → Type 0) (Fits : C → Type 0)
     pub few-bytes : (n many : ℕ) → many ≡ n * width → (e : BorshError) (input : List ℕ) → FewBytes many e input → AfterItems Spells Fits (TooFewBytes width) n e input
     few-bytes n many is e input few =
         subst (λ f. AfterItems Spells Fits (TooFewBytes width) n f input) (sym few.0) (few-numbers n input (All-from_recursion (λ byte. byte < 256) input few.1) (omega (arith, few.2, is)))
+
+    -- a block of k numbers was cut, and so were n, which are no fewer
+    pub cut-block : (k n many : ℕ) → many ≡ k * width → k ≤ n → (old new : Option (List ℕ)) (e : BorshError) → TakesSome (FewBytes many Ended) old new e → TakesSome (AfterItems Spells Fits (TooFewBytes width) n Ended) old new e
+    cut-block k n many is less old new e = some-so old new e (λ bytes cut. of-more Spells Fits (TooFewBytes width) k n less Ended bytes (few-bytes k many is Ended bytes cut))

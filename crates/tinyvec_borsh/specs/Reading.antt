@@ -33,8 +33,9 @@ pub record TakesSome (IsCut : List ℕ → Type 0) (old new : Option (List ℕ))
   pub short : ¬ (IsOfInput error) → IsCut bytes
 
 -- A reading into slots took `old` to `new` and failed. There are as many slots. Those at the front were read, one after another, of
--- what was taken; the others are as they were, unless the reader wrote into the slots themselves.
-pub record LeavesSlots {T C : Type 0} (content : T → C) (Spells : C → List ℕ → Type 0) (Fits : C → Type 0) (in_place : Bool) (old new : List T) (was is : Option (List ℕ)) : Type 0 where
+-- what was taken, and after them no more was taken than shows the error; the other slots are as they were, unless the reader wrote
+-- into the slots themselves.
+pub record LeavesSlots {T C : Type 0} (content : T → C) (Spells : C → List ℕ → Type 0) (Fits : C → Type 0) (in_place : Bool) (IsCut : List ℕ → Type 0) (old new : List T) (was is : Option (List ℕ)) (error : BorshError) : Type 0 where
   pub read : List T
   pub rest : List T
   pub slots : new ≡ read ++ rest
@@ -42,7 +43,7 @@ pub record LeavesSlots {T C : Type 0} (content : T → C) (Spells : C → List �
   pub some_left : length read < length old
   pub kept : in_place ≡ false → rest ≡ drop (length read) old
   pub fit : AllByRecursion Fits (map content read)
-  pub taken : (mid : Option (List ℕ)) × ReadsSpelling (SpellsItems Spells (map content read)) was mid × ReadsSpelling (λ _. Unit {0}) mid is
+  pub taken : (mid : Option (List ℕ)) × ReadsSpelling (SpellsItems Spells (map content read)) was mid × TakesSome IsCut mid is error
 
 -- Why nothing was read. `Io` comes only if the reader reported a fault, and another error only if the input is a reason for
 -- it: cut for `Ended`, too long for `InvalidLength`, a text that is not UTF-8 for `InvalidUtf8`. For `Memory` it is one of

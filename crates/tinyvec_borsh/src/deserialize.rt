@@ -1,5 +1,5 @@
 //! Reading.
-ghost use Rattle.std.specs.Prelude.{ℕ, Bool, false, List, length, map, IfOk, OnErr, OnOk};
+ghost use Rattle.std.specs.Prelude.{ℕ, ◌+◌, Bool, false, List, length, map, IfErr, IfOk, OnOk};
 ghost use Rattle.std.specs.List.{AllByRecursion};
 ghost use Rattle.tinyvec_borsh.specs.Items.{AfterItems, SpellsItems};
 ghost use Rattle.tinyvec_borsh.specs.Reading.{FailsFor, LeavesSlots, ReadsSpelling};
@@ -31,7 +31,11 @@ pub trait BorshDeserialize: BorshForm + Sized {
     // Whether `deserialize_slots` hands the slots themselves to the reader, which may write behind what it says that it read.
     ghost in_place: { Bool } = { false };
 
-    /// Reads a value into each slot, one after the other.
+    // How many values, which were spelled whole, `deserialize_slots` may take from the reader and lose if it fails.
+    ghost lost: { ℕ } = { 0 };
+
+    /// Reads a value into each slot, one after the other. Whole numbers but `u8` are read in blocks, and those of a
+    /// block that is not read whole are lost.
     fn deserialize_slots<R: Read>(
         alloc: Global,
         slots: &mut [Self],
@@ -44,7 +48,8 @@ pub trait BorshDeserialize: BorshForm + Sized {
         ensures valid { OnOk result (AllByRecursion Self.Fits (map Self.content_of slots.new)) }
         ensures fails { FailsFor R.remaining (AfterItems Self.Spells Self.Fits Reason (length slots.old))
             reader.old reader.new result }
-        ensures left { OnErr result (LeavesSlots Self.content_of Self.Spells Self.Fits in_place slots.old slots.new
+        ensures left { IfErr result (LeavesSlots Self.content_of Self.Spells Self.Fits in_place
+            (AfterItems Self.Spells Self.Fits Reason (lost + 1) BorshError.Ended) slots.old slots.new
             (R.remaining reader.old.inner) (R.remaining reader.new.inner)) }
     {
         for i in 0..slots.len() {

@@ -46,6 +46,8 @@ impl<T: Number> BorshDeserialize for T {
 
     ghost in_place = { T.in_place };
 
+    ghost lost = { T.lost };
+
     ghost apart = { apart_by_length (byte_len T.form.width) (bytes-of T.form.width).1
         T.form.Spells T.form.Fits T.form.many };
 

@@ -1,11 +1,12 @@
 //! Numbers as bytes, one and a block of them.
-ghost use Rattle.std.specs.Prelude.{◌≡◌, ◌*◌, ◌≤◌, Bool, false, length, take, OnErr, OnOk};
+ghost use Rattle.std.specs.Prelude.{ℕ, ◌≡◌, ◌+◌, ◌*◌, ◌/◌, ◌≤◌, Bool, false, length, take, IfErr, OnOk};
 ghost use Rattle.std.specs.Int.{byte_len, from_le_bytes, to_le_bytes};
 ghost use Rattle.std.specs.List.{AllByRecursion};
 ghost use Rattle.tinyvec_borsh.specs.Items.{AfterItems, SpellsItems};
 ghost use Rattle.tinyvec_borsh.specs.Number.{NumberForm, TooFewBytes};
 ghost use Rattle.tinyvec_borsh.specs.Reading.{FailsFor, LeavesSlots, ReadsSpelling};
 ghost use Rattle.tinyvec_borsh.specs.Writing.{WritesValue};
+ghost use Rattle.tinyvec_borsh.specs.declared.borsh_error.BorshError.{BorshError};
 
 use crate::BorshError;
 use crate::bytes::{read_bytes, write_bytes};
@@ -36,15 +37,39 @@ pub(crate) trait FixedWidth: Copy {
     ghost sized: { Self.Bytes.CAPACITY ≡ byte_len form.width };
 }
 
-/// How a list of such numbers is written and read: in blocks, if its type does not say otherwise.
+/// How a list of such numbers is written and read.
 pub(crate) trait Number: FixedWidth {
-    ghost in_place: { Bool } = { false };
+    ghost in_place: { Bool };
+
+    ghost lost: { ℕ };
 
     fn write_all<W: Write>(items: &[Self], writer: &mut Counted<W>) -> Result<(), BorshError>
         ensures writes { WritesValue W.contents (SpellsItems Self.form.Spells items.now) writer.old writer.new result }
-        ensures valid { OnOk result (AllByRecursion Self.form.Fits items.now) }
-    {
-        let width = Self::Bytes::CAPACITY;
+        ensures valid { OnOk result (AllByRecursion Self.form.Fits items.now) };
+
+    fn read_all<R: Read>(slots: &mut [Self], reader: &mut Counted<R>) -> Result<(), BorshError>
+        ensures ok { OnOk result (ReadsSpelling (SpellsItems Self.form.Spells slots.new)
+            (R.remaining reader.old.inner) (R.remaining reader.new.inner)) }
+        ensures valid { OnOk result (AllByRecursion Self.form.Fits slots.new) }
+        ensures fails { FailsFor R.remaining
+            (AfterItems Self.form.Spells Self.form.Fits (TooFewBytes (byte_len Self.form.width)) (length slots.old))
+            reader.old reader.new result }
+        ensures left { IfErr result (LeavesSlots (λ (n : Self). n) Self.form.Spells Self.form.Fits in_place
+            (AfterItems Self.form.Spells Self.form.Fits (TooFewBytes (byte_len Self.form.width)) (lost + 1) BorshError.Ended)
+            slots.old slots.new (R.remaining reader.old.inner) (R.remaining reader.new.inner)) };
+}
+
+/// Numbers of which a list is written and read in blocks of bytes.
+pub(crate) trait InBlocks: FixedWidth {}
+
+impl<T: InBlocks> Number for T {
+    ghost in_place = { false };
+
+    // Those of a block that ends within a number.
+    ghost lost = { 1024 / byte_len T.form.width };
+
+    fn write_all<W: Write>(items: &[Self], writer: &mut Counted<W>) -> Result<(), BorshError> {
+        let width = T::Bytes::CAPACITY;
         let mut room = [0; ROOM];
         let mut start = 0;
         while start < items.len() {
@@ -56,20 +81,11 @@ pub(crate) trait Number: FixedWidth {
         Ok(())
     }
 
-    fn read_all<R: Read>(slots: &mut [Self], reader: &mut Counted<R>) -> Result<(), BorshError>
-        ensures ok { OnOk result (ReadsSpelling (SpellsItems Self.form.Spells slots.new)
-            (R.remaining reader.old.inner) (R.remaining reader.new.inner)) }
-        ensures valid { OnOk result (AllByRecursion Self.form.Fits slots.new) }
-        ensures fails { FailsFor R.remaining
-            (AfterItems Self.form.Spells Self.form.Fits (TooFewBytes (byte_len Self.form.width)) (length slots.old))
-            reader.old reader.new result }
-        ensures left { OnErr result (LeavesSlots (λ (n : Self). n) Self.form.Spells Self.form.Fits in_place slots.old slots.new
-            (R.remaining reader.old.inner) (R.remaining reader.new.inner)) }
-    {
-        if slots.len() <= ROOM / Self::Bytes::CAPACITY {
-            return read_blocks::<Self, R, ROOM>(slots, reader);
+    fn read_all<R: Read>(slots: &mut [Self], reader: &mut Counted<R>) -> Result<(), BorshError> {
+        if slots.len() <= ROOM / T::Bytes::CAPACITY {
+            return read_blocks::<T, R, ROOM>(slots, reader);
         }
-        read_blocks::<Self, R, LONG_ROOM>(slots, reader)
+        read_blocks::<T, R, LONG_ROOM>(slots, reader)
     }
 }
 
@@ -87,8 +103,9 @@ fn read_blocks<T: FixedWidth, R: Read, const MOST: usize>(
     ensures fails { FailsFor R.remaining
         (AfterItems T.form.Spells T.form.Fits (TooFewBytes (byte_len T.form.width)) (length slots.old))
         reader.old reader.new result }
-    ensures left { OnErr result (LeavesSlots (λ (n : T). n) T.form.Spells T.form.Fits false slots.old slots.new
-        (R.remaining reader.old.inner) (R.remaining reader.new.inner)) }
+    ensures left { IfErr result (LeavesSlots (λ (n : T). n) T.form.Spells T.form.Fits false
+        (AfterItems T.form.Spells T.form.Fits (TooFewBytes (byte_len T.form.width)) (1024 / byte_len T.form.width + 1) BorshError.Ended)
+        slots.old slots.new (R.remaining reader.old.inner) (R.remaining reader.new.inner)) }
 {
     let width = T::Bytes::CAPACITY;
     let mut room = [0; MOST];

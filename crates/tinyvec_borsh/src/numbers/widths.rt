@@ -3,7 +3,7 @@ ghost use Rattle.std.specs.Prelude.{refl, true};
 ghost use Rattle.std.specs.Int.{w8, w16, w32, w64, w128};
 ghost use Rattle.tinyvec_borsh.specs.NumberLaws.{signed, unsigned};
 
-use super::number::{FixedWidth, Number};
+use super::number::{FixedWidth, InBlocks, Number};
 use crate::BorshError;
 use crate::bytes::{read_bytes, write_bytes};
 use std::io::{Read, Write};
@@ -12,6 +12,8 @@ use tinyvec_io::Counted;
 // A list of bytes is written and read as it is.
 impl Number for u8 {
     ghost in_place = { true };
+
+    ghost lost = { 0 };
 
     fn write_all<W: Write>(items: &[Self], writer: &mut Counted<W>) -> Result<(), BorshError> {
         write_bytes(writer, items)
@@ -22,23 +24,23 @@ impl Number for u8 {
     }
 }
 
-impl Number for u16 {}
+impl InBlocks for u16 {}
 
-impl Number for u32 {}
+impl InBlocks for u32 {}
 
-impl Number for u64 {}
+impl InBlocks for u64 {}
 
-impl Number for u128 {}
+impl InBlocks for u128 {}
 
-impl Number for i8 {}
+impl InBlocks for i8 {}
 
-impl Number for i16 {}
+impl InBlocks for i16 {}
 
-impl Number for i32 {}
+impl InBlocks for i32 {}
 
-impl Number for i64 {}
+impl InBlocks for i64 {}
 
-impl Number for i128 {}
+impl InBlocks for i128 {}
 
 impl FixedWidth for u8 {
     type Bytes = [u8; 1];

@@ -1,7 +1,6 @@
 use Rattle.std.proofs.Common.{◌∙◌, arith, rules}
 use Rattle.std.proofs.lemmas.Result.{err_from_is_err_and}
-use Rattle.tinyvec_slots.proofs.CloneLemmas.{on_err}
-use Rattle.tinyvec_borsh.proofs.Blocks.{fails-behind, left-at, left-slot, length-mapped, took-slot}
+use Rattle.tinyvec_borsh.proofs.Blocks.{cut-first, fails-behind, left-at, left-slot, length-mapped, took-slot}
 use Rattle.tinyvec_borsh.proofs.deserialize.BorshDeserialize.deserialize_slots.Goals as goal
 
 pub loop-i-preserved : goal.loop-i-preserved
@@ -22,6 +21,7 @@ returns-in_err-slots-clause-fails g c =
 
 pub returns-in_err-slots-clause-left : goal.returns-in_err-slots-clause-left
 returns-in_err-slots-clause-left g c =
-    let told = c.in_err-slots.ensures.fails.taken in
-    on_err c.from_residual.result (left-at g.Self.BorshForm.content_of g.Self.BorshForm.Spells g.Self.BorshForm.Fits _ c.loop-i.i c.args.slots.now c.loop-i.slots _ _ _ c.loop-i.invariant.read (told.bytes, tt, told.taken)
+    let p = err_from_is_err_and c.from_residual.result c.from_residual.ensures.1 in
+    let told = cut-first g.Self.BorshForm.Spells g.Self.BorshForm.Fits g.Self.BorshDeserialize.Reason g.Self.BorshDeserialize.lost _ _ _ c.in_err-slots.ensures.fails.taken in
+    rw (p.1, p.2) (left-at g.Self.BorshForm.content_of g.Self.BorshForm.Spells g.Self.BorshForm.Fits _ c.loop-i.i c.args.slots.now c.loop-i.slots _ _ _ c.loop-i.invariant.read told
     c.loop-i.invariant.many (omega (arith, c.loop-i.invariant.many)) c.loop-i.invariant.kept)

@@ -1,14 +1,14 @@
-use Rattle.std.proofs.Common.{◌≡◌, ◌∙◌, ◌+◌, ◌-◌, ◌*◌, ◌++◌, ap, arith, drop, length, length-append, length-drop, length-take-le, rules, subst, sym, take, false}
+use Rattle.std.proofs.Common.{◌≡◌, ◌∙◌, ◌+◌, ◌-◌, ◌*◌, ◌/◌, ◌++◌, ap, arith, drop, length, length-append, length-drop, length-take-le, rules, subst, sym, take, false}
 use Rattle.std.specs.Int.{byte_len}
 use Rattle.std.specs.List.{AllByRecursion}
 use Rattle.std.proofs.lemmas.List.{map-id, take_all}
+use Rattle.std.proofs.lemmas.Nat.{le-div}
 use Rattle.std.proofs.lemmas.Slice.{drop-put_mid}
 use Rattle.std.proofs.lemmas.Result.{err_from_is_err_and}
 use Rattle.tinyvec_borsh.specs.Items.{SpellsItems}
 use Rattle.tinyvec_borsh.specs.NumberLaws.{apart_by_length, bytes-of}
-use Rattle.tinyvec_slots.proofs.CloneLemmas.{on_err}
 use Rattle.tinyvec_borsh.proofs.Blocks.{TookItems, further, left-at, take-block, took-block}
-use Rattle.tinyvec_borsh.proofs.NumberBlocks.{block_within, fails-behind-block, few-bytes}
+use Rattle.tinyvec_borsh.proofs.NumberBlocks.{block_within, cut-block, fails-behind-block, few-bytes}
 use Rattle.tinyvec_borsh.proofs.ItemByItem.{fails-as}
 use Rattle.tinyvec_borsh.proofs.numbers.number.read_blocks.Goals as goal
 
@@ -55,7 +55,14 @@ whole_as_front-bytes g c = (block_within g.row.MOST c.min-count.result c.CAPACIT
 
 pub returns-in_err-read_bytes-clause-left : goal.returns-in_err-read_bytes-clause-left
 returns-in_err-read_bytes-clause-left g c =
-    let told = c.in_err-read_bytes.ensures.fails.taken in
+    let p = err_from_is_err_and c.from_residual.result c.from_residual.ensures.1 in
+    let width = byte_len g.T.FixedWidth.form.width in
+    let count = c.min-count.result in
+    let fits = block_within g.row.MOST count c.CAPACITY-width.result (omega arith) in
+    let same : count * c.CAPACITY-width.result ≡ count * width = ap (λ width. count * width) (c.CAPACITY-width.ensures ∙ g.met.T.FixedWidth.sized) in
+    let many = length-take-le (count * c.CAPACITY-width.result) c.loop-start.room (omega (arith, fits)) ∙ same in
+    let few = le-div count 1024 width (bytes-of g.T.FixedWidth.form.width).1 (omega (arith, fits, same, c.requires.few)) in
+    let told = cut-block g.T.FixedWidth.form.Spells g.T.FixedWidth.form.Fits width _ g.T.FixedWidth.form.read count (1024 / width + 1) _ many (omega (arith, few)) _ _ _ c.in_err-read_bytes.ensures.fails.taken in
     let read = subst (λ xs. TookItems g.T.FixedWidth.form.Spells g.T.FixedWidth.form.Fits xs (g.R.Read.remaining c.args.reader.now.inner) (g.R.Read.remaining c.loop-start.reader.inner)) (sym (map-id (take c.loop-start.start c.loop-start.slots))) c.loop-start.invariant.read in
-    on_err c.from_residual.result (left-at (λ n. n) g.T.FixedWidth.form.Spells g.T.FixedWidth.form.Fits false c.loop-start.start c.args.slots.now c.loop-start.slots _ _ _ read (told.bytes, tt, told.taken)
+    rw (p.1, p.2) (left-at (λ n. n) g.T.FixedWidth.form.Spells g.T.FixedWidth.form.Fits false c.loop-start.start c.args.slots.now c.loop-start.slots _ _ _ read told
     c.loop-start.invariant.many (omega (arith, c.loop-start.invariant.many)) c.loop-start.invariant.kept)
