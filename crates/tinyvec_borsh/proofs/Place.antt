@@ -1,13 +1,15 @@
--- Where a vector lies that is read item after item.
-use Rattle.std.proofs.Common.{◌≡◌, ◌∙◌, ◌*◌, max, min, Bool, true, if◌then◌else◌, sym, subst, IsTrue, ◌<◌, ◌≤◌, ◌-◌, ◌++◌, [], drop, length, inl, inr, ℕ, arith, false, Result, Err, IsOk, is_ok, ap}
+-- Where a vector is that is read item after item.
+use Rattle.std.proofs.Common.{◌≡◌, ◌∙◌, ◌*◌, max, min, Bool, true, if◌then◌else◌, sym, subst, IsTrue, ◌<◌, ◌≤◌, ◌-◌, ◌++◌, [], drop, length, inl, inr, ℕ, zero, suc, ◌+◌, refl, arith, false, Result, Err, IsOk, is_ok, ap}
 use Rattle.std.proofs.lemmas.List.{nil_from_length, length-drop}
 use Rattle.std.proofs.lemmas.List.Elements.{All-drop}
 use Rattle.tinyvec_slots.specs.Slots.{AreDefaults}
 use Rattle.std.proofs.lemmas.Bool.{both_ways, cases_lt}
 use Rattle.tinyvec.specs.PlaceLaws.{place_grown, place_same}
-use Rattle.tinyvec.proofs.PlaceLemmas.{was_inline}
+use Rattle.tinyvec.specs.Room.{MadeFor}
+use Rattle.tinyvec.proofs.PlaceLemmas.{pushed_further, pushed_next, was_inline}
+use Rattle.tinyvec_borsh.specs.Place.{GrowsBy, place_ahead, place_read}
 use Rattle.tinyvec_array.specs.ViewLaws.{rule_at}
-use Rattle.tinyvec.specs.View.{Growth, Place, SpareRule, TinyView, place_for, takes_need}
+use Rattle.tinyvec.specs.View.{Doubled, Exact, Growth, Place, Reserved, SpareRule, TinyView, in_array, place_for, place_pushed, takes_need}
 
 either : (b : Bool) (x y least most : ℕ) → least ≤ x → least ≤ y → x ≤ most → y ≤ most → (least ≤ (if b then x else y)) × ((if b then x else y) ≤ most)
 either true x y least most p q r s = (p, r)
@@ -57,4 +59,59 @@ pub wants-ahead : {X E : Type 0} (slots n ahead : ℕ) (r : Result X E) (e : E) 
 wants-ahead slots n ahead r e is some succeeds = elim (cases_lt slots ahead) [
   | inl above ↦ (omega (arith, some, above), omega (arith, some, above))
   | inr fits ↦ absurd (both_ways (is_ok r) (ap is_ok is) (succeeds fits))
+]
+
+is-false : (b : Bool) → (IsTrue b → ⊥) → b ≡ false
+is-false true denied = absurd (denied refl)
+is-false false denied = refl
+
+-- where a vector is whose room was made ahead
+made-ahead : {T : Type 0} (D : T → Type 0) (slots n used : ℕ) (v : TinyView T) → MadeFor D slots n used v → v.place ≡ place_for Exact n (in_array slots)
+made-ahead D slots n used v made = elim (cases_lt slots n) [
+  | inl more ↦
+      let out : v.place.inline ≡ false = is-false v.place.inline (λ is. omega (arith, more, made.place.0 is)) in
+      let room : v.place.capacity ≡ n = omega (arith, more, made.exact) in
+      (λ t. record { inline = out t; capacity = room t; lender = tt }) ∙ sym (place_grown Exact n (in_array slots) more)
+  | inr fits ↦
+      let in_it : v.place.inline ≡ true = made.place.1 fits in
+      let room : v.place.capacity ≡ slots = omega (arith, fits, made.exact) in
+      (λ t. record { inline = in_it t; capacity = room t; lender = tt }) ∙ sym (place_same Exact n (in_array slots) fits)
+]
+
+-- Where a list is, of which this many of n items were read.
+pub record IsAt (slots n len : ℕ) (p : Place) : Type 0 where
+  pub so_far : len < n → p ≡ place_pushed len (place_ahead slots n)
+  pub all : len ≡ n → p ≡ place_read slots n
+
+none-pushed : (n : ℕ) (p : Place) → 0 ≡ n → place_for Reserved n (place_pushed (n - 1) p) ≡ p
+none-pushed zero p is = place_same Reserved zero p (omega arith)
+none-pushed (suc n) p is = absurd (omega (arith, is))
+
+-- before the first
+pub at-first : {T : Type 0} (D : T → Type 0) (slots n ahead used len : ℕ) (v : TinyView T) → ahead ≡ min n 1024 → len ≡ 0 → MadeFor D slots ahead used v → IsAt slots n len v.place
+at-first D slots n ahead used len v few none made =
+    let is : v.place ≡ place_ahead slots n = made-ahead D slots ahead used v made ∙ ap (λ k. place_for Exact k (in_array slots)) few in
+    record {
+      so_far = λ more. is ∙ ap (λ k. place_pushed k (place_ahead slots n)) (sym none);
+      all = λ all. is ∙ sym (none-pushed n (place_ahead slots n) (sym none ∙ all));
+    }
+
+-- and after some more
+pub at-next : (slots n len more : ℕ) (how : Growth) (p q : Place) → len < more → more ≤ n → GrowsBy how more n p → q ≡ place_for how more p → IsAt slots n len p → IsAt slots n more q
+at-next slots n len more how p q longer fits grows is before =
+    let start = place_ahead slots n in
+    let was = before.so_far (omega (arith, longer, fits)) in
+    let one : more - 1 + 1 ≡ more = omega (arith, longer) in
+    let further : place_pushed (more - 1) start ≡ place_pushed len start = pushed_further len (more - 1) start (omega (arith, longer)) (omega (arith, ap (λ (p : Place). p.capacity) was, grows.one_more)) in
+    let at : q ≡ place_for how more (place_pushed (more - 1) start) = is ∙ ap (place_for how more) (was ∙ sym further) in
+    record {
+      so_far = λ less. at ∙ ap (λ h. place_for h more (place_pushed (more - 1) start)) (grows.pushes less) ∙ ap (λ k. place_for Doubled k (place_pushed (more - 1) start)) (sym one) ∙ pushed_next (more - 1) more start (sym one);
+      all = λ all. at ∙ ap (λ h. place_for h more (place_pushed (more - 1) start)) (grows.last all) ∙ ap (λ k. place_for Reserved k (place_pushed (k - 1) start)) all;
+    }
+
+-- which growth it is that read some of them, where there was room for all but the last
+pub grows-last : (n count : ℕ) (p : Place) → n ≤ p.capacity + 1 → n ≤ count → (n < count → n ≤ p.capacity) → (how : Growth) × GrowsBy how n count p × (place_for how n p ≡ place_for Reserved n p)
+grows-last n count p room fits enough = elim (cases_lt n count) [
+  | inl less ↦ (Doubled, record { pushes = λ _. refl; last = λ is. absurd (omega (arith, less, is)); one_more = room }, place_same Doubled n p (enough less) ∙ sym (place_same Reserved n p (enough less)))
+  | inr all ↦ (Reserved, record { pushes = λ less. absurd (omega (arith, less, all)); last = λ _. refl; one_more = room }, refl)
 ]

@@ -15,3 +15,4 @@ pub mod Tagged
 pub mod Text
 pub mod TextLaws
 pub mod Writing
+pub mod Place

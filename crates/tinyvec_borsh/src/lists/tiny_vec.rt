@@ -1,5 +1,5 @@
 //! A `TinyVec` of what can be written and read.
-ghost use Rattle.std.specs.Prelude.{◌≡◌, ◌<◌, ◌≤◌, ◌^◌, ◌+◌, ◌-◌, ◌*◌, ◌++◌, ◌⊎◌, ◌↔◌, List, length, map, max, IfOk, IsTrue, OnOk};
+ghost use Rattle.std.specs.Prelude.{◌≡◌, ◌<◌, ◌≤◌, ◌^◌, ◌+◌, ◌-◌, ◌*◌, ◌/◌, ◌++◌, ◌⊎◌, ◌↔◌, List, length, map, max, min, IfOk, IsTrue, OnOk};
 ghost use Rattle.std.specs.List.{AllByRecursion};
 ghost use Rattle.tinyvec_slots.specs.Slots.{AreDefaults};
 ghost use Rattle.tinyvec.specs.TinyVec.{view};
@@ -8,6 +8,7 @@ ghost use Rattle.tinyvec_borsh.specs.Both.{IsBehind};
 ghost use Rattle.tinyvec_borsh.specs.Items.{AfterItems, ListFits, MayAllocate, TinyReason};
 ghost use Rattle.tinyvec_borsh.specs.Items.{SpellsItems, SpellsList};
 ghost use Rattle.tinyvec_borsh.specs.ItemsLaws.{list_apart, list_code, list_spelled};
+ghost use Rattle.tinyvec_borsh.specs.Place.{GrowsBy, place_read};
 ghost use Rattle.tinyvec_borsh.specs.Reading.{FailsFor, ReadsSpelling};
 
 use super::{read_items, write_list};
@@ -27,15 +28,15 @@ const BYTES_AHEAD: usize = 8192;
 // How many defaults are made before the first item is read into them. The size of a type parameter is known only of a value:
 // `None` is one that makes no default.
 fn items_in_block<T: Drop>() -> usize
-    ensures { 0 < result }
+    ensures some { 0 < result }
+    ensures most { result ≤ BYTES_AHEAD }
 {
     items_in_bytes_ahead(mem::size_of_val(&None::<T>))
 }
 
 // How many items of this size take at most `BYTES_AHEAD` bytes, or one.
 fn items_in_bytes_ahead(size: usize) -> usize
-    ensures some { 0 < result }
-    ensures few { 1 < result → result * size ≤ BYTES_AHEAD }
+    ensures { result ≡ BYTES_AHEAD / min (max size 1) BYTES_AHEAD }
 {
     BYTES_AHEAD / size.clamp(1, BYTES_AHEAD)
 }
@@ -92,6 +93,7 @@ where
             → AreDefaults A.Item.is_default (A.CAPACITY - length (view A.Slots v).items) (view A.Slots v).spare) }
         ensures capacity { IfOk result (λ v. (view A.Slots v).place.capacity ≤ max A.CAPACITY (2 * length (view A.Slots v).items)) }
         ensures fits { IfOk result (λ v. length (view A.Slots v).items ≤ (view A.Slots v).place.capacity) }
+        ensures exact { IfOk result (λ v. (view A.Slots v).place ≡ place_read A.CAPACITY (length (view A.Slots v).items)) }
         ensures inline_capacity { IfOk result (λ v. IsTrue (view A.Slots v).place.inline → (view A.Slots v).place.capacity ≡ A.CAPACITY) }
     {
         let count = u64::deserialize_reader(alloc, reader)?;
@@ -120,7 +122,9 @@ where
     ensures ok { OnOk result ((xs : List A.Item) × (how : Growth)
         × BecomesIn A.Item.is_default (view A.Slots v.old) (view A.Slots v.new) ((view A.Slots v.old).items ++ xs)
         (place_for how (length (view A.Slots v.new).items) (view A.Slots v.old).place)
-        × (0 < length xs) × (length (view A.Slots v.new).items ≤ count) × AllByRecursion A.Item.Fits (map A.Item.content_of xs)
+        × (0 < length xs) × (length (view A.Slots v.new).items ≤ count)
+        × GrowsBy how (length (view A.Slots v.new).items) count (view A.Slots v.old).place
+        × AllByRecursion A.Item.Fits (map A.Item.content_of xs)
         × ReadsSpelling (SpellsItems A.Item.Spells (map A.Item.content_of xs))
         (R.remaining reader.old.inner) (R.remaining reader.new.inner)) }
     ensures fails { FailsFor R.remaining (λ e input.

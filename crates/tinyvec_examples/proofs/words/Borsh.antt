@@ -3,7 +3,9 @@ use Rattle.std.proofs.Common.{◌≡◌, ℕ, ◌<◌, List, [], ◌∷◌, Opti
 use Rattle.std.specs.Prelude.{IsUtf8}
 use Rattle.tinyvec_borsh.specs.Failed.{CountsIo}
 use Rattle.tinyvec_borsh.specs.Items.{SpellsItems, SpellsList, ListFits, AfterItems, InItem, ListReason, CountsAbove, MayAllocate, TinyReason}
-use Rattle.tinyvec_borsh.specs.Reading.{ReadsSpelling, FailsFor, LeavesRest, LeavesSlots}
+use Rattle.tinyvec.specs.View.{in_array, on_heap}
+use Rattle.tinyvec_borsh.specs.Place.{place_read}
+use Rattle.tinyvec_borsh.specs.Reading.{ReadsSpelling, FailsFor, LeavesRest, LeavesSlots, TakesSome}
 use Rattle.tinyvec_borsh.specs.Writing.{WritesValue}
 use Rattle.tinyvec_io.specs.Counted.{CountedView}
 use Rattle.tinyvec_borsh.specs.declared.borsh_error.BorshError.TheVariants.{Ended, Io, Memory}
@@ -91,8 +93,12 @@ example-MayAllocate = inl (omega arith, counts_above)
 pub example-TinyReason : TinyReason Spells Fits Reason 4 Memory (5 ∷ 0 ∷ 0 ∷ 0 ∷ 0 ∷ 0 ∷ 0 ∷ 0 ∷ 7 ∷ [])
 example-TinyReason = inl example-MayAllocate
 
--- of three slots one was read
-pub example-LeavesSlots : LeavesSlots (λ (n : ℕ). n) Spells Fits false (1 ∷ 2 ∷ 3 ∷ []) (7 ∷ 2 ∷ 3 ∷ []) (Some (7 ∷ [])) (Some [])
+-- no byte was left
+none_taken : TakesSome (Reason Ended) (Some []) (Some []) Ended
+none_taken = record { bytes = []; taken = search rules; end = λ is. refl; needed = λ front back some is. absurd (omega (arith, some, ap length is, length-append front back)); short = λ no. absurd (no tt) }
+
+-- of three slots one was read, and then the input ended
+pub example-LeavesSlots : LeavesSlots (λ (n : ℕ). n) Spells Fits false (Reason Ended) (1 ∷ 2 ∷ 3 ∷ []) (7 ∷ 2 ∷ 3 ∷ []) (Some (7 ∷ [])) (Some []) Ended
 example-LeavesSlots = record {
   read = 7 ∷ [];
   rest = 2 ∷ 3 ∷ [];
@@ -101,8 +107,12 @@ example-LeavesSlots = record {
   some_left = omega arith;
   kept = λ _. refl;
   fit = search rules;
-  taken = (Some [], (7 ∷ [], record { first = 7 ∷ []; rest = []; is_first = refl; is_rest = refl; whole = refl }, search rules), ([], tt, search rules));
+  taken = (Some [], (7 ∷ [], record { first = 7 ∷ []; rest = []; is_first = refl; is_rest = refl; whole = refl }, search rules), none_taken);
 }
+
+-- room for all of a short list is made ahead
+pub example-place_read : (place_read 4 4 ≡ in_array 4) × (place_read 4 5 ≡ on_heap 5)
+example-place_read = (refl, refl)
 
 pub example-ReadsSpelling : ReadsSpelling (λ bytes. bytes ≡ 7 ∷ []) (Some (7 ∷ 8 ∷ [])) (Some (8 ∷ []))
 example-ReadsSpelling = (7 ∷ [], refl, search rules)
@@ -118,7 +128,7 @@ pub example-CountsIo : CountsIo {T = ℕ} 3 4 (Err Io)
 example-CountsIo = record { exact = refl; grows = omega arith }
 
 pub example-FailsFor : FailsFor {T = ℕ} known Reason (holding []) (holding []) (Err Ended)
-example-FailsFor = record { err = example-TooFewBytes; taken = record { bytes = []; taken = search rules; end = λ is. refl; needed = λ front back some is. absurd (omega (arith, some, ap length is, length-append front back)); short = λ no. absurd (no tt) }; grows = omega arith; failed = record { exact = refl; grows = omega arith } }
+example-FailsFor = record { err = example-TooFewBytes; taken = none_taken; grows = omega arith; failed = record { exact = refl; grows = omega arith } }
 
 pub example-SpellsText : SpellsText (104 ∷ []) (1 ∷ 0 ∷ 0 ∷ 0 ∷ 0 ∷ 0 ∷ 0 ∷ 0 ∷ 104 ∷ [])
 example-SpellsText = record {

@@ -1,4 +1,5 @@
-use Rattle.std.proofs.Common.{◌≡◌, ◌∙◌, ◌+◌, ◌≤◌, ap, inl, length, arith, rules}
+use Rattle.std.proofs.Common.{◌≡◌, ◌∙◌, ◌+◌, ◌-◌, ◌<◌, ◌≤◌, ap, inl, length, arith, rules, sym}
+use Rattle.tinyvec_borsh.proofs.Place.{grows-last}
 use Rattle.std.proofs.lemmas.Result.{err_from_is_err_and, on_ok_weaker}
 use Rattle.tinyvec.specs.Lends.{tiny_with_items}
 use Rattle.tinyvec.specs.TinyVec.{view}
@@ -20,17 +21,23 @@ returns-clause-ok g c =
     let framed = tiny_framed-with g.A.Slots c.resize_with.new.self c.read_items.new.slots same in
     let fewer : length mid.items ≤ c.args.count = search rules in
     let long : length old.items + 1 ≤ length mid.items = search rules in
+    let room : c.min-2.result ≤ old.place.capacity - length old.items + 1 = search rules in
+    let fits : length old.items ≤ old.place.capacity = search rules in
+    let now : length (view g.A.Slots new).items ≡ length old.items + c.min-2.result = omega (arith, framed.len, c.in-Ok-resize_with.ensures.len, c.len-start.ensures.value) in
+    let enough : length old.items + c.min-2.result < c.args.count → length old.items + c.min-2.result ≤ old.place.capacity = search rules in
+    let how = grows-last (length (view g.A.Slots new).items) c.args.count old.place (omega (arith, room, fits, now)) (omega (arith, framed.len, fewer)) (λ less. omega (arith, now, enough (omega (arith, now, less)))) in
     on_ok_weaker c.read_items.result (λ t. (
       t.0,
-      Reserved,
+      how.0,
       record {
         items = tiny_items-with g.A.Slots c.resize_with.new.self c.read_items.new.slots same ∙ grown c.len-start.result end old.items c.in-Ok-resize_with.ensures.items.0 mid.items c.read_items.new.slots t.0 (search rules) (search rules) c.in-Ok-resize_with.ensures.items.2 (search rules) (search rules);
-        place = framed.place ∙ made.place ∙ ap (λ n. place_for Reserved n old.place) (search rules);
+        place = framed.place ∙ made.place ∙ ap (λ n. place_for Reserved n old.place) (search rules) ∙ sym how.2;
         slot_rule = tiny_slots_then_framed g.A.Item.Default.is_default old mid (view g.A.Slots new) made.slot_rule framed;
         fits = tiny_fits g.A.Slots new;
       },
       search rules,
       omega (arith, framed.len, fewer),
+      how.1,
       t.3,
       t.4,
     )) c.read_items.ensures.ok
