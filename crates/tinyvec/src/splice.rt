@@ -1,5 +1,6 @@
 //! The splice: what replaces a range of items by those of an iterator.
-ghost use Rattle.std.specs.Prelude.{IsTrue, ◌≡◌, length, false, codes, Some, ◌+◌, ◌-◌, ◌<◌, ◌≤◌, ◌∷◌, ◌++◌, List, take, drop, IsOk};
+ghost use Rattle.std.specs.Prelude.{IsTrue, ◌≡◌, length, false, codes, Some, ◌+◌, ◌-◌, ◌<◌, ◌≤◌, ◌∷◌, ◌++◌, List, take};
+ghost use Rattle.std.specs.Prelude.{drop, IsOk};
 ghost use Rattle.std.specs.Prelude.{OnErr, IfErr, MatchResult, OnOk, true, vec_len, vec_capacity};
 ghost use Rattle.tinyvec.specs.OnHeap.{HeapBecomes};
 ghost use Rattle.std.specs.Iterator.{IsFinite, Drains, YieldsThen};

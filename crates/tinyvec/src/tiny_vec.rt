@@ -1,5 +1,6 @@
 //! `TinyVec`.
-ghost use Rattle.std.specs.Prelude.{IsTrue, ◌≡◌, ◌+◌, ◌<◌, ◌≤◌, ◌==◌, not, length, slice_index_or, slice_set, ◌-◌, ◌↔◌, ℕ, All, []};
+ghost use Rattle.std.specs.Prelude.{IsTrue, ◌≡◌, ◌+◌, ◌<◌, ◌≤◌, ◌==◌, not, length, slice_index_or, slice_set, ◌-◌, ◌↔◌};
+ghost use Rattle.std.specs.Prelude.{ℕ, All, []};
 ghost use Rattle.std.specs.Prelude.{take, drop, IsOk, IsErr, IfOk, IfErr, OnErr, vec_capacity, false};
 ghost use Rattle.tinyvec.specs.TinyVec.{view};
 ghost use Rattle.tinyvec.specs.TinyVec.{tiny_allocator};

@@ -1,5 +1,6 @@
 //! The splice: what replaces a range of items by those of an iterator.
-ghost use Rattle.std.specs.Prelude.{◌≡◌, length, false, Some, ◌+◌, ◌-◌, ◌<◌, ◌≤◌, ◌∷◌, ◌++◌, List, IfErr, ◌↔◌, MatchResult, IsOk, OnOk, OnErr};
+ghost use Rattle.std.specs.Prelude.{◌≡◌, length, false, Some, ◌+◌, ◌-◌, ◌<◌, ◌≤◌, ◌∷◌, ◌++◌, List, IfErr, ◌↔◌};
+ghost use Rattle.std.specs.Prelude.{MatchResult, IsOk, OnOk, OnErr};
 ghost use Rattle.std.specs.Iterator.{Drains, YieldsThen};
 ghost use Rattle.std.specs.Iterator.Adapters.{fuse_done, fuse_source, fuse_steps};
 ghost use Rattle.tinyvec_array.specs.ArrayVec.{slots_of};
@@ -24,7 +25,8 @@ impl<S: Slots> ArrayVec<S>
 where
     S::Item: Default,
 {
-    ghost use Rattle.tinyvec_slots.specs.Splice.{splice_view, splice_len, splice_replacement, splice_vec, splice_lender, SpliceCanStep, SplicesFromEnds};
+    ghost use Rattle.tinyvec_slots.specs.Splice.{splice_view, splice_len, splice_replacement, splice_vec};
+    ghost use Rattle.tinyvec_slots.specs.Splice.{splice_lender, SpliceCanStep, SplicesFromEnds};
 
     /// Removes the range, yields its items from both ends, and puts those of `replacement` in their place. Of a `SliceVec`
     /// end it in a function that is generic over `Slots`: the borrow checker covers no `finish` and no `stop` where

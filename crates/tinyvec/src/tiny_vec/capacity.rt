@@ -33,7 +33,8 @@ impl<A: Array> TinyVec<A> {
     #[cold]
     #[inline(never)]
     pub(crate) fn grow(&mut self, n: usize) -> Result<(), AllocError>
-        requires { (view A.Slots self.old).place.inline ≡ false → (view A.Slots self.old).place.capacity < length (view A.Slots self.old).items + n }
+        requires { (view A.Slots self.old).place.inline ≡ false
+            → (view A.Slots self.old).place.capacity < length (view A.Slots self.old).items + n }
         ensures moves { MovesToHeap A.Item.is_default n (view A.Slots self.old) (view A.Slots self.new) result }
 
         // A list that is inline after the call is unchanged.
@@ -194,7 +195,8 @@ impl<A: Array> TinyVec<A> {
     pub fn into_vec(self) -> Result<Vec<A::Item>, NoMemory<Self>>
         ensures items { IfOk result (λ v. v.items ≡ (view A.Slots self).items) }
         ensures capacity { IfOk result (λ v. IsTrue (view A.Slots self).place.inline → vec_capacity v ≡ length (view A.Slots self).items) }
-        ensures same_room { IfOk result (λ v. (view A.Slots self).place.inline ≡ false → vec_capacity v ≡ (view A.Slots self).place.capacity) }
+        ensures same_room { IfOk result (λ v. (view A.Slots self).place.inline ≡ false
+            → vec_capacity v ≡ (view A.Slots self).place.capacity) }
         ensures succeeds { (view A.Slots self).place.inline ≡ false → IsOk result }
         ensures succeeds_empty { length (view A.Slots self).items ≡ 0 → IsOk result }
         ensures value_returned { IfErr result (λ refused. refused.0 ≡ self) }

@@ -2,7 +2,8 @@
 ghost use Rattle.std.specs.Prelude.{IsTrue, length, ◌==◌};
 ghost use Rattle.tinyvec_array.specs.View.{view as slots_view};
 ghost use Rattle.std.specs.Prelude.{◌≡◌, ◌+◌, ◌-◌, ◌<◌, ◌↔◌, [], ◌∷◌, ◌++◌, take, drop, slice_get, IsSome, IfSome, IsOk};
-ghost use Rattle.std.specs.Prelude.{OnOk, OnErr, IfErr, ◌≤◌, if◌then◌else◌, is_ok, insert, remove, slice_index_or, slice_range, vec_len};
+ghost use Rattle.std.specs.Prelude.{OnOk, OnErr, IfErr, ◌≤◌, if◌then◌else◌, is_ok, insert, remove, slice_index_or};
+ghost use Rattle.std.specs.Prelude.{slice_range, vec_len};
 ghost use Rattle.std.specs.Prelude.{vec_capacity, IfOk, IfNone};
 ghost use Rattle.tinyvec.specs.TinyVec.{view};
 ghost use Rattle.tinyvec.specs.View.{IsTail, Becomes, BecomesIn, Doubled, place_for};

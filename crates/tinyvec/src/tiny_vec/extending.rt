@@ -84,12 +84,18 @@ impl<A: Array> TinyVec<A> {
             result (view A.Slots self.old).items (view A.Slots self.new).items }
         ensures ok { OnOk result (BecomesIn A.Item.is_default (view A.Slots self.old)
             (view A.Slots self.new) (view A.Slots self.new).items
-            (place_for Reserved (length (view A.Slots self.old).items + length (items_within (view A.Slots self.old).items (R.start_bound range) (R.end_bound range))) (view A.Slots self.old).place)) }
+            (place_for Reserved (length (view A.Slots self.old).items
+            + length (items_within (view A.Slots self.old).items (R.start_bound range) (R.end_bound range)))
+            (view A.Slots self.old).place)) }
 
         // If there is room only clones allocate.
-        ensures succeeds { length (view A.Slots self.old).items + length (items_within (view A.Slots self.old).items (R.start_bound range) (R.end_bound range)) ≤ (view A.Slots self.old).place.capacity
-            → All A.Item.is_infallible (items_within (view A.Slots self.old).items (R.start_bound range) (R.end_bound range)) → IsOk result }
-        ensures refused { OnErr result (ClonesRefused A.Item.Clone (items_within (view A.Slots self.old).items (R.start_bound range) (R.end_bound range))
+        ensures succeeds { length (view A.Slots self.old).items
+            + length (items_within (view A.Slots self.old).items (R.start_bound range) (R.end_bound range))
+            ≤ (view A.Slots self.old).place.capacity
+            → All A.Item.is_infallible (items_within (view A.Slots self.old).items (R.start_bound range) (R.end_bound range))
+            → IsOk result }
+        ensures refused { OnErr result (ClonesRefused A.Item.Clone
+            (items_within (view A.Slots self.old).items (R.start_bound range) (R.end_bound range))
             (view A.Slots self.old) (view A.Slots self.new)) }
     {
         let part = resolve_range(range, self.len());
@@ -187,10 +193,12 @@ impl<A: Array> TinyVec<A> {
     pub fn append(&mut self, other: &mut Self) -> Result<(), AllocError>
         ensures ok { OnOk result (BecomesIn A.Item.is_default (view A.Slots self.old)
             (view A.Slots self.new) ((view A.Slots self.old).items ++ (view A.Slots other.old).items)
-            (place_for Reserved (length (view A.Slots self.old).items + length (view A.Slots other.old).items) (view A.Slots self.old).place)) }
+            (place_for Reserved (length (view A.Slots self.old).items + length (view A.Slots other.old).items)
+            (view A.Slots self.old).place)) }
         ensures other { OnOk result (Becomes A.Item.is_default (view A.Slots other.old) (view A.Slots other.new) []) }
         ensures refused { OnErr result ((view A.Slots self.new ≡ view A.Slots self.old) × (other.new ≡ other.old)) }
-        ensures succeeds { length (view A.Slots self.old).items + length (view A.Slots other.old).items ≤ (view A.Slots self.old).place.capacity → IsOk result }
+        ensures succeeds { length (view A.Slots self.old).items + length (view A.Slots other.old).items
+            ≤ (view A.Slots self.old).place.capacity → IsOk result }
     {
         self.reserve(other.len())?;
         self.append_reserved(other);
