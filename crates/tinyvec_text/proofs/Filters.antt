@@ -13,7 +13,7 @@ use Rattle.std.proofs.lemmas.Str.{IsUtf8-append, IsUtf8-encode, IsUtf8-nil}
 use Rattle.std.proofs.Math.Seq.{take-suc-set}
 use denote.Param.Members.{Mut}
 
--- bs is xs, with the i bytes at `from` copied to `to`
+-- a copy of i bytes, which stand at `from`, down to `to` made bs of xs
 pub record CopiedDown (xs bs : List ℕ) (to from i : ℕ) : Type 0 where
   pub len : length bs ≡ length xs
   pub front : take (to + i) bs ≡ take to xs ++ take i (drop from xs)

@@ -19,7 +19,7 @@ impl<const N: usize> InlineText<N> {
     }
 }
 
-// Moves the kept characters to the front, and returns how many bytes they take.
+// Moves characters to the front if `keep` says so. Returns the length of what it kept, in bytes.
 fn move_kept_to_front<F: FnMut(char) -> bool>(bytes: &mut [u8], keep: &mut F) -> usize
     requires utf8 { IsUtf8 bytes.old }
     requires callable { F.IsAlwaysCallable keep.old }

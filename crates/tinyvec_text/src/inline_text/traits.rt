@@ -11,7 +11,6 @@ ghost use Rattle.std.specs.Fmt.{debug_str};
 ghost use Rattle.std.specs.Hash as fed;
 
 use super::InlineText;
-use super::bytes::copied_to_heap;
 use std::alloc::{AllocError, Global};
 use std::cmp::Ordering;
 use std::default::{Emptied, MadeWith};
@@ -55,11 +54,7 @@ impl<const N: usize> Clone for InlineText<N> {
         ensures capacity { IfOk result (λ t. t.place.inline ≡ false → t.place.capacity ≡ text_len self.now) }
         ensures succeeds_empty { self.now.place.inline ≡ false → text_len self.now ≡ 0 → IsOk result }
     {
-        if self.list.is_inline() {
-            let list = self.list.clone()?;
-            return Ok(InlineText { list });
-        }
-        let list = copied_to_heap(*self.list.allocator(), self.list.as_slice())?;
+        let list = self.list.clone()?;
         Ok(InlineText { list })
     }
 }
@@ -72,48 +67,49 @@ impl<const N: usize> DerefStr for InlineText<N> {
     }
 }
 
-impl<const N: usize> PartialEq for InlineText<N> {
-    ghost eq = { λ s t. pointwise nat_eq s.bytes t.bytes };
-
-    ghost laws = { on_per (λ s. s.bytes) (partial_equiv_from_equiv nat_list_eq_equiv) };
-
-    fn eq(&self, other: &Self) -> bool {
-        self.list == other.list
-    }
-}
-
-impl<const N: usize> Eq for InlineText<N> {
-    ghost laws = { on_equiv (λ s. s.bytes) nat_list_eq_equiv };
-}
-
-impl<const N: usize> PartialOrd for InlineText<N> {
-    ghost partial_cmp = { λ s t. Some (slice_cmp nat_cmp s.bytes t.bytes) };
-
-    ghost laws = { on_po (λ s. s.bytes) texts_po };
-
-    fn partial_cmp(&self, other: &Self) -> Option<Ordering> {
-        Some(self.cmp(other))
-    }
-}
-
+/// The order of the bytes, which is that of the characters.
 impl<const N: usize> Ord for InlineText<N> {
-    ghost cmp = { λ s t. slice_cmp nat_cmp s.bytes t.bytes };
+    ghost matches_eq = { λ a b. texts_ties a.bytes b.bytes };
 
-    ghost total = { on_total (λ s. s.bytes) nat_list_cmp_total };
+    ghost matches_partial_cmp = { λ a b. refl };
 
-    ghost matches_partial_cmp = { λ s t. refl };
+    ghost total = { on_total (λ a. a.bytes) nat_list_cmp_total };
 
-    ghost matches_eq = { λ s t. texts_ties s.bytes t.bytes };
+    ghost cmp = { λ a b. slice_cmp nat_cmp a.bytes b.bytes };
 
     fn cmp(&self, other: &Self) -> Ordering {
         cmp_short_slices(self.list.as_slice(), other.list.as_slice())
     }
 }
 
-impl<const N: usize> Hash for InlineText<N> {
-    ghost hash_input = { λ s. fed.str s.bytes };
+impl<const N: usize> PartialOrd for InlineText<N> {
+    ghost laws = { on_po (λ a. a.bytes) texts_po };
 
+    ghost partial_cmp = { λ a b. Some (slice_cmp nat_cmp a.bytes b.bytes) };
+
+    fn partial_cmp(&self, other: &Self) -> Option<Ordering> {
+        Some(self.cmp(other))
+    }
+}
+
+impl<const N: usize> Eq for InlineText<N> {
+    ghost laws = { on_equiv (λ a. a.bytes) nat_list_eq_equiv };
+}
+
+impl<const N: usize> PartialEq for InlineText<N> {
+    ghost laws = { on_per (λ a. a.bytes) (partial_equiv_from_equiv nat_list_eq_equiv) };
+
+    ghost eq = { λ a b. pointwise nat_eq a.bytes b.bytes };
+
+    fn eq(&self, other: &Self) -> bool {
+        self.list == other.list
+    }
+}
+
+impl<const N: usize> Hash for InlineText<N> {
     ghost respects_eq = { Prim.search (hashing, rules) };
+
+    ghost hash_input = { λ t. fed.str t.bytes };
 
     // The bytes, and then one that no UTF-8 has.
     fn hash<H: Hasher>(&self, state: &mut H) {

@@ -8,7 +8,7 @@ use Rattle.tinyvec_text.proofs.inline_text.extending.InlineTextExtendChar.extend
 pub returns-in_err-push-clause-known : goal.returns-in_err-push-clause-known
 returns-in_err-push-clause-known g c = λ all yields enough.
     let at = c.loop-c in
-    let fits = all_fit by_chars g.U.IntoIter.Iterator.next_gives c.into_iter-rest.result _ c.in-Some.c all at.invariant.pushed
+    let fits = all_fit by_chars g.I.IntoIter.Iterator.next_gives c.into_iter-rest.result _ c.in-Some.c all at.invariant.pushed
     (yields _ c.into_iter-rest.ensures.into_iter_gives) (at.rest, at.yielded_by, c.in-Some.ensures.steps) enough in
     absurd (false≢true (c.in_err-push.ensures.grows.succeeds fits))
 

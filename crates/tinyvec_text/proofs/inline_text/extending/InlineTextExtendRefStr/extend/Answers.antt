@@ -8,7 +8,7 @@ use Rattle.tinyvec_text.proofs.inline_text.extending.InlineTextExtendRefStr.exte
 pub returns-in_err-push_str-clause-known : goal.returns-in_err-push_str-clause-known
 returns-in_err-push_str-clause-known g c = λ all yields enough.
     let at = c.loop-s in
-    let fits = all_fit (by_texts (λ x. x.now)) g.U.IntoIter.Iterator.next_gives c.into_iter-rest.result _ c.in-Some.s all at.invariant.pushed
+    let fits = all_fit (by_texts (λ x. x.now)) g.I.IntoIter.Iterator.next_gives c.into_iter-rest.result _ c.in-Some.s all at.invariant.pushed
     (yields _ c.into_iter-rest.ensures.into_iter_gives) (at.rest, at.yielded_by, c.in-Some.ensures.steps) enough in
     absurd (false≢true (c.in_err-push_str.ensures.succeeds fits))
 

@@ -1,6 +1,5 @@
-use Rattle.std.proofs.Common.{rules, ◌≡◌, ◌∙◌, All, IsUtf8, sym, subst}
+use Rattle.std.proofs.Common.{rules, ◌≡◌, All, IsUtf8, sym, subst}
 use Rattle.tinyvec.specs.TinyVec.{tiny_items, tiny_spare}
-use Rattle.tinyvec_text.proofs.Lists.{text_utf8, text_made}
 use Rattle.tinyvec_text.proofs.inline_text.traits.InlineTextClone.clone.Goals as goal
 
 pub invariant_of-result : goal.invariant_of-result
@@ -8,9 +7,3 @@ invariant_of-result g c =
     let same : tiny_items c.in_ok-list.list ≡ tiny_items c.self.inside.list = search rules in
     let spare : tiny_spare c.in_ok-list.list ≡ tiny_spare c.self.inside.list = search rules in
     (subst (λ bs. ∥ IsUtf8 bs ∥₁) (sym same) c.self.invariant.0, subst (All (λ b. b ≡ 0)) (sym spare) c.self.invariant.1)
-
-pub invariant_of-result-2 : goal.invariant_of-result-2
-invariant_of-result-2 g c =
-    let told = c.in_ok-list-2.ensures in
-    let utf8 = text_utf8 c.self.inside.list c.self.invariant in
-    text_made 0 c.in_ok-list-2.list (subst IsUtf8 (sym (told.items ∙ c.as_slice.ensures)) utf8) (λ is. absurd (let heap = told.place in let no = is in cc))
