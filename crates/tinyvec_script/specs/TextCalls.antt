@@ -1,9 +1,8 @@
 -- The text of a script: how its calls are spelled, what they may be answered, and what they then leave.
 use Rattle.std.specs.Prelude.{◌≡◌, ℕ, ℤ, ◌+◌, ◌<◌, ◌≤◌, ◌^◌, List, ◌++◌, length, codes, chars, IsUtf8}
 use Rattle.std.specs.Fmt.{decimal}
-use Rattle.std.specs.String.Boundary.{IsSplitPoint}
 use Rattle.tinyvec.specs.View.{Reserved, place_for}
-use Rattle.tinyvec_text.specs.InlineText.{Text, text_chars, text_len, TextBecomesIn, TextKeepsFront}
+use Rattle.tinyvec_text.specs.InlineText.{Text, text_chars, text_len, TextBecomesIn, TextKeepsFront, SplitsAt}
 use Rattle.tinyvec_script.specs.declared.call.Answer.{Answer}
 use Rattle.tinyvec_script.specs.declared.call.Answer.TheVariants as answers
 use Rattle.tinyvec_script.specs.declared.text_command.TextCall.{TextCall as Said}
@@ -42,7 +41,7 @@ TextStep old (add text) answers.Done new =
     TextBecomesIn new (old.bytes ++ text) (text_chars old ++ chars text)
     (place_for Reserved (text_len old + length text) old.place)
 TextStep old (add text) answers.Memory new = (old.place.capacity < text_len old + length text) × (new ≡ old)
-TextStep old (cut index) answers.Done new = IsSplitPoint old.bytes index × TextKeepsFront index old new
-TextStep old (cut index) answers.Range new = (IsSplitPoint old.bytes index → ⊥) × (new ≡ old)
+TextStep old (cut index) answers.Done new = SplitsAt old index × TextKeepsFront index old new
+TextStep old (cut index) answers.Range new = (SplitsAt old index → ⊥) × (new ≡ old)
 -- no other answer is given
 TextStep old call answer new = ⊥

@@ -1,18 +1,29 @@
 -- Where the bytes of a text may be cut, and which characters stand on each side.
-use Rattle.std.proofs.Common.{◌≡◌, ℕ, ◌+◌, ◌-◌, ◌<◌, ◌≤◌, slice_index, List, [], ◌∷◌, ◌++◌, length, take, drop, true, ◌&&◌, refl, sym, ap, ◌∙◌, arith, take-append-drop, length-append, length-drop, length-take-le, le_of_eq, take_all, take_at, drop_at, subst, append-nil, encode_utf8, IsUtf8, rules}
+use Rattle.std.proofs.Common.{◌≡◌, ℕ, ◌+◌, ◌-◌, ◌<◌, ◌≤◌, slice_index, List, [], ◌∷◌, ◌++◌, length, take, drop, true, ◌&&◌, refl, sym, ap, ◌∙◌, arith, take-append-drop, length-append, length-drop, length-take-le, le_of_eq, take_all, take_at, drop_at, inl, inr, subst, append-nil, encode_utf8, IsUtf8, rules}
 use Rattle.std.proofs.Math.Seq.{take-append-le, drop-append-le}
 use Rattle.std.specs.Str.{chars, encode_utf8_all, all_scalars}
 use Rattle.std.specs.String.Boundary.{IsSplitPoint}
 use Rattle.std.proofs.CharBoundary.{IsUtf8-take-drop}
 use Rattle.std.proofs.lemmas.Str.{chars-append, encodes-chars, encodes-append, IsUtf8-append, scalars-chars, IsCharBoundary-at_seam, chars_past_char, chars-nil, IsUtf8-from_ascii, encode_ascii}
-use Rattle.std.proofs.lemmas.Bool.{and_parts}
-use Rattle.std.proofs.lemmas.List.{drop-drop, append_cancel_right}
+use Rattle.std.proofs.lemmas.Bool.{and_parts, cases_lt}
+use Rattle.std.proofs.lemmas.List.{drop-drop, drop_all, append_cancel_right}
 use Rattle.tinyvec_text.specs.InlineText.{IsFirstChar}
 
 -- the characters on each side of a cut
 pub chars_cut : (bs : List ℕ) → IsUtf8 bs → (i : ℕ) → IsSplitPoint bs i → chars bs ≡ chars (take i bs) ++ chars (drop i bs)
 chars_cut bs u i p =
     ap chars (sym (take-append-drop i bs)) ∙ chars-append (take i bs) (drop i bs) (IsUtf8-take-drop bs u i p).0
+
+-- the bytes up to n, where there is a cut unless it is past the end
+pub front_cut : (bs : List ℕ) → IsUtf8 bs → (n : ℕ) → (n ≤ length bs → IsSplitPoint bs n)
+    → IsUtf8 (take n bs) × (chars bs ≡ chars (take n bs) ++ chars (drop n bs))
+front_cut bs u n cut = elim (cases_lt (length bs) n) [
+  | inl past ↦
+      let all = take_all n bs (omega (arith, past)) in
+      let none : drop n bs ≡ [] = drop_all n bs (omega (arith, past)) in
+      (subst IsUtf8 (sym all) u, sym (append-nil (chars bs)) ∙ (λ i. chars (sym all i) ++ sym chars-nil i) ∙ ap (λ xs. chars (take n bs) ++ chars xs) (sym none))
+  | inr fits ↦ ((IsUtf8-take-drop bs u n (cut fits)).0, chars_cut bs u n (cut fits))
+]
 
 -- the last characters of a text are characters
 scalars_behind : (front rest : List ℕ) → all_scalars (front ++ rest) ≡ true → all_scalars rest ≡ true

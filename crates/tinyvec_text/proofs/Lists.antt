@@ -1,27 +1,25 @@
 -- Lists of bytes as texts.
-use Rattle.std.proofs.Common.{chars, ◌≡◌, ℕ, ◌+◌, ◌-◌, ◌<◌, ◌≤◌, Ok, Err, List, All, ◌++◌, IsUtf8, IsTrue, subst, sym, refl, ◌∙◌, arith, ap, length, take, drop, take_at, drop_at, take-append-drop, length-take, length-take-le, length-drop}
-use Rattle.std.specs.Prelude.{false, Result, slice_range}
-use Rattle.std.proofs.Math.Seq.{take-take}
-use Rattle.std.proofs.lemmas.Bool.{le-leb, lt-leb}
+use Rattle.std.proofs.Common.{chars, ◌≡◌, ℕ, ◌+◌, ◌-◌, ◌<◌, ◌≤◌, Ok, Err, List, All, ◌++◌, IsUtf8, IsTrue, subst, sym, refl, ◌∙◌, arith, ap, length, take, drop, length-take-le, length-drop}
+use Rattle.std.specs.Prelude.{false, Result, IsOk, OnOk, OnErr, slice_range}
+use Rattle.std.proofs.lemmas.Bool.{false≢true, le-leb, lt-leb}
 use Rattle.std.proofs.lemmas.Result.{on_ok_weaker, on_err_weaker}
-use Rattle.std.proofs.lemmas.List.{drop-drop, same_lists}
-use Rattle.std.proofs.lemmas.List.Elements.{All-append, All-drop, All-take}
+use Rattle.std.proofs.lemmas.List.Elements.{All-append, All-drop}
 use Rattle.std.proofs.lemmas.Str.{IsUtf8-had}
 use Rattle.std.proofs.CharBoundary.{IsUtf8-three_parts}
 use Rattle.std.specs.declared.ops.Bound.{Bound}
-use Rattle.tinyvec_slots.specs.Ranges.{range_start, range_end, items_before, items_within, items_after}
-use Rattle.tinyvec_slots.specs.Slots.{Slots, AreDefaults, SlotRule, items_in, len_in, spare_in}
-use Rattle.tinyvec_slots.proofs.BorderLemmas.{spare_from}
+use Rattle.tinyvec_slots.specs.Ranges.{IsRangeOf, range_start, range_end, items_before, items_within, items_after}
+use Rattle.tinyvec_slots.specs.Slots.{AreDefaults}
+use Rattle.tinyvec_slots.proofs.Lists.{length-replaced}
 use Rattle.tinyvec_array.proofs.Named.{array_slots}
 use Rattle.tinyvec.specs.SpliceLaws.{frame_becomes}
 use Rattle.tinyvec.specs.Lends.{tiny_with_items}
-use Rattle.tinyvec.specs.TinyVec.{tiny_items, tiny_len, tiny_spare, is_inline, IsInline, tiny_view}
+use Rattle.tinyvec.specs.TinyVec.{tiny_items, tiny_len, tiny_capacity, tiny_spare, is_inline, IsInline, tiny_view}
 use Rattle.tinyvec.specs.View.{TinyView, SpareRule, SameFrame, Becomes, BecomesIn, Growth, Doubled, Reserved, place_for}
-use Rattle.tinyvec.proofs.PlaceLemmas.{was_inline}
+use Rattle.tinyvec.proofs.PlaceLemmas.{place_same, was_inline}
 use Rattle.tinyvec.specs.declared.tiny_vec.TinyVec.TheVariants.{Inline, Heap}
 use Rattle.std.specs.String.Boundary.{IsSplitPoint}
-use Rattle.tinyvec.proofs.TinyLemmas.{tiny_items-with, tiny_framed-with}
-use Rattle.tinyvec_text.specs.InlineText.{Text, Bytes, IsText, ListGrows, text_of, text_len, TextBecomes, TextStaysInPlace, TextGrows, char_growth}
+use Rattle.tinyvec.proofs.TinyLemmas.{tiny_items-with, tiny_framed-with, on_ok_two}
+use Rattle.tinyvec_text.specs.InlineText.{Text, Bytes, IsText, SplitsAt, text_of, text_len, TextBecomesIn, TextBecomes, TextStaysInPlace, TextGrows, char_growth}
 
 -- the range of bs with these ends, which is that of xs, goes from p up to q, and both are boundaries
 pub record CutsAt (bs xs : List ℕ) (start end : Bound ℕ) (p q : ℕ) : Type 0 where
@@ -36,9 +34,9 @@ pub record CutsAt (bs xs : List ℕ) (start end : Bound ℕ) (p q : ℕ) : Type 
 pub text_utf8 : {k : ℕ} (v : Bytes k) → IsText v → IsUtf8 (tiny_items v)
 text_utf8 v is = IsUtf8-had _ is.0
 
--- a boundary of the text is one of its bytes
-pub text_cut : {k : ℕ} (v : Bytes k) (t : Text) → text_of v ≡ t → (i : ℕ) → IsSplitPoint t.bytes i → IsSplitPoint (tiny_items v) i
-text_cut v t same i = subst (λ (u : Text). IsSplitPoint u.bytes i) (sym same)
+-- where the text may be cut, its list may
+pub text_cut : {k : ℕ} (v : Bytes k) (t : Text) → text_of v ≡ t → (i : ℕ) → SplitsAt t i → IsSplitPoint (tiny_items v) i
+text_cut v t same i cut = subst (λ (u : Text). IsSplitPoint u.bytes i) (sym same) cut.is
 
 -- what a call leaves in the list of a text: spare slots that it vacates are zero
 zero_spare : {k : ℕ} (old new : Bytes k) → (IsInline new → IsInline old) → SpareRule (λ b. b ≡ 0) (tiny_view old) (tiny_view new)
@@ -73,6 +71,45 @@ text_becomes old new t bs cs same made spelled = record {
   place = made.place ∙ ap (λ (u : Text). u.place) same;
   fits = made.fits;
 }
+
+-- A call that needs room for `need` bytes took `old` to `new`, with this result: the list is xs. A failure changes nothing.
+pub record ListGrows {X E : Type 0} {n : ℕ} (how : Growth) (need : ℕ) (old new : Bytes n) (xs : List ℕ) (result : Result X E) : Type 0 where
+  pub ok : OnOk result (BecomesIn (λ b. b ≡ 0) (tiny_view old) (tiny_view new) xs (place_for how need (tiny_view old).place))
+  pub refused : OnErr result (tiny_view new ≡ tiny_view old)
+  pub succeeds : need ≤ tiny_capacity old → IsOk result
+
+-- a call that had room
+pub text_roomy : {X E : Type 0} (how : Growth) (need : ℕ) (old new : Text) (bs cs : List ℕ) (r : Result X E) → TextGrows how need old new bs cs r
+    → need ≤ old.place.capacity → TextBecomes old new bs cs
+text_roomy how need old new bs cs (Ok x) h room = subst (TextBecomesIn new bs cs) (place_same how need old.place room) h.ok
+text_roomy how need old new bs cs (Err e) h room = absurd (false≢true (h.succeeds room))
+
+-- `extend_from_slice_copy` of a list
+pub list_extended : {k : ℕ} {X E : Type 0} (old new : Bytes k) (put : List ℕ) (r : Result X E)
+    → OnOk r (BecomesIn (λ b. b ≡ 0) (tiny_view old) (tiny_view new) (tiny_items old ++ put) (place_for Reserved (tiny_len old + length put) (tiny_view old).place))
+    → OnErr r (tiny_view new ≡ tiny_view old) → (tiny_len old + length put ≤ tiny_capacity old → IsOk r)
+    → ListGrows Reserved (tiny_len old + length put) old new (tiny_items old ++ put) r
+list_extended old new put r ok refused fits = record { ok = ok; refused = refused; succeeds = fits }
+
+-- `replace_range` of a list
+pub list_replaced : {k : ℕ} {X E : Type 0} (old new : Bytes k) (start end : Bound ℕ) (put : List ℕ) (r : Result X E)
+    → IsRangeOf (tiny_items old) start end → OnOk r (tiny_items new ≡ items_before (tiny_items old) start ++ put ++ items_after (tiny_items old) end)
+    → OnOk r (BecomesIn (λ b. b ≡ 0) (tiny_view old) (tiny_view new) (tiny_items new) (place_for Reserved (length (tiny_items new)) (tiny_view old).place))
+    → (length (items_before (tiny_items old) start) + length put + length (items_after (tiny_items old) end) ≤ tiny_capacity old → IsOk r)
+    → OnErr r (tiny_view new ≡ tiny_view old) → (need : ℕ) → tiny_len old - (range_end end (tiny_len old) - range_start start) + length put ≡ need
+    → ListGrows Reserved need old new (items_before (tiny_items old) start ++ put ++ items_after (tiny_items old) end) r
+list_replaced old new start end put r range items ok fits refused need is =
+    let bs = tiny_items old in
+    let xs = items_before bs start ++ put ++ items_after bs end in
+    let long : length xs ≡ need = length-replaced _ _ put bs range.0 range.1 ∙ is in
+    let front = length-take-le (range_start start) bs (omega (arith, range.0, range.1)) in
+    let back = length-drop (range_end end (tiny_len old)) bs in
+    record {
+      ok = on_ok_two r items ok (λ e made. subst (λ n. BecomesIn (λ b. b ≡ 0) (tiny_view old) (tiny_view new) xs (place_for Reserved n (tiny_view old).place)) long
+          (subst (λ ys. BecomesIn (λ b. b ≡ 0) (tiny_view old) (tiny_view new) ys (place_for Reserved (length ys) (tiny_view old).place)) e made));
+      refused = refused;
+      succeeds = λ room. fits (omega (arith, room, is, front, back, range.0, range.1));
+    }
 
 pub text_unmoved : {k : ℕ} (old new : Bytes k) (t : Text) (bs : List ℕ) → text_of old ≡ t → Becomes (λ b. b ≡ 0) (tiny_view old) (tiny_view new) bs → TextStaysInPlace t (text_of new)
 text_unmoved old new t bs same made = record { bytes = refl; text = refl; place = made.place ∙ ap (λ (u : Text). u.place) same; fits = made.fits }
@@ -117,9 +154,15 @@ pub text_shrunk : {k : ℕ} (n : ℕ) (old new : Bytes k) → IsText old → tin
 text_shrunk n (Inline v a) new is items kept spare = subst IsText (sym (kept refl)) is
 text_shrunk {k} n (Heap v) new is items kept spare = text_made n new (subst IsUtf8 (sym items) (text_utf8 {k = k} (Heap v) is)) (spare refl)
 
+-- a range of the text is one of its list
+pub text_range_of : {k : ℕ} (v : Bytes k) (t : Text) → text_of v ≡ t → (start end : Bound ℕ) → range_start start ≤ range_end end (text_len t)
+    → SplitsAt t (range_end end (text_len t)) → IsRangeOf (tiny_items v) start end
+text_range_of v t same start end order last =
+    subst (λ (u : Text). IsRangeOf u.bytes start end) (sym same) (order, last.is.0)
+
 -- the range of a text, which was resolved to p and q
 pub text_range : {k : ℕ} (v : Bytes k) (t : Text) → text_of v ≡ t → IsText v → (start end : Bound ℕ) → range_start start ≤ range_end end (text_len t)
-    → IsSplitPoint t.bytes (range_start start) → IsSplitPoint t.bytes (range_end end (text_len t))
+    → SplitsAt t (range_start start) → SplitsAt t (range_end end (text_len t))
     → (p q n : ℕ) → p ≡ range_start start → q ≡ range_end end n → n ≡ tiny_len v → CutsAt (tiny_items v) t.bytes start end p q
 text_range v t same is start end order first last p q n starts ends count =
     let at : q ≡ range_end end (text_len t) = ends ∙ ap (range_end end) (count ∙ ap text_len same) in
@@ -153,36 +196,3 @@ module _ (slots : ℕ) (old : Bytes slots) (ws : List ℕ) (long : length ws ≡
   overwritten new kept made =
       subst (Becomes (λ b. b ≡ 0) (tiny_view old) (tiny_view new)) (ap kept bytes_written)
       (frame_becomes (λ b. b ≡ 0) (tiny_view old) (tiny_view written) (tiny_view new) (kept (tiny_items written)) frame_written made)
-
--- zeros behind those that were cut off: the 16 slots at n reach all that is not zero
-pub zero_behind : (xs : List ℕ) (m n : ℕ) → n ≤ length (take m xs) → length (take m xs) - n ≤ 16 → All (λ b. b ≡ 0) (drop m xs)
-    → All (λ b. b ≡ 0) (drop 16 (drop n xs))
-zero_behind xs m n le few clear =
-    let l = length (take m xs) in
-    let k = n + 16 - l in
-    let on : n + 16 ≡ l + k = omega (arith, few, le) in
-    subst (All (λ b. b ≡ 0)) (sym (drop-drop 16 n xs ∙ ap (λ j. drop j xs) on ∙ sym (drop-drop k l xs) ∙ ap (drop k) (spare_from m xs l refl))) (All-drop (λ b. b ≡ 0) k _ clear)
-
--- two lists of as many zeros
-same_zeros : (xs ys : List ℕ) → length xs ≡ length ys → All (λ b. b ≡ 0) xs → All (λ b. b ≡ 0) ys → xs ≡ ys
-same_zeros xs ys long zero clear = same_lists xs ys long (λ k d lt. zero k d lt ∙ sym (clear k d (omega (arith, lt, long))))
-
--- the list of v was cut off at n, and zeros were written over all that follows
-pub cut_zero : (v w : Slots ℕ) (ws : List ℕ) (n : ℕ) → w.len ≡ n → w.slots ≡ take n v.slots ++ ws → n ≤ len_in v → length ws ≡ length (drop n v.slots)
-    → All (λ b. b ≡ 0) ws → All (λ b. b ≡ 0) (spare_in v) → (items_in w ≡ take n (items_in v)) × SlotRule (λ b. b ≡ 0) v w
-cut_zero v w ws n at is le long zero clear =
-    let l = len_in v in
-    let fits : n ≤ length v.slots = omega (arith, le, length-take v.len v.slots) in
-    let front : length (take n v.slots) ≡ n = length-take-le n v.slots fits in
-    let listed : items_in w ≡ take n v.slots = (λ i. take (at i) (is i)) ∙ take_at (take n v.slots) ws n front in
-    let behind : spare_in w ≡ ws = (λ i. drop (at i) (is i)) ∙ drop_at (take n v.slots) ws n front in
-    let size : len_in w ≡ n = ap length listed ∙ front in
-    let rest : drop (l - n) ws ≡ spare_in v = same_zeros _ _ (omega (arith, length-drop (l - n) ws, long, length-drop n v.slots, length-drop v.len v.slots, length-take v.len v.slots, le)) (All-drop (λ b. b ≡ 0) _ ws zero) clear in
-    let none : len_in w - l ≡ 0 = omega (arith, size, le) in (
-      listed ∙ sym (take-take n v.len v.slots (omega (arith, le, length-take v.len v.slots))),
-      (
-        take (l - n) ws,
-        (length-take-le (l - n) ws (omega (arith, long, length-drop n v.slots, le, length-take v.len v.slots)) ∙ omega (arith, size), All-take (λ b. b ≡ 0) (l - n) ws zero),
-        behind ∙ sym (take-append-drop (l - n) ws) ∙ ap (λ xs. take (l - n) ws ++ xs) rest ∙ ap (λ k. take (l - n) ws ++ drop k (spare_in v)) (sym none),
-      ),
-    )

@@ -1,14 +1,14 @@
 -- What a contract sees of an `InlineText`: its bytes, and where they are.
-use Rattle.std.specs.Prelude.{◌≡◌, ℕ, ◌+◌, ◌-◌, ◌<◌, ◌≤◌, ◌↔◌, nat_le, if◌then◌else◌, max, List, [], ◌∷◌, ◌++◌, length, take, drop, All, Bool, true, false, IsTrue, Result, IsOk, OnOk, OnErr, chars, encode_utf8, encode_utf8_all, IsUtf8}
+use Rattle.std.specs.Prelude.{◌≡◌, ℕ, ◌+◌, ◌<◌, ◌≤◌, ◌↔◌, nat_le, if◌then◌else◌, max, min, List, [], ◌∷◌, ◌++◌, length, take, drop, All, Bool, true, false, IsTrue, Result, IsOk, OnOk, OnErr, chars, encode_utf8, encode_utf8_all, IsUtf8}
 use Rattle.std.specs.Char.{IsScalar}
 use Rattle.std.specs.Fn.{Called}
 use Rattle.std.specs.Str.{all_scalars}
-use Rattle.tinyvec_slots.specs.Slots.{Slots, items_in, spare_in, len_in}
+use Rattle.std.specs.String.Boundary.{IsSplitPoint}
 use Rattle.tinyvec_slots.specs.Filters.{IsFilteredTo}
 use denote.Param.Members.{Mut}
 use Rattle.tinyvec_array.specs.declared.bound.UpTo.{UpTo}
-use Rattle.tinyvec.specs.View.{Place, in_array, Growth, Doubled, Reserved, place_for, BecomesIn}
-use Rattle.tinyvec.specs.TinyVec.{tiny_items, tiny_spare, tiny_capacity, tiny_view}
+use Rattle.tinyvec.specs.View.{Place, in_array, Growth, Doubled, Reserved, place_for}
+use Rattle.tinyvec.specs.TinyVec.{tiny_items, tiny_spare, tiny_view}
 use Rattle.tinyvec.specs.declared.tiny_vec.TinyVec.{TinyVec}
 
 -- the UTF-8 bytes of the text, and their place
@@ -19,19 +19,6 @@ pub record Text : Type 0 where
 -- the list of a text in an array of n bytes
 abbrev pub Bytes : ℕ → Type 0
 Bytes n = TinyVec (List ℕ) ℕ (UpTo n)
-
--- A call that added bytes took `old` to `new`, whose list is xs: they use up as many of the first spare slots.
-pub record AddsBytes (old new : Slots ℕ) (xs : List ℕ) : Type 0 where
-  pub items : items_in new ≡ xs
-  pub spare : spare_in new ≡ drop (len_in new - len_in old) (spare_in old)
-  pub slot_count : length new.slots ≡ length old.slots
-  pub fits : len_in new ≤ length old.slots
-
--- A call that needs room for `need` bytes took `old` to `new`, with this result: the list is xs. A failure changes nothing.
-pub record ListGrows {X E : Type 0} {n : ℕ} (how : Growth) (need : ℕ) (old new : Bytes n) (xs : List ℕ) (result : Result X E) : Type 0 where
-  pub ok : OnOk result (BecomesIn (λ b. b ≡ 0) (tiny_view old) (tiny_view new) xs (place_for how need (tiny_view old).place))
-  pub refused : OnErr result (tiny_view new ≡ tiny_view old)
-  pub succeeds : need ≤ tiny_capacity old → IsOk result
 
 -- a list of bytes as a text
 abbrev pub text_of : {n : ℕ} → Bytes n → Text
@@ -44,6 +31,10 @@ IsText v = ∥ IsUtf8 (tiny_items v) ∥₁ × All (λ b. b ≡ 0) (tiny_spare v
 -- the text: the characters that the bytes spell
 abbrev pub text_chars : Text → List ℕ
 text_chars t = chars t.bytes
+
+-- a character of the text begins at the byte i, or the text ends there
+pub record SplitsAt (t : Text) (i : ℕ) : Type 0 where
+  pub is : IsSplitPoint t.bytes i
 
 -- `t.len()`
 abbrev pub text_len : Text → ℕ
@@ -110,11 +101,11 @@ pub record TextShrinks (slots : ℕ) (old new : Text) : Type 0 where
   pub fits : text_len new ≤ new.place.capacity
   pub kept : IsTrue old.place.inline → new ≡ old
 
--- a call that allocates nothing, and leaves the characters whose bytes are the first n
+-- a call that allocates nothing, and leaves the characters whose bytes are the first n, or all if there are no more
 pub record TextKeepsFront (n : ℕ) (old new : Text) : Type 0 where
   pub bytes : new.bytes ≡ take n old.bytes
   pub text : (rest : List ℕ) × (text_chars old ≡ text_chars new ++ rest)
-  pub len : text_len new ≡ n
+  pub len : text_len new ≡ min n (text_len old)
   pub frame : TextStaysInPlace old new
 
 -- a text was made with room for `need` bytes, inline if they fit the array
@@ -134,8 +125,7 @@ pub record IsTextTail (slots i : ℕ) (old t : Text) : Type 0 where
 abbrev pub IsTextClone : (slots : ℕ) → Text → Text → Type 0
 IsTextClone slots = IsTextTail slots 0
 
--- out has the characters of bs at which f returned `true`. Each was asked about once, in turn, and the last call left `last`:
--- `RetainsChars`, with the last state.
+-- `RetainsChars` of std, with what the last call of f left: it was asked about each character once, in order
 pub record RetainsCharsTo {F : Type 0} (g : Mut F (ℕ × Unit {0}) Bool) (f : F) (bs out : List ℕ) (last : F) : Type 0 where
   pub all : List ℕ
   pub kept : List ℕ

@@ -8,7 +8,6 @@ ghost use Rattle.tinyvec.specs.View.{in_array};
 ghost use Rattle.tinyvec.specs.TinyVec.{tiny_items, tiny_spare};
 ghost use Rattle.tinyvec_text.specs.InlineText.{text_of, text_chars, text_len, TextMadeFor};
 
-mod bytes;
 mod drain;
 mod edits;
 mod extending;

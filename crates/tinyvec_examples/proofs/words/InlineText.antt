@@ -4,7 +4,7 @@ use Rattle.std.proofs.lemmas.Str.{chars-nil}
 use Rattle.std.specs.Prelude.{All, chars}
 use Rattle.tinyvec.specs.View.{in_array, on_heap, Doubled, Reserved}
 use Rattle.tinyvec.specs.TinyVec.{tiny_items, tiny_spare}
-use Rattle.tinyvec_text.specs.InlineText.{Text, Bytes, text_of, text_chars, text_len, IsText, char_growth, place_after, place_after_chars, place_after_texts, empty_text, TextBecomesIn, TextBecomes, TextStaysInPlace, TextGrows, TextPushes, TextReserves, TextShrinks, TextKeepsFront, TextMadeFor, IsTextTail, IsTextClone}
+use Rattle.tinyvec_text.specs.InlineText.{Text, Bytes, text_of, text_chars, text_len, IsText, char_growth, place_after, place_after_chars, place_after_texts, empty_text, TextBecomesIn, TextBecomes, TextStaysInPlace, TextGrows, TextPushes, TextReserves, TextShrinks, TextKeepsFront, TextMadeFor, IsTextTail, IsTextClone, SplitsAt}
 
 -- these bytes, in the value
 abbrev pub inline : List ℕ → Text
@@ -28,6 +28,9 @@ example-text_chars = refl
 
 pub example-IsText : (v : Bytes 4) → IsText v → All (λ b. b ≡ 0) (tiny_spare v)
 example-IsText v h = h.1
+
+pub example-SplitsAt : SplitsAt (inline (97 ∷ 98 ∷ [])) 1
+example-SplitsAt = search rules
 
 pub example-TextStaysInPlace : TextStaysInPlace (inline (97 ∷ 98 ∷ [])) (inline (97 ∷ []))
 example-TextStaysInPlace = search rules

@@ -1,6 +1,6 @@
 //! A name joined from its parts, and a line.
 ghost use Rattle.std.specs.Prelude.{◌≡◌, ◌+◌, ◌≤◌, ◌++◌, ◌∷◌, [], ◌↔◌, length, chars, codes, IsTrue, IfOk, OnOk};
-ghost use Rattle.tinyvec_text.specs.InlineText.{text_chars, text_len};
+ghost use Rattle.tinyvec_text.specs.InlineText.{text_chars};
 
 use std::alloc::{AllocError, Global};
 use tinyvec_text::InlineText;
@@ -16,21 +16,12 @@ pub fn full_name(alloc: Global, first: &str, last: &str) -> Result<InlineText<22
     Ok(name)
 }
 
-/// Appends a line, by pushes that cannot fail.
+/// Appends a line, whose room is reserved at once.
 pub fn push_line(text: &mut InlineText<64>, path: &str) -> Result<(), AllocError>
     ensures { OnOk result (text.new.bytes ≡ text.old.bytes ++ codes "GET " ++ path.now ++ codes " HTTP/1.1") }
 {
     text.reserve(path.len() + 13)?;
-    put(text, "GET ");
-    put(text, path);
-    put(text, " HTTP/1.1");
-    Ok(())
-}
-
-fn put(text: &mut InlineText<64>, piece: &str)
-    requires { text_len text.old + length piece.now ≤ text.old.place.capacity }
-    ensures bytes { text.new.bytes ≡ text.old.bytes ++ piece.now }
-    ensures capacity { text.new.place.capacity ≡ text.old.place.capacity }
-{
-    text.push_str_reserved(piece);
+    text.push_str("GET ")?;
+    text.push_str(path)?;
+    text.push_str(" HTTP/1.1")
 }

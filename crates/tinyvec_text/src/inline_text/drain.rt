@@ -6,11 +6,10 @@ ghost use Rattle.std.specs.Iterator.{at_most, UpTo};
 ghost use Rattle.std.specs.Iterator.SizeHint.{IsWithinCount};
 ghost use Rattle.std.specs.String.Boundary.{IsSplitPoint};
 ghost use Rattle.tinyvec_slots.specs.Ranges.{range_start, range_end, items_before, items_within, items_after};
-ghost use Rattle.tinyvec_text.specs.InlineText.{text_chars, text_len, TextStaysInPlace};
+ghost use Rattle.tinyvec_text.specs.InlineText.{text_chars, text_len, TextStaysInPlace, SplitsAt};
 
 use super::InlineText;
-use super::bytes::{append_bytes, remove_bytes};
-use super::edits::first_char;
+use super::edits::{first_char, remove_bytes};
 use std::alloc::AllocError;
 use std::iter::FusedIterator;
 use std::marker::Model;
@@ -44,8 +43,8 @@ impl<const N: usize> InlineText<N> {
     ) -> Result<InlineTextDrain<N>, AllocError>
         requires not_exhausted { R.has_bounds range }
         requires start_le_end { range_start (R.start_bound range) ≤ range_end (R.end_bound range) (text_len self.old) }
-        requires start_boundary { IsSplitPoint self.old.bytes (range_start (R.start_bound range)) }
-        requires end_boundary { IsSplitPoint self.old.bytes (range_end (R.end_bound range) (text_len self.old)) }
+        requires start_boundary { SplitsAt self.old (range_start (R.start_bound range)) }
+        requires end_boundary { SplitsAt self.old (range_end (R.end_bound range) (text_len self.old)) }
         ensures removed { IfOk result (λ d. d ≡ items_within self.old.bytes (R.start_bound range) (R.end_bound range)) }
         ensures bytes { OnOk result (self.new.bytes
             ≡ items_before self.old.bytes (R.start_bound range) ++ items_after self.old.bytes (R.end_bound range)) }
@@ -58,7 +57,7 @@ impl<const N: usize> InlineText<N> {
         let part = resolve_range(range, self.list.len());
         let bytes = subslice(self.list.as_slice(), part.start, part.end);
         let mut list = TinyVec::with_capacity(*self.list.allocator(), bytes.len())?;
-        append_bytes(&mut list, bytes);
+        let _room_was_there = list.extend_from_slice_copy(bytes);
         let text = InlineText { list };
         remove_bytes(&mut self.list, part.start, part.end);
         Ok(InlineTextDrain { text, at: 0 })

@@ -1,21 +1,16 @@
 //! Text that is pushed, popped, inserted, removed, replaced and cut off.
 ghost use Rattle.std.specs.Prelude.{◌≡◌, ◌+◌, ◌-◌, ◌%◌, ◌<◌, ◌≤◌, ◌++◌, ◌∷◌, [], ◌↔◌, length, min, max, false, IsTrue, IsOk, IfOk, OnOk, OnErr, chars, encode_utf8, ℕ, List, take, drop, All, IsSome, IfSome, IfNone, IsUtf8, slice_index};
 ghost use Rattle.std.specs.Char.{IsScalar};
-ghost use Rattle.tinyvec.specs.View.{Reserved, Exact};
-ghost use Rattle.tinyvec.specs.TinyVec.{tiny_items, tiny_spare, tiny_view};
-ghost use Rattle.tinyvec_text.specs.InlineText.{text_chars, text_len, TextGrows, TextPushes, TextReserves, TextShrinks, TextStaysInPlace, TextBecomes, TextKeepsFront, TextMadeFor, IsTextTail, IsFirstChar};
+ghost use Rattle.tinyvec.specs.View.{Reserved, Exact, Becomes};
+ghost use Rattle.tinyvec.specs.TinyVec.{tiny_items, tiny_len, tiny_spare, tiny_view};
+ghost use Rattle.tinyvec_text.specs.InlineText.{text_chars, text_len, TextGrows, TextPushes, TextReserves, TextShrinks, TextStaysInPlace, TextBecomes, TextKeepsFront, TextMadeFor, IsTextTail, IsFirstChar, SplitsAt};
 ghost use Rattle.tinyvec_slots.specs.Ranges.{range_start, range_end, items_before, items_within, items_after};
 ghost use Rattle.std.specs.String.Boundary.{IsSplitPoint};
 
 use super::InlineText;
-use super::bytes::{
-    append_bytes, copied_to_heap, cut_off, push_bytes, push_part, put_byte, put_bytes,
-    remove_bytes, replace_bytes, split_bytes,
-};
 use std::alloc::{AllocError, Global};
 use std::ops::RangeBounds;
 use tinyvec::TinyVec;
-use tinyvec_slots::authors::resolve_range;
 
 impl<const N: usize> InlineText<N> {
     /// A copy of `s`, inline if its bytes fit the array. Otherwise allocates once.
@@ -24,22 +19,9 @@ impl<const N: usize> InlineText<N> {
         ensures made { IfOk result (TextMadeFor N (length s.now)) }
         ensures succeeds { length s.now ≤ N → IsOk result }
     {
-        if s.len() <= N {
-            let mut text = Self::new(alloc);
-            text.push_str_reserved(s);
-            return Ok(text);
-        }
-        let list = copied_to_heap(alloc, s.as_bytes())?;
-        Ok(InlineText { list })
-    }
-
-    /// Appends `string` to a text that has room. It allocates nothing, so it cannot fail.
-    #[inline(always)]
-    pub fn push_str_reserved(&mut self, string: &str)
-        requires { text_len self.old + length string.now ≤ self.old.place.capacity }
-        ensures { TextBecomes self.old self.new (self.old.bytes ++ string.now) (text_chars self.old ++ chars string.now) }
-    {
-        append_bytes(&mut self.list, string.as_bytes());
+        let mut text = Self::with_capacity(alloc, s.len())?;
+        let _room_was_there = text.push_str(s);
+        Ok(text)
     }
 
     /// Appends `ch` to a text that has room. It allocates nothing, so it cannot fail.
@@ -53,8 +35,7 @@ impl<const N: usize> InlineText<N> {
             self.list.push_reserved(ch as u8);
             return;
         }
-        let mut buffer = [0; 4];
-        self.push_str_reserved(ch.encode_utf8(&mut buffer));
+        let _room_was_there = self.push_wide(ch);
     }
 
     /// Appends `string`. Allocates only if the bytes don't fit.
@@ -63,7 +44,7 @@ impl<const N: usize> InlineText<N> {
         ensures { TextGrows Reserved (text_len self.old + length string.now) self.old self.new
             (self.old.bytes ++ string.now) (text_chars self.old ++ chars string.now) result }
     {
-        push_bytes(&mut self.list, string.as_bytes())
+        self.list.extend_from_slice_copy(string.as_bytes())
     }
 
     /// Appends `ch`. Allocates only if the bytes don't fit.
@@ -119,7 +100,7 @@ impl<const N: usize> InlineText<N> {
         requires spelled { encode_utf8 c ≡ bytes.now }
         ensures { TextPushes c self.old self.new result }
     {
-        push_bytes(&mut self.list, bytes)
+        self.list.extend_from_slice_copy(bytes)
     }
 
     /// Makes room for `additional` more bytes. An inline text moves to the heap if they don't fit the array.
@@ -160,17 +141,18 @@ impl<const N: usize> InlineText<N> {
 
     /// Whether the bytes before `index` are those of some first characters.
     pub fn is_char_boundary(&self, index: usize) -> bool
-        ensures { IsTrue result ↔ IsSplitPoint self.now.bytes index }
+        ensures { IsTrue result ↔ SplitsAt self.now index }
     {
         splits_at(&self.list, index)
     }
 
-    /// Keeps the first `new_len` bytes, which end at a character. Does not allocate, and the text stays in its place.
+    /// Keeps the first `new_len` bytes, which end at a character, or all if there are no more. Does not allocate, and the text
+    /// stays in its place.
     pub fn truncate(&mut self, new_len: usize)
-        requires { IsSplitPoint self.old.bytes new_len }
+        requires { new_len ≤ text_len self.old → SplitsAt self.old new_len }
         ensures { TextKeepsFront new_len self.old self.new }
     {
-        cut_off(&mut self.list, new_len);
+        self.list.truncate(new_len);
     }
 
     /// Empties the text. Does not allocate, and the text stays in its place.
@@ -182,22 +164,7 @@ impl<const N: usize> InlineText<N> {
 
     /// Puts `ch` at the byte `index`, where a character begins or the text ends. Allocates only if the bytes don't fit.
     pub fn insert(&mut self, index: usize, ch: char) -> Result<(), AllocError>
-        requires { IsSplitPoint self.old.bytes index }
-        ensures { TextGrows Reserved (text_len self.old + length (encode_utf8 ch)) self.old self.new
-            (take index self.old.bytes ++ encode_utf8 ch ++ drop index self.old.bytes)
-            (chars (take index self.old.bytes) ++ ch ∷ [] ++ chars (drop index self.old.bytes)) result }
-    {
-        // Most characters are ASCII.
-        if ch.is_ascii() {
-            return self.insert_ascii(index, ch);
-        }
-        self.insert_wide(index, ch)
-    }
-
-    // `insert` of a character that takes more than a byte. A call of its own, since most are ASCII.
-    #[inline(never)]
-    fn insert_wide(&mut self, index: usize, ch: char) -> Result<(), AllocError>
-        requires { IsSplitPoint self.old.bytes index }
+        requires { SplitsAt self.old index }
         ensures { TextGrows Reserved (text_len self.old + length (encode_utf8 ch)) self.old self.new
             (take index self.old.bytes ++ encode_utf8 ch ++ drop index self.old.bytes)
             (chars (take index self.old.bytes) ++ ch ∷ [] ++ chars (drop index self.old.bytes)) result }
@@ -206,28 +173,16 @@ impl<const N: usize> InlineText<N> {
         self.insert_str(index, ch.encode_utf8(&mut buffer))
     }
 
-    // `insert` of an ASCII character.
-    #[inline(always)]
-    fn insert_ascii(&mut self, index: usize, ch: char) -> Result<(), AllocError>
-        requires boundary { IsSplitPoint self.old.bytes index }
-        requires ascii { ch < 128 }
-        ensures { TextGrows Reserved (text_len self.old + length (encode_utf8 ch)) self.old self.new
-            (take index self.old.bytes ++ encode_utf8 ch ++ drop index self.old.bytes)
-            (chars (take index self.old.bytes) ++ ch ∷ [] ++ chars (drop index self.old.bytes)) result }
-    {
-        put_byte(&mut self.list, index, ch as u8)
-    }
-
     /// Puts `string` at the byte `index`, where a character begins or the text ends. Allocates only if the bytes don't fit.
     // Inlined, so that LLVM knows how many bytes there are.
     #[inline(always)]
     pub fn insert_str(&mut self, index: usize, string: &str) -> Result<(), AllocError>
-        requires { IsSplitPoint self.old.bytes index }
+        requires { SplitsAt self.old index }
         ensures { TextGrows Reserved (text_len self.old + length string.now) self.old self.new
             (take index self.old.bytes ++ string.now ++ drop index self.old.bytes)
             (chars (take index self.old.bytes) ++ chars string.now ++ chars (drop index self.old.bytes)) result }
     {
-        put_bytes(&mut self.list, index, string.as_bytes())
+        self.list.replace_range(index..index, string.as_bytes())
     }
 
     /// Puts `replace_with` in the place of the range, whose ends are boundaries. Allocates only if the bytes don't fit.
@@ -238,40 +193,34 @@ impl<const N: usize> InlineText<N> {
     ) -> Result<(), AllocError>
         requires not_exhausted { R.has_bounds range }
         requires start_le_end { range_start (R.start_bound range) ≤ range_end (R.end_bound range) (text_len self.old) }
-        requires start_boundary { IsSplitPoint self.old.bytes (range_start (R.start_bound range)) }
-        requires end_boundary { IsSplitPoint self.old.bytes (range_end (R.end_bound range) (text_len self.old)) }
+        requires start_boundary { SplitsAt self.old (range_start (R.start_bound range)) }
+        requires end_boundary { SplitsAt self.old (range_end (R.end_bound range) (text_len self.old)) }
         ensures { TextGrows Reserved (text_len self.old - (range_end (R.end_bound range) (text_len self.old)
             - range_start (R.start_bound range)) + length replace_with.now) self.old self.new
             (items_before self.old.bytes (R.start_bound range) ++ replace_with.now ++ items_after self.old.bytes (R.end_bound range))
             (chars (items_before self.old.bytes (R.start_bound range)) ++ chars replace_with.now
             ++ chars (items_after self.old.bytes (R.end_bound range))) result }
     {
-        let part = resolve_range(range, self.list.len());
-        let bytes = replace_with.as_bytes();
-        let more = bytes.len().saturating_sub(part.end - part.start);
-        self.list.reserve(more)?;
-        replace_bytes(&mut self.list, part.start, part.end, bytes);
-        Ok(())
+        self.list.replace_range(range, replace_with.as_bytes())
     }
 
     /// Appends the characters of the range, whose ends are boundaries. Allocates only if the bytes don't fit.
     pub fn extend_from_within<R: RangeBounds<usize>>(&mut self, range: R) -> Result<(), AllocError>
         requires not_exhausted { R.has_bounds range }
         requires start_le_end { range_start (R.start_bound range) ≤ range_end (R.end_bound range) (text_len self.old) }
-        requires start_boundary { IsSplitPoint self.old.bytes (range_start (R.start_bound range)) }
-        requires end_boundary { IsSplitPoint self.old.bytes (range_end (R.end_bound range) (text_len self.old)) }
+        requires start_boundary { SplitsAt self.old (range_start (R.start_bound range)) }
+        requires end_boundary { SplitsAt self.old (range_end (R.end_bound range) (text_len self.old)) }
         ensures { TextGrows Reserved
             (text_len self.old + length (items_within self.old.bytes (R.start_bound range) (R.end_bound range))) self.old self.new
             (self.old.bytes ++ items_within self.old.bytes (R.start_bound range) (R.end_bound range))
             (text_chars self.old ++ chars (items_within self.old.bytes (R.start_bound range) (R.end_bound range))) result }
     {
-        let part = resolve_range(range, self.list.len());
-        push_part(&mut self.list, part.start, part.end - part.start)
+        self.list.extend_from_within(range)
     }
 
     /// Removes and returns the character at the byte `index`. Does not allocate, and the text stays in its place.
     pub fn remove(&mut self, index: usize) -> char
-        requires boundary { IsSplitPoint self.old.bytes index }
+        requires boundary { SplitsAt self.old index }
         requires in_bounds { index < text_len self.old }
         ensures bytes { (rest : List ℕ) × (drop index self.old.bytes ≡ encode_utf8 result ++ rest)
             × (self.new.bytes ≡ take index self.old.bytes ++ rest) }
@@ -287,7 +236,7 @@ impl<const N: usize> InlineText<N> {
     /// Splits the text at the byte `at`, where a character begins or the text ends, and returns what follows, inline exactly
     /// if the text is. An inline text allocates nothing; one on the heap allocates room for what follows.
     pub fn split_off(&mut self, at: usize) -> Result<Self, AllocError>
-        requires { IsSplitPoint self.old.bytes at }
+        requires { SplitsAt self.old at }
         ensures bytes { OnOk result (self.new.bytes ≡ take at self.old.bytes) }
         ensures tail { IfOk result (IsTextTail N at self.old) }
         ensures text { IfOk result (λ t. text_chars self.old ≡ text_chars self.new ++ text_chars t) }
@@ -296,7 +245,7 @@ impl<const N: usize> InlineText<N> {
         ensures succeeds_at_the_end { at ≡ text_len self.old → IsOk result }
         ensures refused { OnErr result (self.new ≡ self.old) }
     {
-        let list = split_bytes(&mut self.list, at)?;
+        let list = self.list.split_off(at)?;
         Ok(InlineText { list })
     }
 
@@ -427,4 +376,14 @@ fn first_wide(bytes: &[u8]) -> (char, usize)
         char_of(lead % 8 * 0x4_0000 + second * 0x1000 + (third * 0x40 + fourth)),
         4,
     )
+}
+
+// Removes the bytes from `start` up to `end`.
+pub(crate) fn remove_bytes<const N: usize>(list: &mut TinyVec<[u8; N]>, start: usize, end: usize)
+    requires start_le_end { start ≤ end }
+    requires in_list { end ≤ tiny_len list.old }
+    ensures { Becomes (λ b. b ≡ 0) (tiny_view list.old) (tiny_view list.new)
+        (take start (tiny_items list.old) ++ drop end (tiny_items list.old)) }
+{
+    let _room_was_there = list.replace_range(start..end, &[]);
 }

@@ -1,9 +1,10 @@
-use Rattle.std.proofs.Common.{◌++◌, IsUtf8, ap, sym, subst, ◌∙◌, chars, rules}
+use Rattle.std.proofs.Common.{◌+◌, ◌++◌, length, IsUtf8, ap, sym, subst, ◌∙◌, chars, rules}
 use Rattle.std.specs.Prelude.{slice_range}
 use Rattle.std.proofs.lemmas.Str.{IsUtf8-append, IsUtf8-nil, chars-append}
-use Rattle.tinyvec.specs.TinyVec.{tiny_items}
-use Rattle.tinyvec_text.proofs.Lists.{CutsAt, text_range, text_made, text_stays, text_unmoved}
-use Rattle.tinyvec_text.proofs.inline_text.InlineText.drain.Goals.{After-resolve_range-part}
+use Rattle.tinyvec.specs.TinyVec.{tiny_items, tiny_len}
+use Rattle.tinyvec.specs.View.{Reserved}
+use Rattle.tinyvec_text.proofs.Lists.{ListGrows, CutsAt, list_extended, text_range, text_made, text_stays, text_after, text_unmoved}
+use Rattle.tinyvec_text.proofs.inline_text.InlineText.drain.Goals.{After-resolve_range-part, After-extend_from_slice_copy-room_was_there}
 use Rattle.tinyvec_text.proofs.inline_text.InlineText.drain.Goals as goal
 
 -- the range
@@ -14,13 +15,22 @@ cuts g c =
     text_range c.self.inside.list c.args.self.now c.self.view_is c.self.invariant _ _ c.requires.start_le_end c.requires.start_boundary
     c.requires.end_boundary _ _ _ part.start part.end c.len.ensures.value
 
+-- what the copy of the range became
+copied : (g : _) (c : After-extend_from_slice_copy-room_was_there g) → ListGrows Reserved (tiny_len c.in_ok-list.list + length c.subslice-bytes.result.now) c.in_ok-list.list
+    c.extend_from_slice_copy-room_was_there.new.self (tiny_items c.in_ok-list.list ++ c.subslice-bytes.result.now) c.extend_from_slice_copy-room_was_there.result
+copied g c =
+    let put = c.extend_from_slice_copy-room_was_there in
+    list_extended c.in_ok-list.list put.new.self _ put.result put.ensures.ok put.ensures.refused put.ensures.succeeds
+
 pub invariant_of-text : goal.invariant_of-text
 invariant_of-text g c =
     let made = c.in_ok-list.ensures in
     let seen = c.subslice-bytes.ensures ∙ (λ i. slice_range (c.as_slice.ensures i) c.resolve_range-part.result.start c.resolve_range-part.result.end) in
-    let own = (cuts g (goal.at.invariant_of-text g c).After-resolve_range-part).utf8.1 in
+    let at = goal.at.invariant_of-text g c in
+    let own = (cuts g at.After-resolve_range-part).utf8.1 in
     let new = text_made _ c.in_ok-list.list (subst IsUtf8 (sym made.items) IsUtf8-nil) made.made.spare in
-    text_stays c.in_ok-list.list c.append_bytes.new.list _ c.append_bytes.ensures new (subst IsUtf8 (sym (λ i. made.items i ++ seen i)) own)
+    text_after _ _ c.in_ok-list.list c.extend_from_slice_copy-room_was_there.new.self _ c.extend_from_slice_copy-room_was_there.result (copied g at.After-extend_from_slice_copy-room_was_there) new
+    (subst IsUtf8 (sym (λ i. made.items i ++ seen i)) own)
 
 pub remove_bytes-requires : goal.remove_bytes-requires
 remove_bytes-requires g c =

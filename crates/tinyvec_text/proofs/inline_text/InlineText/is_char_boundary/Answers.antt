@@ -10,8 +10,7 @@ splits_at-requires g c = (search rules, (search rules, first_byte _ (text_utf8 c
 
 pub returns : goal.returns
 returns g c =
-    let i = c.args.index in
-    let utf8 = text_utf8 c.self.inside.list c.self.invariant in (
-      λ yes. subst (λ (t : Text). IsSplitPoint t.bytes i) c.self.view_is (c.splits_at.ensures.0 yes),
+    let i = c.args.index in (
+      λ yes. record { is = subst (λ (t : Text). IsSplitPoint t.bytes i) c.self.view_is (c.splits_at.ensures.0 yes) },
       λ cut. c.splits_at.ensures.1 (text_cut c.self.inside.list c.args.self.now c.self.view_is i cut),
     )

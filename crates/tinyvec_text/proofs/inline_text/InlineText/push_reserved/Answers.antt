@@ -1,9 +1,8 @@
 use Rattle.std.proofs.Common.{◌++◌, ap, refl, ◌∙◌, chars, rules}
 use Rattle.std.proofs.lemmas.Str.{IsUtf8-append, chars-append, encode_ascii}
 use Rattle.tinyvec.specs.TinyVec.{tiny_items}
-use Rattle.tinyvec_text.specs.InlineText.{text_chars}
-use Rattle.tinyvec_text.proofs.Boundaries.{chars_of_one, one_ascii}
-use Rattle.tinyvec_text.proofs.Lists.{text_utf8, text_stays, text_becomes}
+use Rattle.tinyvec_text.proofs.Boundaries.{one_ascii}
+use Rattle.tinyvec_text.proofs.Lists.{text_utf8, text_roomy, text_stays, text_becomes}
 use Rattle.tinyvec_text.proofs.inline_text.InlineText.push_reserved.Goals as goal
 
 pub invariant_of-self : goal.invariant_of-self
@@ -18,11 +17,4 @@ returns-then-is_ascii-clause-becomes g c =
     rw (← c.self.view_is, encode_ascii c.args.ch (search rules)) (text_becomes list c.push_reserved.new.self _ _ _ refl c.push_reserved.ensures spelled)
 
 pub returns-clause-becomes : goal.returns-clause-becomes
-returns-clause-becomes g c =
-    let put = c.push_str_reserved.ensures in
-    record {
-      bytes = search rules;
-      text = put.text ∙ ap (λ cs. text_chars c.args.self.now ++ cs) (chars_of_one _ c.args.ch c.encode_utf8.utf8 c.encode_utf8.ensures.value);
-      place = put.place;
-      fits = put.fits;
-    }
+returns-clause-becomes g c = text_roomy _ _ _ _ _ _ c.push_wide-room_was_there.result c.push_wide-room_was_there.ensures c.requires

@@ -1,31 +1,31 @@
-use Rattle.std.proofs.Common.{◌++◌, ap, sym, ◌∙◌, chars, length, drop, length-take-le, rules}
-use Rattle.std.proofs.CharBoundary.{IsUtf8-take-drop}
-use Rattle.tinyvec.specs.TinyVec.{tiny_items}
-use Rattle.tinyvec_text.specs.InlineText.{text_chars}
-use Rattle.tinyvec_text.proofs.Boundaries.{chars_cut}
+use Rattle.std.proofs.Common.{◌≤◌, ◌++◌, ap, sym, subst, ◌∙◌, chars, min, length, drop, length-take, rules}
+use Rattle.std.specs.String.Boundary.{IsSplitPoint}
+use Rattle.tinyvec.specs.TinyVec.{tiny_items, tiny_len}
+use Rattle.tinyvec_text.specs.InlineText.{text_chars, text_len, Text}
+use Rattle.tinyvec_text.proofs.Boundaries.{front_cut}
 use Rattle.tinyvec_text.proofs.Lists.{text_utf8, text_cut, text_stays, text_unmoved}
+use Rattle.tinyvec_text.proofs.inline_text.InlineText.truncate.Goals.{After-truncate}
 use Rattle.tinyvec_text.proofs.inline_text.InlineText.truncate.Goals as goal
+
+cut : (g : _) (c : After-truncate g) → c.args.new_len ≤ tiny_len c.self.inside.list → IsSplitPoint (tiny_items c.self.inside.list) c.args.new_len
+cut g c fits =
+    let list = c.self.inside.list in
+    text_cut list c.args.self.now c.self.view_is c.args.new_len (c.requires (subst (λ (t : Text). c.args.new_len ≤ text_len t) c.self.view_is fits))
 
 pub invariant_of-self : goal.invariant_of-self
 invariant_of-self g c =
     let list = c.self.inside.list in
-    let cut = text_cut list c.args.self.now c.self.view_is c.args.new_len c.requires in
-    let front = (IsUtf8-take-drop (tiny_items list) (text_utf8 list c.self.invariant) c.args.new_len cut).0 in
-    text_stays c.self.inside.list c.cut_off.new.list _ c.cut_off.ensures c.self.invariant front
+    text_stays list c.truncate.new.self _ c.truncate.ensures c.self.invariant
+    (front_cut (tiny_items list) (text_utf8 list c.self.invariant) c.args.new_len (cut g (goal.at.invariant_of-self g c).After-truncate)).0
 
 pub returns : goal.returns
 returns g c =
     let list = c.self.inside.list in
-    let cut = text_cut list c.args.self.now c.self.view_is c.args.new_len c.requires in
+    let parts = (front_cut (tiny_items list) (text_utf8 list c.self.invariant) c.args.new_len (cut g (goal.at.returns g c).After-truncate)).1 in
     let rest = chars (drop c.args.new_len (tiny_items list)) in
     record {
       bytes = search rules;
-      text = (rest, sym (ap text_chars c.self.view_is) ∙ chars_cut (tiny_items list) (text_utf8 list c.self.invariant) c.args.new_len cut ∙ ap (λ xs. chars xs ++ rest) (sym c.cut_off.ensures.items));
-      len = ap length c.cut_off.ensures.items ∙ length-take-le c.args.new_len (tiny_items list) cut.0;
-      frame = text_unmoved list c.cut_off.new.list c.args.self.now _ c.self.view_is c.cut_off.ensures;
+      text = (rest, sym (ap text_chars c.self.view_is) ∙ parts ∙ ap (λ xs. chars xs ++ rest) (sym c.truncate.ensures.items));
+      len = ap length c.truncate.ensures.items ∙ length-take c.args.new_len (tiny_items list) ∙ ap (λ (t : Text). min c.args.new_len (text_len t)) c.self.view_is;
+      frame = text_unmoved list c.truncate.new.self c.args.self.now _ c.self.view_is c.truncate.ensures;
     }
-
-pub cut_off-requires : goal.cut_off-requires
-cut_off-requires g c =
-    let cut = text_cut c.self.inside.list c.args.self.now c.self.view_is c.args.new_len c.requires in
-    (search rules, (search rules, (cut.0, c.self.invariant.1)))

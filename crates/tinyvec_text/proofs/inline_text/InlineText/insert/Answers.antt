@@ -2,7 +2,7 @@ use Rattle.std.proofs.Common.{◌+◌, ◌++◌, subst, chars, take, drop, lengt
 use Rattle.tinyvec.specs.View.{Reserved}
 use Rattle.tinyvec_text.specs.InlineText.{TextGrows, text_len}
 use Rattle.tinyvec_text.proofs.Boundaries.{chars_of_one}
-use Rattle.tinyvec_text.proofs.inline_text.InlineText.insert_wide.Goals as goal
+use Rattle.tinyvec_text.proofs.inline_text.InlineText.insert.Goals as goal
 
 pub returns : goal.returns
 returns g c =
