@@ -147,8 +147,15 @@ impl<A: Array> TinyVec<A> {
         ensures refused { OnErr result (view A.Slots self.new ≡ view A.Slots self.old) }
         ensures succeeds { length (view A.Slots self.old).items + length other.now ≤ (view A.Slots self.old).place.capacity → IsOk result }
     {
-        self.reserve(other.len())?;
-        self.copy_reserved(other);
+        match self {
+            TinyVec::Inline(v, _) if other.len() <= v.capacity() - v.len() =>
+                v.extend_from_slice_copy(other),
+            TinyVec::Heap(v) if other.len() <= v.capacity() - v.len() => push_copies(v, other),
+            _ => {
+                self.grow(other.len())?;
+                self.copy_reserved(other);
+            }
+        }
         Ok(())
     }
 
