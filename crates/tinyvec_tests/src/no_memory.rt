@@ -98,10 +98,7 @@ fn texts_that_are_cut(rt: HostRuntime) -> Result<(), Fail> {
     let Some(mut text) = InlineText::from_utf8_or_none(bytes) else {
         return all_steps(&[false]);
     };
-    let is_pushed = text.len() == 4;
-    if is_pushed && text.capacity() >= 8 {
-        text.push_str_reserved("lo");
-    }
+    let is_pushed = text.len() == 4 && text.push_str("lo").is_ok();
     let is_popped = (text.pop() == Some('o')) & (text.as_str() == "héyl");
     let is_removed = text.len() == 5 && text.is_char_boundary(1) && text.remove(1) == 'é';
     text.retain(|x| x != 'y');
