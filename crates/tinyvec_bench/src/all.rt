@@ -1,4 +1,5 @@
 //! Every row: of each kind of list, at a few lengths.
+ghost use Rattle.std.specs.Prelude.{◌*◌, ◌^◌, ◌<◌};
 
 use crate::calls::{Call, Calls, Grown, Lists, Owned, Word, of_items, of_numbers, of_owned};
 use crate::form::of_forms;
@@ -39,8 +40,8 @@ pub fn all_rows<R: Report>(report: &mut R, alloc: Global) {
     of_long(report, alloc, part_of(numbers, 0, 64));
     of_long(report, alloc, numbers);
     report.set_prefix("slice_");
-    of_slice(report, &mut [0; 64], &mut [0; 64], part_of(numbers, 0, 64));
-    of_slice(report, &mut [0; 16384], &mut [0; 16384], numbers);
+    of_slice::<R, 64>(report, numbers);
+    of_slice::<R, 16384>(report, numbers);
     of_other_items(report, alloc);
     report.set_prefix("");
     of_forms::<R, 64>(report, alloc);
@@ -123,18 +124,19 @@ fn of_long<R: Report>(report: &mut R, alloc: Global, numbers: &[u64]) {
     of_owner(report, n, lists);
 }
 
-fn of_slice<'a, R: Report>(
-    report: &mut R,
-    slots: &'a mut [u64],
-    other: &'a mut [u64],
-    numbers: &'a [u64],
-) {
-    let lists = &mut Lists {
-        vec: &mut SliceVec::from_slice(slots),
-        other: &mut SliceVec::from_slice(other),
-        source: numbers,
+fn of_slice<R: Report, const N: usize>(report: &mut R, numbers: &[u64])
+    requires { N * 64 < 2 ^ 63 }
+{
+    let mut slots = [0; N];
+    let mut other_slots = [0; N];
+    let mut vec = SliceVec::from_slice(&mut slots);
+    let mut other = SliceVec::from_slice(&mut other_slots);
+    let mut lists = Lists {
+        vec: &mut vec,
+        other: &mut other,
+        source: part_of(numbers, 0, N),
     };
-    of_numbers(report, numbers.len(), lists);
+    of_numbers(report, N, &mut lists);
 }
 
 // A list beside one that is equal, and beside one whose first item is higher.
