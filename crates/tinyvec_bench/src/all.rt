@@ -10,7 +10,7 @@ use crate::texts::{TextCall, Texts, letters_of, of_text};
 use std::alloc::Global;
 use std::hash::Hash;
 use tinyvec::TinyVec;
-use tinyvec_array::{ArrayVec, SliceVec};
+use tinyvec_array::{ArrayVec, SliceVec, TakesClones};
 
 // The rows of lists over each of these numbers of slots, as long as that.
 macro_rules! at {
@@ -131,12 +131,18 @@ fn of_slice<R: Report, const N: usize>(report: &mut R, numbers: &[u64])
     let mut other_slots = [0; N];
     let mut vec = SliceVec::from_slice(&mut slots);
     let mut other = SliceVec::from_slice(&mut other_slots);
-    let mut lists = Lists {
-        vec: &mut vec,
-        other: &mut other,
-        source: part_of(numbers, 0, N),
-    };
-    of_numbers(report, N, &mut lists);
+    of_any_slots(report, &mut vec, &mut other, part_of(numbers, 0, N));
+}
+
+// The borrow checker does not cover these lists where it knows that the slots are lent.
+fn of_any_slots<'v, R: Report, S: TakesClones<Item = u64>>(
+    report: &mut R,
+    vec: &'v mut ArrayVec<S>,
+    other: &'v mut ArrayVec<S>,
+    source: &'v [u64],
+) {
+    let lists = &mut Lists { vec, other, source };
+    of_numbers(report, source.len(), lists);
 }
 
 // A list beside one that is equal, and beside one whose first item is higher.
