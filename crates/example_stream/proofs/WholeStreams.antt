@@ -41,11 +41,11 @@ module _ (before after : ℕ) (cs read : List Said) (fit_cs : AllByRecursion Rea
       → (IsErrOf given Io → Reported before after) → MayBe old (BeginsWith read (StandsBehind given)) → Gives cs end before after read given
   gives-all end given old bytes tail p is known fault may = gives-known end given bytes tail p is fault (subst (λ o. MayBe o (BeginsWith read (StandsBehind given))) known may)
 
--- a whole stream is copied
-pub copy-of : (before after : ℕ) (cs read : List Said) (given : Result (Unit {0}) StreamError) → Gives cs (Ok tt) before after read given → IsCopy cs read given
-copy-of before after cs read (Ok done) g = g.0
-copy-of before after cs read (Err Cut) g = cc
-copy-of before after cs read (Err WrongTag) g = cc
-copy-of before after cs read (Err TooManySamples) g = cc
-copy-of before after cs read (Err Io) g = g.0
-copy-of before after cs read (Err Memory) g = g
+-- a whole stream is copied, where no read fails
+pub copy-of : (before after : ℕ) (cs read : List Said) (given : Result (Unit {0}) StreamError) → (given ≡ Err Io → ⊥) → Gives cs (Ok tt) before after read given → IsCopy cs read given
+copy-of before after cs read (Ok done) none g = g.0
+copy-of before after cs read (Err Cut) none g = cc
+copy-of before after cs read (Err WrongTag) none g = cc
+copy-of before after cs read (Err TooManySamples) none g = cc
+copy-of before after cs read (Err Io) none g = none refl
+copy-of before after cs read (Err Memory) none g = g

@@ -114,11 +114,11 @@ GivesCut cs front before after read (Err TooManySamples) = ⊥
 GivesCut cs front before after read (Err Io) = AreFirst read cs × Reported before after
 GivesCut cs front before after read (Err Memory) = AreFirst read cs
 
--- All of these records were read, and then the end; or memory was refused, or there was a fault, and the first ones were read.
+-- All of these records were read, and then the end; or memory was refused, and the first ones were read. No read failed.
 abbrev pub IsCopy : List Said → List Said → Result (Unit {0}) StreamError → Type 0
 IsCopy cs read (Ok done) = read ≡ cs
 IsCopy cs read (Err Cut) = ⊥
 IsCopy cs read (Err WrongTag) = ⊥
 IsCopy cs read (Err TooManySamples) = ⊥
-IsCopy cs read (Err Io) = AreFirst read cs
+IsCopy cs read (Err Io) = ⊥
 IsCopy cs read (Err Memory) = AreFirst read cs

@@ -104,8 +104,12 @@ pub fn copied(alloc: Global, readings: &[Reading]) -> Result<Recovered, BorshErr
     let mut writer = Counted::new(Vec::new(alloc));
     append_all(readings, &mut writer)?;
     let bytes = writer.into_inner();
-    let mut reader = Counted::new(bytes.as_slice());
-    Ok(read_all(alloc, &mut reader))
+    let copy = read_all(alloc, &mut Counted::new(bytes.as_slice()));
+    match copy.end {
+        // No read of a slice fails, but the contract of a reader cannot state that.
+        Err(StreamError::Io) => Err(BorshError::Io),
+        _ => Ok(copy),
+    }
 }
 
 // Reads records after those that are there.
