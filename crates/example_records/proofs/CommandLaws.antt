@@ -12,7 +12,7 @@ use Rattle.example_stream.specs.declared.stream.Recovered.{Recovered}
 use Rattle.example_records.specs.declared.command_error.CommandError.{CommandError}
 use Rattle.example_records.specs.declared.command_error.CommandError.TheVariants.{Hex as NoHex, Memory}
 use Rattle.example_stream.specs.declared.stream_error.StreamError.{StreamError}
-use Rattle.example_stream.specs.declared.stream_error.StreamError.TheVariants.{Io, WrongTag}
+use Rattle.example_stream.specs.declared.stream_error.StreamError.TheVariants.{Cut, Io, Memory as NoMemory, TooManySamples, WrongTag}
 use Rattle.example_records.proofs.HexLaws.{bytes_more}
 use Rattle.example_stream.proofs.WholeStreams.{gives-all}
 
@@ -151,7 +151,7 @@ pub read_as : (rest stream : List ℕ) (recovered : Recovered) → IsRead stream
 read_as rest stream recovered is (Add d) says = let w : 114 ≡ 97 = ap (λ word. slice_index word 0) says.0 in absurd (omega (arith, w))
 read_as rest stream recovered is (Hex bytes) says = let w : 114 ≡ 104 = ap (λ word. slice_index word 0) says.0 in absurd (omega (arith, w))
 read_as rest stream recovered is (Cut len) says = let w : 114 ≡ 99 = ap (λ word. slice_index word 0) says.0 in absurd (omega (arith, w))
-read_as rest stream recovered is Read says = (refl, (recovered, refl, is))
+read_as rest stream recovered is Read says = inl (refl, (recovered, refl, is))
 read_as rest stream recovered is Copy says = let w : 114 ≡ 99 = ap (λ word. slice_index word 0) says.0 in absurd (omega (arith, w))
 
 pub copied_as : (rest stream : List ℕ) (recovered : Recovered) → IsReadOfCopy stream (map said recovered.records.items) recovered.end
@@ -185,41 +185,50 @@ hex_fails text stream error (inl memory) =
 hex_fails text stream error (inr none) =
     subst (λ e. Answers (Says (codes "hex") text) stream stream (Err e)) (sym none.0) record { carried_out = no_hex text stream none.1; is_command = tt; refused = refl }
 
--- ---- a stream with no tag at its start
+-- ---- a stream that is read
 
--- no record is there
-read_none : (stream : List ℕ) (end : Result (Unit {0}) StreamError) → StandsBehind end stream → (end ≡ Err Io → ⊥) → IsRead stream [] end
-read_none stream end is no_fault =
-    let stands : BeginsWith [] (StandsBehind end) stream = record { first = []; rest = stream; is_first = refl; is_rest = is; whole = refl } in record {
-      stands = stands;
-      fit = tt;
-      all = λ cs bytes tail told fit spelled is_told whole.
-          (0, gives-all 0 0 cs [] fit tt told end (Some stream) bytes tail spelled is_told (ap Some whole) (λ fault. absurd (no_fault fault)) stands);
-    }
+-- where no read failed, no fault was reported
+without_faults : (cs read : List Said) (told end : Result (Unit {0}) StreamError) (before after : ℕ) → (end ≢ Err Io) → Gives cs told before after read end → Gives cs told 0 0 read end
+without_faults cs read told (Ok done) before after none g = g
+without_faults cs read told (Err Io) before after none g = absurd (none refl)
+without_faults cs read told (Err NoMemory) before after none g = g
+without_faults cs read told (Err Cut) before after none g = g
+without_faults cs read told (Err WrongTag) before after none g = g
+without_faults cs read told (Err TooManySamples) before after none g = g
 
-pub copy_none : (stream : List ℕ) → (HasTag stream → ⊥) → IsReadOfCopy stream [] (Ok tt)
-copy_none [] none = record {
-  records = [];
-  records_end = Ok tt;
-  first = read_none [] (Ok tt) refl (λ same. cc same);
-  told = ((λ same. cc same), (λ same. cc same));
-  copied = refl;
-}
-copy_none (byte ∷ rest) none = record {
-  records = [];
-  records_end = Err WrongTag;
-  first = read_none (byte ∷ rest) (Err WrongTag) (record { byte = byte; rest = rest; other = λ is. none (omega arith, is); whole = refl }) (λ same. cc same);
-  told = ((λ same. cc same), (λ same. cc same));
-  copied = refl;
-}
-
-pub is_read : (stream given : List ℕ) (before after : ℕ) (read : List Said) (end : Result (Unit {0}) StreamError) → given ≡ stream → before ≡ 0
+pub is_read : (stream given : List ℕ) (before after : ℕ) (read : List Said) (end : Result (Unit {0}) StreamError) → given ≡ stream → (end ≢ Err Io)
     → BeginsWith read (StandsBehind end) given → AllByRecursion ReadingFits read
     → ((cs : List Said) (bytes tail : List ℕ) (told : Result (Unit {0}) StreamError) → AllByRecursion ReadingFits cs → SpellsStream cs bytes → IsEnd told tail
     → Some given ≡ Some (bytes ++ tail) → Gives cs told before after read end)
     → IsRead stream read end
-is_read stream given before after read end same zero stands fit all = record {
+is_read stream given before after read end same none stands fit all = record {
   stands = subst (BeginsWith read (StandsBehind end)) same stands;
   fit = fit;
-  all = λ cs bytes tail told fit_cs spelled is whole. (after, subst (λ faults. Gives cs told faults after read end) zero (all cs bytes tail told fit_cs spelled is (ap Some (same ∙ whole))));
+  no_fault = none;
+  all = λ cs bytes tail told fit_cs spelled is whole. without_faults cs read told end before after none (all cs bytes tail told fit_cs spelled is (ap Some (same ∙ whole)));
 }
+
+-- no record is there
+read_none : (stream : List ℕ) (end : Result (Unit {0}) StreamError) → StandsBehind end stream → (end ≢ Err Io) → IsRead stream [] end
+read_none stream end is none =
+    let stands : BeginsWith [] (StandsBehind end) stream = record { first = []; rest = stream; is_first = refl; is_rest = is; whole = refl } in
+    is_read stream stream 0 0 [] end refl none stands tt (λ cs bytes tail told fit spelled is_told whole. gives-all 0 0 cs [] fit tt told end (Some stream) bytes tail spelled is_told whole (λ fault. absurd (none fault)) stands)
+
+pub read_empty : IsRead [] [] (Ok tt)
+read_empty = read_none [] (Ok tt) refl (λ same. cc same)
+
+pub read_no_tag : (stream : List ℕ) → 0 < length stream → (HasTag stream → ⊥) → IsRead stream [] (Err WrongTag)
+read_no_tag [] some none = absurd (omega (arith, some))
+read_no_tag (byte ∷ rest) some none = read_none (byte ∷ rest) (Err WrongTag) (record { byte = byte; rest = rest; other = λ is. none (omega arith, is); whole = refl }) (λ same. cc same)
+
+pub copy_none : (stream : List ℕ) → (HasTag stream → ⊥) → IsReadOfCopy stream [] (Ok tt)
+copy_none [] none = record { records = []; records_end = Ok tt; first = read_empty; told = λ same. cc same; copied = refl }
+copy_none (byte ∷ rest) none = record { records = []; records_end = Err WrongTag; first = read_no_tag (byte ∷ rest) (omega arith) none; told = λ same. cc same; copied = refl }
+
+-- memory was refused
+pub read_refused : (rest stream : List ℕ) → HasTag stream → (command : Command) → Says (codes "read") rest command → Does command stream stream (Err Memory)
+read_refused rest stream has (Add d) says = let w : 114 ≡ 97 = ap (λ word. slice_index word 0) says.0 in absurd (omega (arith, w))
+read_refused rest stream has (Hex bytes) says = let w : 114 ≡ 104 = ap (λ word. slice_index word 0) says.0 in absurd (omega (arith, w))
+read_refused rest stream has (Cut len) says = let w : 114 ≡ 99 = ap (λ word. slice_index word 0) says.0 in absurd (omega (arith, w))
+read_refused rest stream has Read says = inr (has, (refl, refl))
+read_refused rest stream has Copy says = let w : 114 ≡ 99 = ap (λ word. slice_index word 0) says.0 in absurd (omega (arith, w))

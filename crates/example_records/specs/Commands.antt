@@ -100,7 +100,7 @@ abbrev pub HasSamples : List ℕ → Type 0
 HasSamples rest = HasStation rest × ((samples : List ℕ) × AreSamples (word_of (rest_of rest)) samples)
 
 -- The reason of a refusal, by the first word and what is after it. Memory is refused only if it is asked for: for what
--- is a record, or begins with a byte, or for a copy.
+-- is a record, or begins with a byte, or to read.
 abbrev pub Tells : (word rest : List ℕ) → CommandError → Type 0
 Tells word rest Text = ⊥
 Tells word rest Unknown = IsCommand word → ⊥
@@ -109,7 +109,7 @@ Tells word rest Samples = (word ≡ codes "add") × HasStation rest
 Tells word rest NoHex = word ≡ codes "hex"
 Tells word rest Length = word ≡ codes "cut"
 Tells word rest Words = (word ≡ codes "read") ⊎ (word ≡ codes "copy")
-Tells word rest Memory = ((word ≡ codes "add") × HasSamples rest) ⊎ (((word ≡ codes "hex") × HasByte rest) ⊎ (word ≡ codes "copy"))
+Tells word rest Memory = ((word ≡ codes "add") × HasSamples rest) ⊎ (((word ≡ codes "hex") × HasByte rest) ⊎ ((word ≡ codes "read") ⊎ (word ≡ codes "copy")))
 
 -- ---- what they do
 
@@ -122,24 +122,21 @@ abbrev pub IsOutOfMemory : (old new : List ℕ) → Answer → Type 0
 IsOutOfMemory old new answer = (answer ≡ Err Memory) × (new ≡ old)
 
 -- The records that are at the front of the stream were read, in order, and after them is what the end says.
--- If such records are there, just these were read, and their end was reported, as `Gives` says of a reader with these faults.
+-- If such records are there, just these were read, and their end was reported; or memory was refused, and the first ones were
+-- read. No read failed.
 pub record IsRead (stream : List ℕ) (read : List Said) (end : Result (Unit {0}) StreamError) : Type 0 where
   pub stands : BeginsWith read (StandsBehind end) stream
   pub fit : AllByRecursion ReadingFits read
+  pub no_fault : end ≢ Err Io
   pub all : (cs : List Said) (bytes tail : List ℕ) (told : Result (Unit {0}) StreamError)
-      → AllByRecursion ReadingFits cs → SpellsStream cs bytes → IsEnd told tail → stream ≡ bytes ++ tail
-      → (faults : ℕ) × Gives cs told 0 faults read end
-
--- the input ended the reading, and neither a fault of the reader nor a refusal of memory
-abbrev pub IsTold : Result (Unit {0}) StreamError → Type 0
-IsTold end = (end ≢ Err Io) × (end ≢ Err NoMemory)
+      → AllByRecursion ReadingFits cs → SpellsStream cs bytes → IsEnd told tail → stream ≡ bytes ++ tail → Gives cs told 0 0 read end
 
 -- the records of the stream were read, written to a new stream, and these were read of it
 pub record IsReadOfCopy (stream : List ℕ) (read : List Said) (end : Result (Unit {0}) StreamError) : Type 0 where
   pub records : List Said
   pub records_end : Result (Unit {0}) StreamError
   pub first : IsRead stream records records_end
-  pub told : IsTold records_end
+  pub told : records_end ≢ Err NoMemory
   pub copied : IsCopy records read end
 
 -- a record may begin here
@@ -147,12 +144,14 @@ abbrev pub HasTag : List ℕ → Type 0
 HasTag stream = (0 < length stream) × (slice_index stream 0 ≡ tag)
 
 -- What the command does to the stream, and what it answers. Memory may be refused for a record, for bytes if there are any,
--- and for the copy of a stream that has a tag at its start.
+-- and to read a stream that has a tag at its start, or its copy.
 abbrev pub Does : Command → (old new : List ℕ) → Answer → Type 0
 Does (Add c) old new answer = ((answer ≡ Ok None) × ((frame : List ℕ) × SpellsFrame c frame × (new ≡ old ++ frame))) ⊎ IsOutOfMemory old new answer
 Does (Hex bytes) old new answer = ((answer ≡ Ok None) × (new ≡ old ++ bytes)) ⊎ ((0 < length bytes) × IsOutOfMemory old new answer)
 Does (Cut len) old new answer = ((len ≤ length old) × (answer ≡ Ok None) × (new ≡ take len old)) ⊎ ((length old < len) × (answer ≡ Err Length) × (new ≡ old))
-Does Read old new answer = (new ≡ old) × ((recovered : Recovered) × (answer ≡ Ok (Some recovered)) × IsRead old (map said recovered.records.items) recovered.end)
+Does Read old new answer =
+    ((new ≡ old) × ((recovered : Recovered) × (answer ≡ Ok (Some recovered)) × IsRead old (map said recovered.records.items) recovered.end))
+    ⊎ (HasTag old × IsOutOfMemory old new answer)
 Does Copy old new answer =
     ((new ≡ old) × ((recovered : Recovered) × (answer ≡ Ok (Some recovered)) × IsReadOfCopy old (map said recovered.records.items) recovered.end))
     ⊎ (HasTag old × IsOutOfMemory old new answer)

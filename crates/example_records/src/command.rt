@@ -1,8 +1,8 @@
 //! The commands of the program.
-ghost use Rattle.std.specs.Prelude.{◌≡◌, ◌↔◌, ◌-◌, ◌^◌, ◌++◌, ℕ, List, Err, codes, length, map, min, IfErr, IfOk, OnErr, OnOk, IsTrue, IsUtf8, string_bytes};
+ghost use Rattle.std.specs.Prelude.{◌≡◌, ◌↔◌, ◌-◌, ◌^◌, ◌++◌, ℕ, List, [], Err, codes, length, map, min, IfErr, IfOk, OnErr, OnOk, IsTrue, IsUtf8, string_bytes};
 ghost use Rattle.std.specs.Option.{option_copied};
 ghost use Rattle.tinyvec_array.specs.ArrayVec.{items};
-ghost use Rattle.example_records.specs.Commands.{Answers, AreSamples, Commands, HasTag, IsCommand, IsMemoryOr, IsRecord, IsTold, Says, Tells};
+ghost use Rattle.example_records.specs.Commands.{Answers, AreSamples, Commands, HasTag, IsCommand, IsMemoryOr, IsRead, IsRecord, Says, Tells};
 ghost use Rattle.example_records.specs.Commands.{behind_comma, part_of, rest_of, word_of};
 ghost use Rattle.example_records.specs.Errors.{end_text};
 ghost use Rattle.example_stream.specs.Readings.{ReadingFits, Said, SamplesFit, said};
@@ -181,18 +181,43 @@ fn read(alloc: Global, rest: &str, stream: &[u8]) -> Result<Option<Recovered>, C
     ensures answers { Answers (Says (codes "read") rest.now) stream.now stream.now result }
     ensures tells { IfErr result (Tells (codes "read") rest.now) }
 {
-    if rest.is_empty() {
-        Ok(Some(read_all(alloc, &mut Counted::new(stream))))
-    } else {
-        Err(CommandError::Words)
+    if !rest.is_empty() {
+        return Err(CommandError::Words);
+    }
+    // Without a tag at its start a stream has no record, and to say so allocates nothing.
+    if stream.is_empty() {
+        return Ok(Some(no_records(alloc, Ok(()))));
+    }
+    if !has_tag(stream) {
+        return Ok(Some(no_records(alloc, Err(StreamError::WrongTag))));
+    }
+    match recover(alloc, stream) {
+        Ok(recovered) => Ok(Some(recovered)),
+        Err(_) => Err(CommandError::Memory),
     }
 }
 
-// Whether the input ended the reading.
-fn is_told(end: Result<(), StreamError>) -> bool
-    ensures { IsTrue result → IsTold end }
+// Reads the stream. No read of a slice fails, but the contract of a reader cannot state that: what would be a fault is told as
+// a refusal of memory.
+fn recover(alloc: Global, stream: &[u8]) -> Result<Recovered, AllocError>
+    ensures { IfOk result (λ recovered. IsRead stream.now (map said recovered.records.items) recovered.end) }
 {
-    !matches!(end, Err(StreamError::Io | StreamError::Memory))
+    let recovered = read_all(alloc, &mut Counted::new(stream));
+    match recovered.end {
+        Err(StreamError::Io) => Err(AllocError),
+        _ => Ok(recovered),
+    }
+}
+
+// What is read of a stream that has no record.
+fn no_records(alloc: Global, end: Result<(), StreamError>) -> Recovered
+    ensures records { result.records.items ≡ [] }
+    ensures end { result.end ≡ end }
+{
+    Recovered {
+        records: Vec::new(alloc),
+        end,
+    }
 }
 
 // Whether a record may begin the stream.
@@ -215,20 +240,25 @@ fn copy(alloc: Global, rest: &str, stream: &[u8]) -> Result<Option<Recovered>, C
     }
     // Without a tag at its start a stream has no record, so its copy is empty, and allocates nothing.
     if !has_tag(stream) {
-        return Ok(Some(Recovered {
-            records: Vec::new(alloc),
-            end: Ok(()),
-        }));
+        return Ok(Some(no_records(alloc, Ok(()))));
     }
-    let recovered = read_all(alloc, &mut Counted::new(stream));
-    // Both streams are in memory, so only a refusal of memory is a fault.
-    if !is_told(recovered.end) {
+    let Ok(recovered) = recover(alloc, stream) else {
+        return Err(CommandError::Memory);
+    };
+    if is_refused(recovered.end) {
         return Err(CommandError::Memory);
     }
     match copied(alloc, recovered.records.as_slice()) {
         Ok(copy) => Ok(Some(copy)),
         Err(_) => Err(CommandError::Memory),
     }
+}
+
+// Whether memory was refused.
+fn is_refused(end: Result<(), StreamError>) -> bool
+    ensures { IsTrue result ↔ (end ≡ Err StreamError.Memory) }
+{
+    matches!(end, Err(StreamError::Memory))
 }
 
 // The text becomes the line of a record.
