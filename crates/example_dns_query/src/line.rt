@@ -1,5 +1,6 @@
 //! A line that asks for a query.
-ghost use Rattle.std.specs.Prelude.{◌≡◌, ◌≢◌, ◌<◌, ◌≤◌, ◌^◌, ◌↔◌, ◌∷◌, [], ℕ, List, length, slice_index_or, IfSome, IfNone, IfOk, IsOk, OnErr, Err};
+ghost use Rattle.std.specs.Prelude.{◌≡◌, ◌≢◌, ◌<◌, ◌≤◌, ◌^◌, ◌↔◌, ◌∷◌, [], ℕ, List, length, slice_index_or, IfSome};
+ghost use Rattle.std.specs.Prelude.{IfNone, IfOk, IsOk, OnErr, Err};
 ghost use Rattle.example_dns_query.specs.Line.{words, word_of, IsDecimal, IsId, Asks, AsksFaulty, Answers};
 ghost use Rattle.example_dns_query.specs.Message.{query};
 ghost use Rattle.example_dns_query.specs.Name.{IsName, labels_of};

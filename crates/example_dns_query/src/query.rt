@@ -1,12 +1,15 @@
 //! A query in a lent slice.
-ghost use Rattle.std.specs.Prelude.{◌≡◌, ◌≢◌, ◌+◌, ◌<◌, ◌≤◌, ◌↔◌, ◌++◌, length, drop, ◌==◌, All, IsTrue, OnOk, IfOk, IsOk, OnErr, Some, None, Err};
+ghost use Rattle.std.specs.Prelude.{◌≡◌, ◌≢◌, ◌+◌, ◌<◌, ◌≤◌, ◌↔◌, ◌++◌, length, drop, ◌==◌, All, IsTrue, OnOk, IfOk};
+ghost use Rattle.std.specs.Prelude.{IsOk, OnErr, Some, None, Err};
 ghost use Rattle.std.specs.List.{flat_map};
 ghost use Rattle.std.specs.Option.{option_copied};
 ghost use Rattle.tinyvec_array.specs.SliceVec.{slice_spare};
 ghost use Rattle.tinyvec_array.specs.Appends.{Appends};
 ghost use Rattle.example_dns_query.specs.Message.{two_bytes, header, type_and_class, query};
-ghost use Rattle.example_dns_query.specs.Name.{IsPrinted, IsLabel, IsName, SpellsOnly, body_of as body_in, labels_in, labels_of, first_fault, label_wire, name_wire};
-ghost use Rattle.example_dns_query.specs.declared.query.QueryError.TheVariants.{BadByte, EmptyLabel, LongLabel, LongName, Full};
+ghost use Rattle.example_dns_query.specs.Name.{IsPrinted, IsLabel, IsName, SpellsOnly, body_of as body_in, labels_in};
+ghost use Rattle.example_dns_query.specs.Name.{labels_of, first_fault, label_wire, name_wire};
+ghost use Rattle.example_dns_query.specs.declared.query.QueryError.TheVariants.{BadByte, EmptyLabel, LongLabel};
+ghost use Rattle.example_dns_query.specs.declared.query.QueryError.TheVariants.{LongName, Full};
 
 use crate::parts::first_part;
 use crate::record_type::{RecordType, code};

@@ -1,10 +1,12 @@
 //! A text that is answered line by line.
-ghost use Rattle.std.specs.Prelude.{◌≡◌, ◌⊎◌, ◌≤◌, ◌-◌, ◌^◌, ◌++◌, ◌∷◌, [], List, ℕ, true, length, IfSome, IfNone, OnOk, OnErr, IsErrOf, map};
+ghost use Rattle.std.specs.Prelude.{◌≡◌, ◌⊎◌, ◌≤◌, ◌-◌, ◌^◌, ◌++◌, ◌∷◌, [], List, ℕ, true, length, IfSome, IfNone};
+ghost use Rattle.std.specs.Prelude.{OnOk, OnErr, IsErrOf, map};
 ghost use Rattle.std.specs.Io.KnownBytes.{Appends, Consumes, IsAtEnd, Keeps};
 ghost use Rattle.std.specs.Str.Lines.{strip_carriage_return};
 ghost use Rattle.tinyvec_io.specs.Counted.{AppendsFront, CountsEnds, Reported};
 ghost use Rattle.tinyvec_io.specs.Lines.{IsLine, last_line};
-ghost use Rattle.example_lines.specs.Answers.{Advances, AdvancesSome, AnsweredSome, AnswersAs, AnswersEach, AnswersUpTo, AppendsAnswer, IsAnswered};
+ghost use Rattle.example_lines.specs.Answers.{Advances, AdvancesSome, AnsweredSome, AnswersAs, AnswersEach};
+ghost use Rattle.example_lines.specs.Answers.{AnswersUpTo, AppendsAnswer, IsAnswered};
 ghost use Rattle.example_lines.specs.Stops.{Reports, is_input, is_output};
 ghost use Rattle.std.specs.declared.io.Error.{Error as IoError};
 

@@ -1,8 +1,10 @@
 //! The commands of the program.
-ghost use Rattle.std.specs.Prelude.{◌≡◌, ◌↔◌, ◌-◌, ◌^◌, ◌++◌, ℕ, List, [], Err, codes, length, map, min, IfErr, IfOk, OnErr, OnOk, IsTrue, IsUtf8, string_bytes};
+ghost use Rattle.std.specs.Prelude.{◌≡◌, ◌↔◌, ◌-◌, ◌^◌, ◌++◌, ℕ, List, [], Err, codes, length, map, min, IfErr, IfOk};
+ghost use Rattle.std.specs.Prelude.{OnErr, OnOk, IsTrue, IsUtf8, string_bytes};
 ghost use Rattle.std.specs.Option.{option_copied};
 ghost use Rattle.tinyvec_array.specs.ArrayVec.{items};
-ghost use Rattle.example_records.specs.Commands.{Answers, AreSamples, Commands, HasTag, IsCommand, IsMemoryOr, IsRead, IsRecord, Says, Tells};
+ghost use Rattle.example_records.specs.Commands.{Answers, AreSamples, Commands, HasTag, IsCommand, IsMemoryOr, IsRead};
+ghost use Rattle.example_records.specs.Commands.{IsRecord, Says, Tells};
 ghost use Rattle.example_records.specs.Commands.{behind_comma, part_of, rest_of, word_of};
 ghost use Rattle.example_records.specs.Errors.{end_text};
 ghost use Rattle.example_stream.specs.Readings.{ReadingFits, Said, SamplesFit, said};

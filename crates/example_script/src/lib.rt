@@ -6,7 +6,8 @@ pub mod runs;
 ghost use Rattle.std.specs.Prelude.{◌≡◌, ◌⊎◌, IfOk};
 ghost use Rattle.tinyvec_io.specs.Lines.{ended};
 ghost use Rattle.tinyvec_script.specs.Script.{Script};
-ghost use Rattle.example_script.specs.Scripts.{three, three_answers, bad_and_text, bad_and_text_answers, spliced, spliced_answers, refused_answers};
+ghost use Rattle.example_script.specs.Scripts.{three, three_answers, bad_and_text, bad_and_text_answers, spliced};
+ghost use Rattle.example_script.specs.Scripts.{spliced_answers, refused_answers};
 
 use std::alloc::Global;
 use tinyvec_io::Counted;

@@ -1,5 +1,6 @@
 //! `Reading`, and its Borsh form.
-ghost use Rattle.example_stream.specs.Readings.{ReadingFits, ReadingReason, Said, SpellsReading, reading_apart, reading_code, reading_spelled, said};
+ghost use Rattle.example_stream.specs.Readings.{ReadingFits, ReadingReason, Said, SpellsReading, reading_apart};
+ghost use Rattle.example_stream.specs.Readings.{reading_code, reading_spelled, said};
 
 use std::alloc::Global;
 use std::io::{Read, Write};

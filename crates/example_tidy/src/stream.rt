@@ -6,7 +6,8 @@ ghost use Rattle.tinyvec.specs.TinyVec.{tiny_items, tiny_capacity};
 ghost use Rattle.tinyvec_io.specs.Counted.{CountsEnds, CountsFailed, Reported};
 ghost use Rattle.std.specs.declared.io.Error.{Error as IoError};
 ghost use Rattle.example_tidy.specs.Failed.{is_read, is_write};
-ghost use Rattle.example_tidy.specs.Tidy.{Advances, AllShort, Ends, EndsBeforeLong, EndsSome, IsBegun, IsShort, Tidied, TidiedBeforeLong, TidiedUpTo};
+ghost use Rattle.example_tidy.specs.Tidy.{Advances, AllShort, Ends, EndsBeforeLong, EndsSome, IsBegun, IsShort, Tidied};
+ghost use Rattle.example_tidy.specs.Tidy.{TidiedBeforeLong, TidiedUpTo};
 
 use crate::line::LineText;
 use crate::text::{end_text, feed};

@@ -1,5 +1,6 @@
 //! The normal form of a whole text.
-ghost use Rattle.std.specs.Prelude.{◌≡◌, ◌+◌, ◌-◌, ◌<◌, ◌≤◌, ◌++◌, ◌∷◌, [], List, ℕ, map, length, IsOk, IfOk, IfSome, IfNone, OnOk, OnErr};
+ghost use Rattle.std.specs.Prelude.{◌≡◌, ◌+◌, ◌-◌, ◌<◌, ◌≤◌, ◌++◌, ◌∷◌, [], List, ℕ, map, length, IsOk, IfOk, IfSome};
+ghost use Rattle.std.specs.Prelude.{IfNone, OnOk, OnErr};
 ghost use Rattle.std.specs.Str.Lines.{lines};
 ghost use Rattle.tinyvec.specs.TinyVec.{tiny_items, tiny_len, tiny_capacity};
 ghost use Rattle.tinyvec_io.specs.Lines.{IsLine, ended};

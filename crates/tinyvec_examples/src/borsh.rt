@@ -56,7 +56,8 @@ pub fn copied_lists<A: Array, const N: usize>(
 where
     A::Item: BorshSerialize + BorshDeserialize,
     requires { TellsApart A.Item.content_of }
-    ensures same { IfOk result (λ w. map (λ v. (slots_view A.Slots v).items) (tiny_items w) ≡ map (λ v. (slots_view A.Slots v).items) (tiny_items v.now)) }
+    ensures same { IfOk result (λ w. map (λ v. (slots_view A.Slots v).items) (tiny_items w)
+        ≡ map (λ v. (slots_view A.Slots v).items) (tiny_items v.now)) }
     ensures err { IfErr result (λ e. (e ≡ BorshError.Io) ⊎ (e ≡ BorshError.Memory)) }
 {
     copied(alloc, v)

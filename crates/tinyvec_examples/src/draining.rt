@@ -27,7 +27,8 @@ pub fn nth_of<A: Array, R: RangeBounds<usize>>(
     requires not_exhausted { R.has_bounds range }
     requires in_list { IsRangeOf (view A.Slots v.old).items (R.start_bound range) (R.end_bound range) }
     ensures item { result ≡ slice_get (items_within (view A.Slots v.old).items (R.start_bound range) (R.end_bound range)) n }
-    ensures left { (view A.Slots v.new).items ≡ items_before (view A.Slots v.old).items (R.start_bound range) ++ items_after (view A.Slots v.old).items (R.end_bound range) }
+    ensures left { (view A.Slots v.new).items
+        ≡ items_before (view A.Slots v.old).items (R.start_bound range) ++ items_after (view A.Slots v.old).items (R.end_bound range) }
 {
     let mut d = v.drain(range);
     d.nth(n)

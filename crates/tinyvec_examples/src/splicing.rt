@@ -1,5 +1,6 @@
 //! Callers of a splice.
-ghost use Rattle.std.specs.Prelude.{◌≡◌, ◌≤◌, ◌+◌, ◌-◌, ◌++◌, ◌∷◌, [], List, length, take, drop, max, IsOk, OnOk, OnErr, IfErr, ◌↔◌};
+ghost use Rattle.std.specs.Prelude.{◌≡◌, ◌≤◌, ◌+◌, ◌-◌, ◌++◌, ◌∷◌, [], List, length, take, drop, max, IsOk, OnOk};
+ghost use Rattle.std.specs.Prelude.{OnErr, IfErr, ◌↔◌};
 ghost use Rattle.std.specs.Iterator.Adapters.{fuse_steps};
 ghost use Rattle.tinyvec_array.specs.ArrayVec.{view_of};
 ghost use Rattle.tinyvec_array.specs.View.{view};
@@ -43,7 +44,8 @@ pub fn replace<A: Array, I: DoubleEndedIterator<Item = A::Item>>(
     requires can { (s : I) → I.can_next s × I.can_next_back s }
     ensures list { (rest : I → List A.Item) → HasTwoEnds I.next_gives I.next_back_gives rest
         → (IsOk result ↔ (start + length (rest replacement) + (length (view A.Slots vec.old).items - end) ≤ A.CAPACITY))
-        × OnOk result ((view A.Slots vec.new).items ≡ take start (view A.Slots vec.old).items ++ rest replacement ++ drop end (view A.Slots vec.old).items)
+        × OnOk result ((view A.Slots vec.new).items
+        ≡ take start (view A.Slots vec.old).items ++ rest replacement ++ drop end (view A.Slots vec.old).items)
         × IfErr result
         (λ refused. IsSpliceRefused (front ∷ back ∷ []) (end - start)
         (take start (view A.Slots vec.old).items) (drop end (view A.Slots vec.old).items) (rest replacement)
@@ -72,7 +74,8 @@ pub fn touches_of_replace<A: Array, I: DoubleEndedIterator<Item = A::Item>>(
     ensures kept { length (view A.Slots vec.old).items - (end - start) ≤ length (view A.Slots vec.new).items }
     ensures at_least { length (given_items (result.0 ∷ result.1 ∷ []))
         + (length (view A.Slots vec.new).items - (length (view A.Slots vec.old).items - (end - start))) ≤ result.2 }
-    ensures at_most { result.2 ≤ (end - start) + (length (view A.Slots vec.new).items - (length (view A.Slots vec.old).items - (end - start)))
+    ensures at_most { result.2
+        ≤ (end - start) + (length (view A.Slots vec.new).items - (length (view A.Slots vec.old).items - (end - start)))
         + max (length (view A.Slots vec.old).items) (length (view A.Slots vec.new).items) }
 {
     let mut splice = vec.splice(start..end, replacement);

@@ -3,7 +3,8 @@ ghost use Rattle.std.specs.Prelude.{◌++◌, codes};
 ghost use Rattle.std.specs.List.{flat_map};
 ghost use Rattle.std.specs.Fmt.{decimal, signed_decimal};
 ghost use Rattle.tinyvec_script.specs.Writes.{Gathers};
-ghost use Rattle.tinyvec_script.specs.Text.{list_text, answer_text, state_text, place_text, place_state_text, text_state_text};
+ghost use Rattle.tinyvec_script.specs.Text.{list_text, answer_text, state_text, place_text, place_state_text};
+ghost use Rattle.tinyvec_script.specs.Text.{text_state_text};
 
 use crate::Answer;
 use crate::gathered::Gathered;

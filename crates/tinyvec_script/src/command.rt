@@ -1,5 +1,6 @@
 //! The command that a line spells.
-ghost use Rattle.std.specs.Prelude.{◌≡◌, ◌≢◌, ◌<◌, ◌≤◌, ◌^◌, ◌++◌, ◌∷◌, List, ℕ, ℤ, length, codes, MatchOption, IfSome, IfNone, All};
+ghost use Rattle.std.specs.Prelude.{◌≡◌, ◌≢◌, ◌<◌, ◌≤◌, ◌^◌, ◌++◌, ◌∷◌, List, ℕ, ℤ, length, codes, MatchOption, IfSome};
+ghost use Rattle.std.specs.Prelude.{IfNone, All};
 ghost use Rattle.std.specs.Fmt.{decimal};
 ghost use Rattle.tinyvec_script.specs.Command.{IsCall, IsNoSplice, Has, HasSplice};
 ghost use Rattle.tinyvec_script.specs.Spelled.{Spells, SpellsFor};

@@ -1,5 +1,6 @@
 //! A splice whose items are taken from the ends that a word names.
-ghost use Rattle.std.specs.Prelude.{◌≡◌, ◌+◌, ◌<◌, ◌≤◌, ◌∷◌, ◌++◌, [], List, Option, length, IfOk, IfErr, OnErr, vec_len, vec_capacity};
+ghost use Rattle.std.specs.Prelude.{◌≡◌, ◌+◌, ◌<◌, ◌≤◌, ◌∷◌, ◌++◌, [], List, Option, length, IfOk, IfErr, OnErr};
+ghost use Rattle.std.specs.Prelude.{vec_len, vec_capacity};
 ghost use Rattle.std.specs.Iterator.Adapters.{fuse_steps};
 ghost use Rattle.std.specs.Vec.Iter.{into_iter_items, into_iter_steps, into_iter_steps_back};
 ghost use Rattle.tinyvec_slots.specs.Ends.{RunsWord, given_items};

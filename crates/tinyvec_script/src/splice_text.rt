@@ -1,5 +1,6 @@
 //! The text of a splice.
-ghost use Rattle.std.specs.Prelude.{◌≡◌, ◌≢◌, ◌+◌, ◌*◌, ◌<◌, ◌≤◌, ◌^◌, ◌++◌, [], List, ℕ, ℤ, All, length, false, IsTrue, MatchOption, IfOk, OnErr, FitsSigned};
+ghost use Rattle.std.specs.Prelude.{◌≡◌, ◌≢◌, ◌+◌, ◌*◌, ◌<◌, ◌≤◌, ◌^◌, ◌++◌, [], List, ℕ, ℤ, All, length, false};
+ghost use Rattle.std.specs.Prelude.{IsTrue, MatchOption, IfOk, OnErr, FitsSigned};
 ghost use Rattle.std.specs.Int.{w32};
 ghost use Rattle.tinyvec_array.specs.ArrayVec.{items, items_len};
 ghost use Rattle.tinyvec_script.specs.Command.{letter_code, word_text, numbers_text, splice_text};

@@ -1,5 +1,6 @@
 //! `InlineText`.
-ghost use Rattle.std.specs.Prelude.{◌≡◌, ◌<◌, ◌≤◌, ◌==◌, ◌↔◌, [], drop, All, true, false, IsTrue, IsOk, IsSome, IfOk, IfErr, IfSome, MatchResult, encode_utf8_all, IsUtf8, if◌then◌else◌};
+ghost use Rattle.std.specs.Prelude.{◌≡◌, ◌<◌, ◌≤◌, ◌==◌, ◌↔◌, [], drop, All, true, false, IsTrue, IsOk, IsSome, IfOk};
+ghost use Rattle.std.specs.Prelude.{IfErr, IfSome, MatchResult, encode_utf8_all, IsUtf8, if◌then◌else◌};
 ghost use Rattle.std.specs.Str.{valid_up_to, error_len};
 ghost use Rattle.std.specs.Str.Lossy.{utf8_valid_len, utf8_error_len};
 ghost use Rattle.std.specs.String.{string_bytes, string_capacity};

@@ -57,7 +57,8 @@ where
             (map A.Item.content_of (view A.Slots v).items)) }
         ensures fails { FailsFor R.remaining (ListReason A.Item.Spells A.Item.Fits A.Item.Reason (λ _. ⊥) A.CAPACITY)
             reader.old reader.new result }
-        ensures spare { IfOk result (λ v. AreDefaults A.Item.is_default (A.CAPACITY - length (view A.Slots v).items) (view A.Slots v).spare) }
+        ensures spare { IfOk result (λ v.
+            AreDefaults A.Item.is_default (A.CAPACITY - length (view A.Slots v).items) (view A.Slots v).spare) }
         ensures rest { IfErr result (LeavesRest A.Item.Spells
             (InItem A.Item.Spells A.Item.Fits (A.Item.Reason BorshError.InvalidLength) A.CAPACITY) A.CAPACITY
             (R.remaining reader.old.inner) (R.remaining reader.new.inner)) }

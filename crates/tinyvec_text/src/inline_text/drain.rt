@@ -1,5 +1,6 @@
 //! The characters of a range, which are removed.
-ghost use Rattle.std.specs.Prelude.{◌≡◌, ℕ, ◌≤◌, ◌++◌, List, length, drop, codes, MatchOption, Some, IsOk, IfOk, IfSome, OnOk, OnErr, chars, encode_utf8};
+ghost use Rattle.std.specs.Prelude.{◌≡◌, ℕ, ◌≤◌, ◌++◌, List, length, drop, codes, MatchOption, Some, IsOk, IfOk};
+ghost use Rattle.std.specs.Prelude.{IfSome, OnOk, OnErr, chars, encode_utf8};
 ghost use Rattle.std.specs.Fmt.{debug_str, debug_variant};
 ghost use Rattle.std.specs.Int.{div_ceil};
 ghost use Rattle.std.specs.Iterator.{at_most, UpTo};

@@ -1,9 +1,13 @@
 //! Text that is pushed, popped, inserted, removed, replaced and cut off.
-ghost use Rattle.std.specs.Prelude.{◌≡◌, ◌+◌, ◌-◌, ◌%◌, ◌<◌, ◌≤◌, ◌++◌, ◌∷◌, [], ◌↔◌, length, min, max, false, IsTrue, IsOk, IfOk, OnOk, OnErr, chars, encode_utf8, ℕ, List, take, drop, All, IsSome, IfSome, IfNone, IsUtf8, slice_index};
+ghost use Rattle.std.specs.Prelude.{◌≡◌, ◌+◌, ◌-◌, ◌%◌, ◌<◌, ◌≤◌, ◌++◌, ◌∷◌, [], ◌↔◌, length, min, max, false, IsTrue};
+ghost use Rattle.std.specs.Prelude.{IsOk, IfOk, OnOk, OnErr, chars, encode_utf8, ℕ, List, take, drop, All, IsSome};
+ghost use Rattle.std.specs.Prelude.{IfSome, IfNone, IsUtf8, slice_index};
 ghost use Rattle.std.specs.Char.{IsScalar};
 ghost use Rattle.tinyvec.specs.View.{Reserved, Exact, Becomes};
 ghost use Rattle.tinyvec.specs.TinyVec.{tiny_items, tiny_len, tiny_spare, tiny_view};
-ghost use Rattle.tinyvec_text.specs.InlineText.{text_chars, text_len, TextGrows, TextPushes, TextReserves, TextShrinks, TextStaysInPlace, TextBecomes, TextKeepsFront, TextMadeFor, IsTextTail, IsFirstChar, SplitsAt};
+ghost use Rattle.tinyvec_text.specs.InlineText.{text_chars, text_len, TextGrows, TextPushes, TextReserves, TextShrinks};
+ghost use Rattle.tinyvec_text.specs.InlineText.{TextStaysInPlace, TextBecomes, TextKeepsFront, TextMadeFor, IsTextTail};
+ghost use Rattle.tinyvec_text.specs.InlineText.{IsFirstChar, SplitsAt};
 ghost use Rattle.tinyvec_slots.specs.Ranges.{range_start, range_end, items_before, items_within, items_after};
 ghost use Rattle.std.specs.String.Boundary.{IsSplitPoint};
 

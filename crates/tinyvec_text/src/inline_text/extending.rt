@@ -1,5 +1,6 @@
 //! The characters and texts of an iterator.
-ghost use Rattle.std.specs.Prelude.{◌≡◌, ℕ, ◌+◌, ◌<◌, ◌≤◌, ◌++◌, List, length, ⊤, IsOk, IfOk, OnErr, Some, encode_utf8, encode_utf8_all};
+ghost use Rattle.std.specs.Prelude.{◌≡◌, ℕ, ◌+◌, ◌<◌, ◌≤◌, ◌++◌, List, length, ⊤, IsOk, IfOk, OnErr, Some, encode_utf8};
+ghost use Rattle.std.specs.Prelude.{encode_utf8_all};
 ghost use Rattle.std.specs.List.{flat_map};
 ghost use Rattle.std.specs.Iterator.{IsFinite, HoldsAlong, YieldsThen, DrainsIf, ExtendsWithItems};
 ghost use Rattle.tinyvec_slots.specs.Filling.{IntoIterYields};

@@ -1,10 +1,12 @@
 //! Empty texts, clones, comparisons, hashes, printing and writing.
-ghost use Rattle.std.specs.Prelude.{◌≡◌, ◌⊎◌, [], false, IsTrue, IsOk, IfOk, MatchResult, Some, nat_eq, refl, ◌+◌, ◌++◌, length, chars};
+ghost use Rattle.std.specs.Prelude.{◌≡◌, ◌⊎◌, [], false, IsTrue, IsOk, IfOk, MatchResult, Some, nat_eq, refl, ◌+◌};
+ghost use Rattle.std.specs.Prelude.{◌++◌, length, chars};
 ghost use Rattle.tinyvec.specs.View.{Reserved, in_array};
 ghost use Rattle.tinyvec_text.specs.InlineText.{IsTextClone, text_chars, text_len, TextGrows};
 ghost use Rattle.std.specs.Ordering.{nat_cmp};
 ghost use Rattle.std.specs.Cmp.{on_equiv, on_total, on_po, on_per, partial_equiv_from_equiv};
-ghost use Rattle.std.specs.Cmp.Lexicographic.{pointwise, slice_cmp, nat_list_eq_equiv, nat_list_cmp_total, texts_po, texts_ties};
+ghost use Rattle.std.specs.Cmp.Lexicographic.{pointwise, slice_cmp, nat_list_eq_equiv, nat_list_cmp_total, texts_po};
+ghost use Rattle.std.specs.Cmp.Lexicographic.{texts_ties};
 ghost use Rattle.std.specs.Cmp.Rules.{hashing};
 ghost use Rattle.std.proofs.Common.{rules};
 ghost use Rattle.std.specs.Fmt.{debug_str};
