@@ -1,4 +1,4 @@
-use Rattle.std.proofs.Common.{◌≡◌, ◌≢◌, [], Ok, Err, refl, rules, length, map}
+use Rattle.std.proofs.Common.{◌≡◌, ◌≢◌, Err, refl, rules, length, map}
 use Rattle.std.proofs.lemmas.List.{nil_from_length}
 use Rattle.example_records.specs.Commands.{HasTag, IsRead, IsReadOfCopy}
 use Rattle.example_records.specs.Commands.Command.{Copy}
