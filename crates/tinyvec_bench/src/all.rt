@@ -4,8 +4,8 @@ ghost use Rattle.std.specs.Prelude.{◌*◌, ◌^◌, ◌<◌};
 use crate::calls::{Call, Calls, Grown, Lists, Owned, Word, of_items, of_numbers, of_owned};
 use crate::form::of_forms;
 use crate::items::{Item, Node, part_of, runs_of};
-use crate::looks::{Look, Looks, of_looks};
-use crate::report::{Bench, Report, rows, run};
+use crate::looks::{compare_first, of_looks};
+use crate::report::{Report, rows, run};
 use crate::texts::{TextCall, Texts, letters_of, of_text};
 use std::alloc::Global;
 use std::hash::Hash;
@@ -17,12 +17,9 @@ macro_rules! at {
     ($rows:ident $report:ident $runs:ident, $list:ident $new:ident $from:tt $item:ty: $($n:literal)+) => {
         $($rows(
             $report,
-            $n,
-            &mut Lists {
-                vec: &mut $list::<[$item; $n]>::$new $from,
-                other: &mut $list::<[$item; $n]>::$new $from,
-                source: part_of($runs, 0, $n),
-            },
+            &mut $list::<[$item; $n]>::$new $from,
+            &mut $list::<[$item; $n]>::$new $from,
+            part_of($runs, 0, $n),
         );)+
     };
 }
@@ -59,69 +56,98 @@ fn of_other_items<R: Report>(report: &mut R, alloc: Global) {
     let runs = runs_of::<u32>(alloc, 64);
     let numbers = runs.as_slice();
     report.set_prefix("u32_");
-    at!(of_items report numbers, ArrayVec new() u32: 16 64);
+    at!(of_any report numbers, ArrayVec new() u32: 16 64);
     report.set_prefix("tiny_u32_");
-    at!(of_items report numbers, TinyVec new(alloc) u32: 16 64);
+    at!(of_any report numbers, TinyVec new(alloc) u32: 16 64);
     let runs = runs_of::<(u64, u64)>(alloc, 64);
     let pairs = runs.as_slice();
     report.set_prefix("pairs_");
-    at!(of_items report pairs, ArrayVec new() (u64, u64): 16 64);
+    at!(of_any report pairs, ArrayVec new() (u64, u64): 16 64);
     report.set_prefix("tiny_pairs_");
-    at!(of_items report pairs, TinyVec new(alloc) (u64, u64): 16 64);
+    at!(of_any report pairs, TinyVec new(alloc) (u64, u64): 16 64);
     let runs = runs_of::<Node>(alloc, 64);
     let nodes = runs.as_slice();
     report.set_prefix("nodes_");
-    at!(of_items report nodes, ArrayVec new() Node: 4 16 64);
+    at!(of_any report nodes, ArrayVec new() Node: 4 16 64);
     report.set_prefix("tiny_nodes_");
-    at!(of_items report nodes, TinyVec new(alloc) Node: 4 16 64);
+    at!(of_any report nodes, TinyVec new(alloc) Node: 4 16 64);
 }
 
-fn of_bytes<R: Report, V: Calls<Call, u8> + Calls<Owned, u8> + Hash + PartialOrd + Drop>(
+// Items that may need a drop.
+fn of_any<'v, R: Report, T: Item, V: Calls<Call, T> + Calls<Owned, T> + Drop>(
     report: &mut R,
-    n: usize,
-    lists: &mut Lists<'_, V, u8>,
+    vec: &'v mut V,
+    other: &'v mut V,
+    source: &'v [T],
 ) {
-    of_items(report, n, lists);
-    looks(report, n, lists);
+    of_items(report, source.len(), &mut Lists { vec, other, source });
+}
+
+fn of_bytes<'v, R: Report, V: Calls<Call, u8> + Calls<Owned, u8> + Hash + PartialOrd + Drop>(
+    report: &mut R,
+    vec: &'v mut V,
+    other: &'v mut V,
+    source: &'v [u8],
+) {
+    of_any(report, vec, other, source);
+    looks(report, vec, other, source);
 }
 
 // Of numbers, in a vector that owns its slots.
 fn of_owner<
+    'v,
     R: Report,
     V: Calls<Call, u64> + Calls<Word, u64> + Calls<Owned, u64> + Hash + PartialOrd + Drop,
->(report: &mut R, n: usize, lists: &mut Lists<'_, V, u64>) {
+>(report: &mut R, vec: &'v mut V, other: &'v mut V, source: &'v [u64]) {
+    of_made(report, vec, other, source);
+    of_heap(report, vec, other, source);
+    looks(report, vec, other, source);
+}
+
+fn of_heap<'v, R: Report, V: Calls<Call, u64> + Calls<Word, u64> + Calls<Owned, u64> + Drop>(
+    report: &mut R,
+    vec: &'v mut V,
+    other: &'v mut V,
+    source: &'v [u64],
+) {
+    let n = source.len();
+    let mut lists = Lists { vec, other, source };
+    of_owned(report, n, &mut lists);
+    of_numbers(report, n, &mut lists);
+}
+
+// Those that make a list.
+fn of_made<'v, R: Report, V: Calls<Owned, u64> + Drop>(
+    report: &mut R,
+    vec: &'v mut V,
+    other: &'v mut V,
+    source: &'v [u64],
+) {
+    let n = source.len();
+    let lists = &mut Lists { vec, other, source };
     if n <= 64 {
         run(report, "two_pushes", n, Owned::TwoPushes, lists);
     }
     run(report, "into_iter", n, Owned::IntoIter, lists);
-    of_heap(report, n, lists);
-    looks(report, n, lists);
-}
-
-fn of_heap<R: Report, S: Bench<Call> + Bench<Word> + Bench<Owned>>(
-    report: &mut R,
-    n: usize,
-    lists: &mut S,
-) {
-    of_owned(report, n, lists);
-    of_numbers(report, n, lists);
 }
 
 // Out of four slots.
 fn of_long<R: Report>(report: &mut R, alloc: Global, numbers: &[u64]) {
+    let n = numbers.len();
+    let mut vec = TinyVec::<[u64; 4]>::new(alloc);
+    let mut other = TinyVec::<[u64; 4]>::new(alloc);
     let lists = &mut Lists {
-        vec: &mut TinyVec::<[u64; 4]>::new(alloc),
-        other: &mut TinyVec::<[u64; 4]>::new(alloc),
+        vec: &mut vec,
+        other: &mut other,
         source: numbers,
     };
-    let n = numbers.len();
     rows!(report, n, lists:
         "push" Grown::Push,
         "from_iter" Grown::FromIter,
         "reserve_and_extend" Grown::ReserveAndExtend,
         "reserve_and_shrink" Grown::ReserveAndShrink,
     );
-    of_owner(report, n, lists);
+    of_owner(report, &mut vec, &mut other, numbers);
 }
 
 fn of_slice<R: Report, const N: usize>(report: &mut R, numbers: &[u64])
@@ -148,29 +174,16 @@ fn of_any_slots<'v, R: Report, S: TakesClones<Item = u64>>(
 // A list beside one that is equal, and beside one whose first item is higher.
 fn looks<R: Report, T: Item, V: Calls<Call, T> + Hash + PartialOrd + Drop>(
     report: &mut R,
-    n: usize,
-    lists: &mut Lists<'_, V, T>,
+    vec: &mut V,
+    other: &mut V,
+    source: &[T],
 ) {
-    lists.round(Call::ExtendFromSlice, 0);
-    lists
-        .other
-        .call(lists.vec, lists.source, Call::ExtendFromSlice, 0);
-    let both = &mut Looks {
-        list: &*lists.vec,
-        other: &*lists.other,
-    };
-    of_looks(report, n, both);
-    lists.other.call(
-        lists.vec,
-        part_of(lists.source, 2, n),
-        Call::ExtendFromSlice,
-        0,
-    );
-    let both = &mut Looks {
-        list: &*lists.vec,
-        other: &*lists.other,
-    };
-    run(report, "compare_first", n, Look::Compare, both);
+    let n = source.len();
+    vec.call(other, source, Call::ExtendFromSlice, 0);
+    other.call(vec, source, Call::ExtendFromSlice, 0);
+    of_looks(report, n, vec, other);
+    other.call(vec, part_of(source, 2, n), Call::ExtendFromSlice, 0);
+    compare_first(report, n, vec, other);
 }
 
 // In an array and on the heap.

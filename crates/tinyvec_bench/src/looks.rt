@@ -1,6 +1,6 @@
 //! Vectors and texts that are compared and hashed, each as a whole.
 
-use crate::report::{Bench, Report, rows};
+use crate::report::{Bench, Report, rows, run};
 use std::hash::{DefaultHasher, Hash, Hasher};
 
 /// What is done with a list.
@@ -13,9 +13,9 @@ pub enum Look {
 
 /// A list, and one that it is compared to.
 #[derive(Drop)]
-pub struct Looks<'a, V> {
-    pub list: &'a V,
-    pub other: &'a V,
+struct Looks<'a, V> {
+    list: &'a V,
+    other: &'a V,
 }
 
 impl<V: PartialOrd + Hash> Bench<Look> for Looks<'_, V> {
@@ -30,12 +30,29 @@ impl<V: PartialOrd + Hash> Bench<Look> for Looks<'_, V> {
 }
 
 /// The rows of a list and one that is equal to it.
-pub fn of_looks<R: Report, S: Bench<Look>>(report: &mut R, n: usize, looks: &mut S) {
+pub fn of_looks<'v, R: Report, V: PartialOrd + Hash>(
+    report: &mut R,
+    n: usize,
+    list: &'v V,
+    other: &'v V,
+) {
+    let looks = &mut Looks { list, other };
     rows!(report, n, looks:
         "equal" Look::Equal,
         "compare" Look::Compare,
         "hash" Look::Hash,
     );
+}
+
+/// The row of a list and one whose first item is higher.
+pub fn compare_first<'v, R: Report, V: PartialOrd + Hash>(
+    report: &mut R,
+    n: usize,
+    list: &'v V,
+    other: &'v V,
+) {
+    let looks = &mut Looks { list, other };
+    run(report, "compare_first", n, Look::Compare, looks);
 }
 
 // Those that only look use the round's number, or LLVM would look once for all rounds.

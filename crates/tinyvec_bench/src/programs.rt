@@ -15,7 +15,11 @@ const MOST: usize = 1000;
 pub fn answer_graphs<R: Runtime>(rt: &R, alloc: Global) -> io::Result<()> {
     let edges = edges_of(alloc, MOST)?;
     for line in rt.lines(rt.alloc()) {
-        let count = number_of(line?.as_str()).saturating_mul(3);
+        let count = line?
+            .as_str()
+            .parse::<usize>()
+            .unwrap_or(1)
+            .saturating_mul(3);
         let some = &edges.as_slice()[..count.min(edges.len())];
         println!(rt; "{}", graph(alloc, some, MOST, 0)?)?;
     }
@@ -27,17 +31,9 @@ pub fn answer_edits<R: Runtime>(rt: &R, alloc: Global) -> io::Result<()> {
     let source = runs_of::<u64>(alloc, MOST);
     let mut list = TinyVec::<[u64; 4]>::new(alloc);
     for line in rt.lines(rt.alloc()) {
-        let count = number_of(line?.as_str());
+        let count = line?.as_str().parse::<usize>().unwrap_or(1);
         let some = &source.as_slice()[..count.min(source.len())];
         println!(rt; "{}", editor(&mut list, some, count as u64))?;
     }
     Ok(())
-}
-
-// The number of a line, or one.
-fn number_of(line: &str) -> usize {
-    match line.parse() {
-        Ok(number) => number,
-        Err(_) => 1,
-    }
 }

@@ -1,7 +1,7 @@
 //! The calls of a text, in its array or on the heap. Those that change it leave it as it was.
 
 use crate::items::look_at;
-use crate::looks::{Looks, of_looks};
+use crate::looks::of_looks;
 use crate::report::{Bench, Report, rows};
 use std::alloc::{AllocError, Global};
 use tinyvec_text::InlineText;
@@ -89,11 +89,7 @@ pub fn of_text<R: Report, const N: usize>(report: &mut R, texts: &mut Texts<'_, 
         "push" TextCall::Push,
         "push_str" TextCall::PushStr,
     );
-    let looks = &mut Looks {
-        list: &texts.text,
-        other: &texts.other,
-    };
-    of_looks(report, n, looks);
+    of_looks(report, n, &texts.text, &texts.other);
 }
 
 /// At least `n` letters, each of a byte.
