@@ -1,11 +1,10 @@
 -- Where a vector is that is read item after item.
-use Rattle.std.proofs.Common.{◌≡◌, ◌∙◌, ◌*◌, max, min, Bool, true, if◌then◌else◌, sym, subst, IsTrue, ◌<◌, ◌≤◌, ◌-◌, ◌++◌, [], drop, length, inl, inr, ℕ, zero, suc, ◌+◌, refl, arith, false, Result, Err, IsOk, is_ok, ap}
-use Rattle.std.proofs.lemmas.List.{nil_from_length, length-drop}
+use Rattle.std.proofs.Common.{◌≡◌, ◌∙◌, ◌*◌, max, min, Bool, true, false, if◌then◌else◌, sym, subst, IsTrue, ◌<◌, ◌≤◌, ◌-◌, ◌++◌, [], take, drop, length, inl, inr, List, ℕ, zero, suc, ◌+◌, refl, arith, Result, Err, IsOk, is_ok, ap}
+use Rattle.std.proofs.lemmas.List.{nil_from_length, length-drop, take-append-drop}
 use Rattle.std.proofs.lemmas.List.Elements.{All-drop}
 use Rattle.tinyvec_slots.specs.Slots.{AreDefaults}
 use Rattle.std.proofs.lemmas.Bool.{both_ways, cases_lt}
-use Rattle.tinyvec.specs.PlaceLaws.{place_grown, place_same}
-use Rattle.tinyvec.specs.Room.{MadeFor}
+use Rattle.tinyvec.specs.PlaceLaws.{place_grown, place_same, pushed_same}
 use Rattle.tinyvec.proofs.PlaceLemmas.{pushed_further, pushed_next, was_inline}
 use Rattle.tinyvec_borsh.specs.Place.{GrowsBy, place_ahead, place_read}
 use Rattle.tinyvec_array.specs.ViewLaws.{rule_at}
@@ -61,22 +60,19 @@ wants-ahead slots n ahead r e is some succeeds = elim (cases_lt slots ahead) [
   | inr fits ↦ absurd (both_ways (is_ok r) (ap is_ok is) (succeeds fits))
 ]
 
-is-false : (b : Bool) → (IsTrue b → ⊥) → b ≡ false
-is-false true denied = absurd (denied refl)
-is-false false denied = refl
+-- all that fit the array are there
+pub read-inline : (slots n : ℕ) → n ≤ slots → place_read slots n ≡ in_array slots
+read-inline slots n fits =
+    ap (λ p. place_for Reserved n (place_pushed (n - 1) p)) (place_same Exact (min n 1024) (in_array slots) (omega (arith, fits)))
+    ∙ ap (place_for Reserved n) (pushed_same (n - 1) (in_array slots) (omega (arith, fits))) ∙ place_same Reserved n (in_array slots) fits
 
--- where a vector is whose room was made ahead
-made-ahead : {T : Type 0} (D : T → Type 0) (slots n used : ℕ) (v : TinyView T) → MadeFor D slots n used v → v.place ≡ place_for Exact n (in_array slots)
-made-ahead D slots n used v made = elim (cases_lt slots n) [
-  | inl more ↦
-      let out : v.place.inline ≡ false = is-false v.place.inline (λ is. omega (arith, more, made.place.0 is)) in
-      let room : v.place.capacity ≡ n = omega (arith, more, made.exact) in
-      (λ t. record { inline = out t; capacity = room t; lender = tt }) ∙ sym (place_grown Exact n (in_array slots) more)
-  | inr fits ↦
-      let in_it : v.place.inline ≡ true = made.place.1 fits in
-      let room : v.place.capacity ≡ slots = omega (arith, fits, made.exact) in
-      (λ t. record { inline = in_it t; capacity = room t; lender = tt }) ∙ sym (place_same Exact n (in_array slots) fits)
-]
+-- The slots of a list that was empty before defaults still hold these after the first n.
+pub defaults-behind : {T : Type 0} (D : T → Type 0) (slots len n : ℕ) (xs : List T) → take len xs ≡ [] → AreDefaults D slots (drop len xs) → AreDefaults D (slots - n) (drop n xs)
+defaults-behind D slots len n xs none were =
+    let all : xs ≡ drop len xs = sym (take-append-drop len xs) ∙ ap (λ ys. ys ++ drop len xs) none in
+    let are = subst (AreDefaults D slots) (sym all) were in
+    let long = length-drop n xs in
+    (omega (arith, long, are.0), All-drop D n xs are.1)
 
 -- Where a list is, of which this many of n items were read.
 pub record IsAt (slots n len : ℕ) (p : Place) : Type 0 where
@@ -88,9 +84,9 @@ none-pushed zero p is = place_same Reserved zero p (omega arith)
 none-pushed (suc n) p is = absurd (omega (arith, is))
 
 -- before the first
-pub at-first : {T : Type 0} (D : T → Type 0) (slots n ahead used len : ℕ) (v : TinyView T) → ahead ≡ min n 1024 → len ≡ 0 → MadeFor D slots ahead used v → IsAt slots n len v.place
-at-first D slots n ahead used len v few none made =
-    let is : v.place ≡ place_ahead slots n = made-ahead D slots ahead used v made ∙ ap (λ k. place_for Exact k (in_array slots)) few in
+pub at-first : (slots n ahead len : ℕ) (p : Place) → ahead ≡ min n 1024 → len ≡ 0 → p ≡ place_for Reserved ahead (in_array slots) → IsAt slots n len p
+at-first slots n ahead len p few none made =
+    let is : p ≡ place_ahead slots n = made ∙ ap (λ k. place_for Exact k (in_array slots)) few in
     record {
       so_far = λ more. is ∙ ap (λ k. place_pushed k (place_ahead slots n)) (sym none);
       all = λ all. is ∙ sym (none-pushed n (place_ahead slots n) (sym none ∙ all));

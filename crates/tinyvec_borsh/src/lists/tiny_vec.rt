@@ -98,8 +98,19 @@ where
         ensures inline_capacity { IfOk result (λ v. IsTrue (view A.Slots v).place.inline → (view A.Slots v).place.capacity ≡ A.CAPACITY) }
     {
         let count = u64::deserialize_reader(alloc, reader)?;
+        let mut v = TinyVec::new(alloc);
+        if count <= A::CAPACITY as u64 {
+            // The slots hold defaults already, so that a list which fits them is read in one block.
+            let len = count as usize;
+            let TinyVec::Inline(list, _) = &mut v else {
+                unreachable!();
+            };
+            read_items(alloc, list.as_mut_slots(), 0, len, reader)?;
+            list.set_len(len);
+            return Ok(v);
+        }
         let ahead = count.min(ITEMS_AHEAD) as usize;
-        let Ok(mut v) = TinyVec::with_capacity(alloc, ahead) else {
+        let Ok(()) = v.reserve(ahead) else {
             return Err(BorshError::Memory);
         };
         while (v.len() as u64) < count {
