@@ -106,7 +106,7 @@ fn is_kept<T: BorshSerialize + BorshDeserialize + PartialEq + Drop>(
 #[test]
 fn written_and_read(rt: HostRuntime) -> Result<(), Fail> {
     let alloc = rt.alloc();
-    let four = ArrayVec::from_array([1, 2, 3, 4]);
+    let four = ArrayVec::from_array([1i32, 2, 3, 4]);
     let mut heap = TinyVec::Inline(four, alloc);
     let _moved = heap.move_to_the_heap().is_ok();
     all_steps(&[
