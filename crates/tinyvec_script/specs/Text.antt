@@ -1,5 +1,5 @@
 -- The text of a list, of an answer and of a vector.
-use Rattle.std.specs.Prelude.{ℕ, List, ◌++◌, ℤ, codes, Bool, true, false}
+use Rattle.std.specs.Prelude.{ℕ, ◌+◌, ◌/◌, ◌%◌, List, [], ◌∷◌, ◌++◌, ℤ, codes, Bool, true, false}
 use Rattle.std.specs.Fmt.{signed_decimal}
 use Rattle.std.specs.List.{join_by}
 use Rattle.tinyvec_slots.specs.Slots.{Slots, items_in, spare_in}
@@ -7,6 +7,10 @@ use Rattle.tinyvec_text.specs.InlineText.{Text}
 use Rattle.tinyvec.specs.View.{TinyView}
 use Rattle.tinyvec_script.specs.declared.call.Answer.{Answer}
 use Rattle.tinyvec_script.specs.declared.call.Answer.TheVariants as answers
+
+-- the two digits of a number below 100
+abbrev pub digit_pair : ℕ → List ℕ
+digit_pair number = (48 + number / 10) ∷ (48 + number % 10) ∷ []
 
 -- a list in brackets
 unfoldable pub list_text : List ℤ → List ℕ

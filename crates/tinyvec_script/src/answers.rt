@@ -1,9 +1,9 @@
 //! The text of answers and of vectors, written in pieces. It allocates nothing.
-ghost use Rattle.std.specs.Prelude.{◌++◌, codes};
+ghost use Rattle.std.specs.Prelude.{◌≡◌, ◌+◌, ◌*◌, ◌<◌, ◌≤◌, ◌/◌, ◌%◌, ◌++◌, codes};
 ghost use Rattle.std.specs.List.{flat_map};
 ghost use Rattle.std.specs.Fmt.{decimal, signed_decimal};
 ghost use Rattle.tinyvec_script.specs.Writes.{Gathers};
-ghost use Rattle.tinyvec_script.specs.Text.{list_text, answer_text, state_text, place_text, place_state_text};
+ghost use Rattle.tinyvec_script.specs.Text.{digit_pair, list_text, answer_text, state_text, place_text, place_state_text};
 ghost use Rattle.tinyvec_script.specs.Text.{text_state_text};
 
 use crate::Answer;
@@ -117,7 +117,7 @@ fn write_more<W: Write>(gathered: &mut Gathered, writer: &mut Counted<W>, number
         (flat_map (λ number. codes ", " ++ signed_decimal number) numbers.now) }
 {
     for number in numbers {
-        gathered.put(writer, b", ");
+        gathered.put_few(writer, &[b',', b' ']);
         write_number(gathered, writer, *number);
     }
 }
@@ -133,14 +133,116 @@ fn write_number<W: Write>(gathered: &mut Gathered, writer: &mut Counted<W>, numb
     write_decimal(gathered, writer, number.unsigned_abs());
 }
 
-// Writes the digits of the number.
+// Writes the digits of the number. Those of one of at most eight are put at once.
 fn write_decimal<W: Write>(gathered: &mut Gathered, writer: &mut Counted<W>, number: u32)
     ensures { Gathers W.contents writer.old gathered.old writer.new gathered.new (decimal number) }
 {
-    if number < 10 {
-        gathered.put(writer, &[b'0' + number as u8]);
+    if number < 10000 {
+        write_up_to_four(gathered, writer, number);
         return;
     }
-    write_decimal(gathered, writer, number / 10);
-    gathered.put(writer, &[b'0' + (number % 10) as u8]);
+    if number < 100000000 {
+        write_up_to_eight(gathered, writer, number / 10000, number % 10000);
+        return;
+    }
+    write_long(gathered, writer, number);
+}
+
+// Writes the digits of a number that has more than eight. A call of its own, since most have fewer.
+#[inline(never)]
+fn write_long<W: Write>(gathered: &mut Gathered, writer: &mut Counted<W>, number: u32)
+    requires { 100000000 ≤ number }
+    ensures { Gathers W.contents writer.old gathered.old writer.new gathered.new (decimal number) }
+{
+    write_up_to_four(gathered, writer, number / 100000000);
+    gathered.put_few(writer, &four(number / 10000 % 10000));
+    gathered.put_few(writer, &four(number % 10000));
+}
+
+// Writes the digits of `front`, and four of `back`.
+#[inline(always)]
+fn write_up_to_eight<W: Write>(
+    gathered: &mut Gathered,
+    writer: &mut Counted<W>,
+    front: u32,
+    back: u32,
+)
+    requires front_fits { front < 10000 }
+    requires back_fits { back < 10000 }
+    ensures { Gathers W.contents writer.old gathered.old writer.new gathered.new
+        (decimal front ++ (digit_pair (back / 100) ++ digit_pair (back % 100))) }
+{
+    let [e, f, g, h] = four(back);
+    if front < 10 {
+        gathered.put_few(writer, &[b'0' + front as u8, e, f, g, h]);
+        return;
+    }
+    if front < 100 {
+        let [c, d] = pair(front);
+        gathered.put_few(writer, &[c, d, e, f, g, h]);
+        return;
+    }
+    if front < 1000 {
+        let [c, d] = pair(front % 100);
+        gathered.put_few(writer, &[b'0' + (front / 100) as u8, c, d, e, f, g, h]);
+        return;
+    }
+    let [a, b, c, d] = four(front);
+    gathered.put_few(writer, &[a, b, c, d, e, f, g, h]);
+}
+
+// Writes the digits of a number that has at most four.
+#[inline(always)]
+fn write_up_to_four<W: Write>(gathered: &mut Gathered, writer: &mut Counted<W>, number: u32)
+    requires { number < 10000 }
+    ensures { Gathers W.contents writer.old gathered.old writer.new gathered.new (decimal number) }
+{
+    if number < 10 {
+        gathered.put_few(writer, &[b'0' + number as u8]);
+        return;
+    }
+    if number < 100 {
+        gathered.put_few(writer, &pair(number));
+        return;
+    }
+    if number < 1000 {
+        let [b, c] = pair(number % 100);
+        gathered.put_few(writer, &[b'0' + (number / 100) as u8, b, c]);
+        return;
+    }
+    gathered.put_few(writer, &four(number));
+}
+
+// Two digits, each in a byte, the first the low one: so LLVM stores them at once.
+#[inline(always)]
+fn pair_word(number: u32) -> u32
+    requires { number < 100 }
+    ensures { result ≡ number / 10 + number % 10 * 256 }
+{
+    number / 10 + number % 10 * 256
+}
+
+// Two digits.
+#[inline(always)]
+fn pair(number: u32) -> [u8; 2]
+    requires { number < 100 }
+    ensures { result ≡ digit_pair number }
+{
+    let word = pair_word(number) + 0x3030;
+    [(word % 256) as u8, (word / 256) as u8]
+}
+
+// Four digits.
+#[inline(always)]
+fn four(number: u32) -> [u8; 4]
+    requires { number < 10000 }
+    ensures { result ≡ digit_pair (number / 100) ++ digit_pair (number % 100) }
+{
+    let word = pair_word(number / 100) + pair_word(number % 100) * 65536 + 0x3030_3030;
+    [
+        (word % 256) as u8,
+        (word / 256 % 256) as u8,
+        (word / 65536 % 256) as u8,
+        (word / 16777216) as u8,
+    ]
 }

@@ -52,6 +52,20 @@ impl Gathered {
         }
     }
 
+    // `put` of a few bytes, whose number the compiler knows: it stores them, where `put` would call `memcpy`.
+    #[inline(always)]
+    pub(crate) fn put_few<W: Write>(&mut self, writer: &mut Counted<W>, text: &[u8])
+        ensures { Gathers W.contents writer.old self.old writer.new self.new text.now }
+    {
+        if text.len() > self.bytes.capacity() - self.bytes.len() {
+            self.put_after_send(writer, text);
+        } else {
+            let Ok(()) = self.bytes.extend_from_slice(text) else {
+                unreachable!();
+            };
+        }
+    }
+
     #[cold]
     #[inline(never)]
     fn put_after_send<W: Write>(&mut self, writer: &mut Counted<W>, text: &[u8])

@@ -14,4 +14,4 @@ loop-number-preserved g c =
     let fits : FitsSigned w32 (get_or numbers i (pos 0)) = search rules in
     subst (Gathers _ _ c.args.gathered.now _ _)
     (append_assoc _ (codes ", ") _ ∙ flat_map-take_more (λ number. codes ", " ++ signed_decimal number) numbers i (pos 0) c.loop-number-test.true)
-    (gathers_then (gathers_then c.loop-number.invariant c.put.ensures) (rw to_z-of_z at c.write_number.ensures))
+    (gathers_then (gathers_then c.loop-number.invariant c.put_few.ensures) (rw to_z-of_z at c.write_number.ensures))
